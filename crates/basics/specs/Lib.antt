@@ -1,0 +1,4 @@
+pub mod Pick
+pub mod Bits
+pub mod Codes
+pub mod Sums

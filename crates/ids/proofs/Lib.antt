@@ -1,0 +1,4 @@
+pub mod Fields
+pub mod Packing
+pub mod Texts
+pub mod Deciding

@@ -1,0 +1,2 @@
+// Document 01's table of worked examples, as one list.
+// No code: see specs/ and proofs/.

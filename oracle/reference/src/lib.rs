@@ -1,0 +1,7 @@
+//! What the programs of this workspace share: document 01 as plain Rust, numbers at random, and the original's answer or panic.
+pub mod document01;
+mod panics;
+mod random;
+
+pub use panics::{answer_or_panic, quiet};
+pub use random::Random;

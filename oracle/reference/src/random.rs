@@ -1,0 +1,23 @@
+/// Numbers at random, the same for the same seed (xorshift64*).
+pub struct Random(u64);
+
+impl Random {
+    /// The seed is not 0.
+    pub fn new(seed: u64) -> Self {
+        assert_ne!(seed, 0);
+        Self(seed)
+    }
+
+    /// Any 64 bits.
+    pub fn bits(&mut self) -> u64 {
+        self.0 ^= self.0 >> 12;
+        self.0 ^= self.0 << 25;
+        self.0 ^= self.0 >> 27;
+        self.0.wrapping_mul(0x2545_F491_4F6C_DD1D)
+    }
+
+    /// A number from `least` to `most`.
+    pub fn between(&mut self, least: i128, most: i128) -> i128 {
+        least + i128::from(self.bits()) % (most - least + 1)
+    }
+}

@@ -1,0 +1,2 @@
+//! Stand-in: declares the original's file.
+pub mod common;
