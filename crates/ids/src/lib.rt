@@ -8,6 +8,7 @@ ghost use Rattle.basics.specs.Codes.{codes};
 ghost use Rattle.ids.specs.Text.{digit as digitOf, hex, leafText, branchText, overwritten, padded, idTextOf};
 
 // An id. Its 64 bits, from the highest: leaf (1), types (8), mask (8), generation (15), index (32).
+#[repr(C)]
 pub struct BlockId(pub u64);
 
 // A text of at most 41 bytes; those from `len` on are 0.

@@ -1,7 +1,7 @@
 //! The functions of the port, each with its arguments and the comparison of one input.
 use crate::judge::{Listed, Original, Outcome, judge};
-use crate::port::*;
 use glam::IVec3;
+use port::*;
 use reference::{answer_or_panic, document01};
 use voxelis::BlockId;
 use voxelis::utils::common::{child_index2, encode_child_index_path};

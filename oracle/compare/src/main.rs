@@ -4,7 +4,6 @@
 mod functions;
 mod inputs;
 mod judge;
-mod port;
 mod run;
 
 use functions::*;

@@ -1,5 +1,7 @@
-//! Shows on the original what docs/DIFFERENCES.md says of ids and paths: each departure at its smallest input. The original's own checks are on
+//! Shows on the original what docs/DIFFERENCES.md says of ids, paths and the arena: each departure at its smallest input. The original's own checks are on
 //! under --release and off under --profile unchecked.
+mod arena;
+
 use glam::IVec3;
 use reference::{answer_or_panic, document01};
 use std::fmt::Debug;
@@ -11,9 +13,9 @@ use voxelis::{BlockId, TraversalDepth, child_index_macro, child_index_macro_2};
 fn show<T: Debug>(departure: &str, call: &str, original: impl FnOnce() -> T, port: &str) {
     let original = match answer_or_panic(original) {
         Ok(answer) => format!("answers {answer:?}"),
-        Err(words) => format!("panics: {words}"),
+        Err(words) => format!("panics: {}", words.replace('\n', " ")),
     };
-    println!("{departure:4} {call:46} the Rust {original}; the port {port}");
+    println!("{departure:4} {call:50} the Rust {original}; the port {port}");
 }
 
 /// The port's answer, or the number of its refusal.
@@ -177,4 +179,5 @@ fn main() {
     child_numbers();
     inverse();
     forms();
+    arena::all();
 }

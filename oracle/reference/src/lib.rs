@@ -1,7 +1,9 @@
 //! What the programs of this workspace share: document 01 as plain Rust, numbers at random, and the original's answer or panic.
+pub mod arena;
 pub mod document01;
 mod panics;
 mod random;
+pub mod tables;
 
 pub use panics::{answer_or_panic, quiet};
 pub use random::Random;

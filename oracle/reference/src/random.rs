@@ -20,4 +20,19 @@ impl Random {
     pub fn between(&mut self, least: i128, most: i128) -> i128 {
         least + i128::from(self.bits()) % (most - least + 1)
     }
+
+    /// A number below `limit`, which is not 0.
+    pub fn below(&mut self, limit: usize) -> usize {
+        ((self.bits() >> 11) % limit as u64) as usize
+    }
+
+    /// True once in so many times.
+    pub fn once_in(&mut self, times: usize) -> bool {
+        self.below(times) == 0
+    }
+
+    /// One of the list.
+    pub fn one_of<T: Copy>(&mut self, list: &[T]) -> T {
+        list[self.below(list.len())]
+    }
 }

@@ -14,4 +14,4 @@ pub const MAX_ALLOWED_DEPTH: usize = 7;
 
 // The oracle's own names, reachable through the original's `pub use consts::*`.
 pub use super::hash::HASH_MASK;
-pub use super::macros::Snapshot;
+pub use super::macros::SlotView;

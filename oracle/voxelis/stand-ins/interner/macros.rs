@@ -1,6 +1,6 @@
 //! Stand-in for the original's macro, and a look at the arena's private fields, which a child module may read.
-use super::VoxInterner;
-use crate::{BlockId, VoxelTrait};
+use super::{Children, VoxInterner};
+use crate::VoxelTrait;
 
 /// Document 01: "Fresh slot: the last one freed, else the lowest never used."
 #[macro_export]
@@ -17,34 +17,32 @@ macro_rules! get_next_index_macro {
     }};
 }
 
-/// A copy of everything in the arena that document 01 speaks of, for comparing.
-#[derive(Clone, Debug, PartialEq, Eq)]
-pub struct Snapshot {
-    pub next_index: u32,
-    pub free: Vec<u32>,
-    pub ref_counts: Vec<u32>,
-    pub generations: Vec<u16>,
-    pub children: Vec<[BlockId; 8]>,
-    pub values: Vec<u16>,
-}
-
-impl VoxInterner<u16> {
-    pub fn snapshot(&self) -> Snapshot {
-        let slots = 0..self.next_index;
-        Snapshot {
-            next_index: self.next_index,
-            free: self.free_indices.clone(),
-            ref_counts: slots.clone().map(|i| *self.ref_counts.get(i)).collect(),
-            generations: slots.clone().map(|i| *self.generations.get(i)).collect(),
-            children: slots.clone().map(|i| *self.children.get(i)).collect(),
-            values: slots.map(|i| *self.values.get(i)).collect(),
-        }
-    }
+/// What the original keeps of one slot, as far as document 01 speaks of it.
+#[derive(Clone, Copy, Debug, PartialEq, Eq)]
+pub struct SlotView<T> {
+    pub ref_count: u32,
+    pub generation: u16,
+    pub children: Children,
+    pub value: T,
 }
 
 impl<T: VoxelTrait> VoxInterner<T> {
-    /// How many nodes are in the arena.
-    pub fn live_count(&self) -> usize {
-        self.next_index as usize - 1 - self.free_indices.len()
+    pub fn slot_view(&self, slot: u32) -> SlotView<T> {
+        SlotView {
+            ref_count: *self.ref_counts.get(slot),
+            generation: *self.generations.get(slot),
+            children: *self.children.get(slot),
+            value: *self.values.get(slot),
+        }
+    }
+
+    /// The freed slots, the last one freed at the end.
+    pub fn freed(&self) -> &[u32] {
+        &self.free_indices
+    }
+
+    /// The lowest slot never given out.
+    pub fn next_slot(&self) -> u32 {
+        self.next_index
     }
 }

@@ -1,0 +1,317 @@
+-- Recycling, and the recursive release over places that are owed: the invariant goes through, with a frame.
+use mathlib.Core.Path.{_≡_, refl, sym, ap, _∙_, subst}
+use mathlib.Core.Logic.{_≢_, _⊎_, inr, ⊎-elim}
+use mathlib.Core.List.{List, [], _∷_, _++_}
+use Prim.Native.Nat.{ℕ, zero, suc, _+_, _-_, _*_, _%_, _^_, _≤_, _<_}
+use native.Mathlib.Decide.{ℕ-discrete, decLt}
+use native.Mathlib.Omega.{arith}
+use lib.ListN.{length, getD}
+use borrow.Author.Tests.{eq-eqb, ne-eqb, le-leb, lt-leb}
+use Rattle.ids.specs.Ids.{generationOf}
+use Rattle.nodes.specs.Tally.{kidsOf, Live, Freed, occ, same}
+use Rattle.nodes.specs.Words.{own, height, holds, places, link, spare, Nodes, nodes, slot, floor, wordOf, putOf}
+use Rattle.nodes.proofs.Access.{Within, put-size, written-size, written-others, written-kid, written-fact, put-same, put-slot, put-field}
+use Rattle.nodes.proofs.Counts.{floor-pos, Others, recycle-counts, total-append, total-cons}
+use Rattle.nodes.proofs.Frame.{Frame, frame-refl, frame-trans}
+use Rattle.nodes.proofs.Freeing.{push, live-upd, live-one, live-zero}
+use Rattle.nodes.proofs.Sums.{cases, same-refl, occ-cons, occ-here, occ-there}
+use Rattle.finding.specs.Cells.{remove, Finds}
+use Rattle.finding.specs.Content.{homeAt}
+use Rattle.finding.proofs.Contents.{home-same}
+use Rattle.finding.proofs.Finding.{finds-as, finds-remove}
+use Rattle.finding.proofs.Steps.{remove-length}
+use Rattle.arena.specs.Calls.{deadFacts, empties, recycled, each}
+use Rattle.arena.specs.Models.{unplaced, Step, stepOf, step, dropOne, dropPlace}
+use Rattle.arena.specs.Node.{nextGeneration}
+use Rattle.arena.specs.Tables.{Tables, cap, W, LiveSlot, Cleared}
+use Rattle.arena.proofs.Ids.{nextGen-le, dead-low, dead-seal, dead-gen}
+use Rattle.arena.proofs.Inv.{sized-within, Clean, Inv, Recounted, move-inv, inv-empty}
+use Rattle.arena.proofs.Rows.{dead-length, dead-own, dead-link, dead-zero, empties-length, empties-at}
+
+-- ---- the cases of a step
+
+module _ (t : Tables) (x : ℕ) where
+  pub step-empty : x ≡ 0 → step t x ≡ stepOf t []
+  unfolding step
+  step-empty e = rw (eq-eqb x 0 e)
+
+  pub step-held : x ≢ 0 → W t (slot x) holds ≢ 0 → step t x ≡ stepOf (unplaced t (slot x)) []
+  unfolding step
+  step-held d h = rw (ne-eqb x 0 d, ne-eqb (W t (slot x) holds) 0 h)
+
+  pub step-more : x ≢ 0 → W t (slot x) holds ≡ 0 → 1 < W t (slot x) places → step t x ≡ stepOf (unplaced t (slot x)) []
+  unfolding step
+  step-more d h m = rw (ne-eqb x 0 d, eq-eqb (W t (slot x) holds) 0 h, lt-leb (W t (slot x) places) 1 m)
+
+  pub step-last : x ≢ 0 → W t (slot x) holds ≡ 0 → W t (slot x) places ≤ 1 → step t x ≡ stepOf (recycled t (slot x)) (kidsOf 8 (W t) (slot x))
+  unfolding step
+  step-last d h m = rw (ne-eqb x 0 d, eq-eqb (W t (slot x) holds) 0 h, le-leb (W t (slot x) places) 1 m)
+
+  pub one-step : (rec : Tables → ℕ → Tables) (r : Step) → step t x ≡ r → dropOne rec t x ≡ each rec (r .after) (r .owed)
+  unfolding dropOne
+  one-step rec r e = ap (λ (q : Step). each rec (q .after) (q .owed)) e
+
+-- ---- one count word is written
+
+pub put-recounted : (l : Nodes) (s f v : ℕ) → (f ≡ holds) ⊎ (f ≡ places) → Recounted s l (putOf l s f v)
+put-recounted l s f v k = record {
+  size = put-size l s f v;
+  others = λ b g d j. put-slot l s f v b g d;
+  same = λ g j a b. put-field l s f v g (⊎-elim (λ e. omega arith) (λ e. omega arith) k);
+}
+
+pub recycled-cap : (t : Tables) (s : ℕ) → cap (recycled t s) ≡ cap t
+unfolding recycled
+recycled-cap t s = refl
+
+pub recycled-next : (t : Tables) (s : ℕ) → recycled t s .arena .next ≡ t .arena .next
+unfolding recycled
+recycled-next t s = refl
+
+-- ---- the steps
+
+module _ (t : Tables) (x : ℕ) (debt : List ℕ) (v : Inv t (x ∷ debt)) (d : x ≢ 0) where
+  pub debtor : Live (cap t) (W t) x
+  debtor = v .counts .named x d (omega (arith, total-cons 8 (cap t) (W t) x x debt, same-refl x))
+
+  within : Within (t .nodes) (slot x)
+  within = sized-within t (slot x) (v .sized) (debtor .low)
+
+  was : floor ≤ W t (slot x) own
+  was = let p = debtor .is in let q = debtor .high in omega arith
+
+  pub unplaced-inv : 2 ≤ W t (slot x) holds + W t (slot x) places → Inv (unplaced t (slot x)) debt
+  unfolding unplaced
+  unplaced-inv two =
+      let p = v .counts .placed x debtor in
+      let one : 1 ≤ W t (slot x) places = omega (arith, total-cons 8 (cap t) (W t) x x debt, same-refl x) in
+      let now : wordOf (putOf (t .nodes) (slot x) places (W t (slot x) places - 1)) (slot x) places ≡ W t (slot x) places - 1 = put-same (t .nodes) (slot x) places (W t (slot x) places - 1) within (omega arith) (omega arith) in
+      let old : wordOf (putOf (t .nodes) (slot x) places (W t (slot x) places - 1)) (slot x) holds ≡ W t (slot x) holds = put-field (t .nodes) (slot x) places (W t (slot x) places - 1) holds (omega arith) in
+      move-inv (t .arena) (t .nodes) (putOf (t .nodes) (slot x) places (W t (slot x) places - 1)) (t .find) (x ∷ debt) debt x v debtor
+      (put-recounted (t .nodes) (slot x) places (W t (slot x) places - 1) (inr refl))
+      (λ y z q. sym (occ-there y x debt q)) (omega (arith, occ-here x debt)) (omega arith)
+
+  pub unplaced-frame : Frame (cap t) (W t) (W (unplaced t (slot x)))
+  unfolding unplaced
+  unplaced-frame = record {
+    kept = λ b l h f m q. same-word b f q m;
+    held = λ b l h k. let e = same-word b own (omega arith) (omega arith) in omega arith;
+  }
+    where
+      same-word : (b f : ℕ) → f ≢ places → f ≤ spare → wordOf (putOf (t .nodes) (slot x) places (W t (slot x) places - 1)) b f ≡ W t b f
+      same-word b f q m = cases (ℕ-discrete b (slot x))
+          (λ (e : b ≡ slot x). rw e (put-field (t .nodes) (slot x) places (W t (slot x) places - 1) f q))
+          (λ e. put-slot (t .nodes) (slot x) places (W t (slot x) places - 1) b f e)
+
+  abbrev row : List ℕ
+  row = deadFacts (W t (slot x) own) (t .arena .top)
+
+  seven : length row ≡ 7
+  seven = dead-length (W t (slot x) own) (t .arena .top)
+
+  recycle-others : Others (slot x) (W t) (W (recycled t (slot x)))
+  unfolding recycled
+  recycle-others = written-others (t .nodes) (slot x) empties row empties-length seven
+
+  recycle-kid : (i : ℕ) → i < 8 → W (recycled t (slot x)) (slot x) i ≡ 0
+  unfolding recycled
+  recycle-kid i m = written-kid (t .nodes) (slot x) empties row empties-length seven within i m ∙ empties-at i m
+
+  recycle-fact : (i : ℕ) → i < 7 → W (recycled t (slot x)) (slot x) (own + i) ≡ getD row i 0
+  unfolding recycled
+  recycle-fact = written-fact (t .nodes) (slot x) empties row empties-length seven within
+
+  recycle-own : W (recycled t (slot x)) (slot x) own ≡ nextGeneration (generationOf (W t (slot x) own)) * 2 ^ 32
+  recycle-own = recycle-fact 0 (omega arith) ∙ dead-own (W t (slot x) own) (t .arena .top)
+
+  recycle-dead : W (recycled t (slot x)) (slot x) own < floor
+  recycle-dead = let e = recycle-own in let p = dead-low (nextGeneration (generationOf (W t (slot x) own))) (nextGen-le (generationOf (W t (slot x) own))) in omega arith
+
+  recycle-zero : (f : ℕ) → f ≤ spare → f ≢ own → f ≢ link → W (recycled t (slot x)) (slot x) f ≡ 0
+  recycle-zero f m a b = cases (decLt f 8) (λ k. recycle-kid f k)
+      (λ k.
+      let e : f ≡ own + (f - own) = omega arith in
+      ap (W (recycled t (slot x)) (slot x)) e ∙ recycle-fact (f - own) (omega arith)
+      ∙ dead-zero (W t (slot x) own) (t .arena .top) (f - own) (omega arith) (omega arith) (omega arith))
+
+  pos : 0 < slot x
+  pos = cases (ℕ-discrete (slot x) 0)
+      (λ (e : slot x ≡ 0). absurd (let p : W t (slot x) own ≡ 0 = rw e (v .freed .ground) in let q = was in let r = floor-pos in omega arith))
+      (λ e. omega arith)
+
+  recycle-freed : Freed (cap t) (W (recycled t (slot x))) (slot x) (t .arena .next) (slot x ∷ v .fs)
+  recycle-freed =
+      push (W (recycled t (slot x))) (slot x) (v .freed) recycle-others (debtor .low) was recycle-dead
+      (recycle-fact 5 (omega arith) ∙ dead-link (W t (slot x) own) (t .arena .top))
+
+  recycle-clean : Clean (cap t) (t .arena .next) (W (recycled t (slot x)))
+  recycle-clean = record {
+    cleared = λ s l h. cases (ℕ-discrete s (slot x))
+        (λ (q : s ≡ slot x). subst (λ (k : ℕ). Cleared (W (recycled t (slot x))) k) (sym q)
+        (record { words = recycle-zero; seal = ap (λ (k : ℕ). k % 2 ^ 32) recycle-own ∙ dead-seal (nextGeneration (generationOf (W t (slot x) own))) }))
+        (λ q.
+        let e = recycle-others s own q (omega arith) in
+        let r = v .clean .cleared s l (omega arith) in
+        record { words = λ f m a b. recycle-others s f q m ∙ r .words f m a b; seal = ap (λ (k : ℕ). k % 2 ^ 32) e ∙ r .seal });
+    linked = λ s l h. cases (ℕ-discrete s (slot x))
+        (λ (q : s ≡ slot x). recycle-freed .only s (subst (λ (k : ℕ). 1 ≤ occ k (slot x ∷ v .fs)) (sym q) (omega (arith, occ-here (slot x) (v .fs)))))
+        (λ q.
+        let e = recycle-others s own q (omega arith) in
+        let e13 = recycle-others s link q (omega arith) in
+        let r = v .clean .linked s l (omega arith) in
+        record { given = r .given; below = r .below; dead = (let z = r .dead in omega arith) });
+    spared = λ s l. cases (ℕ-discrete s (slot x))
+        (λ (q : s ≡ slot x). subst (λ (k : ℕ). W (recycled t (slot x)) k spare ≡ 0) (sym q) (recycle-zero spare (omega arith) (omega arith) (omega arith)))
+        (λ q. recycle-others s spare q (omega arith) ∙ v .clean .spared s l);
+    gens = λ s l. cases (ℕ-discrete s (slot x))
+        (λ (q : s ≡ slot x). subst (λ (k : ℕ). generationOf (W (recycled t (slot x)) k own) ≤ 0x7FFD) (sym q)
+        (let p = nextGen-le (generationOf (W t (slot x) own)) in let e = ap generationOf recycle-own ∙ dead-gen (nextGeneration (generationOf (W t (slot x) own))) p in omega arith))
+        (λ q. let e = ap generationOf (recycle-others s own q (omega arith)) in let r = v .clean .gens s l in omega arith);
+  }
+
+  recycle-finds : Finds (homeAt (cap t) (W (recycled t (slot x)))) (LiveSlot (recycled t (slot x))) (remove (homeAt (cap t) (W t)) (t .find) (slot x))
+  recycle-finds =
+      finds-as (homeAt (cap t) (W t)) (homeAt (cap t) (W (recycled t (slot x)))) (λ s. LiveSlot t s × (s ≡ slot x → ⊥)) (LiveSlot (recycled t (slot x)))
+      (remove (homeAt (cap t) (W t)) (t .find) (slot x))
+      (finds-remove (homeAt (cap t) (W t)) (LiveSlot t) (t .find) (v .finds) (slot x) pos (debtor .low, was))
+      (λ s p. (forth s, back s))
+      (λ s p z. sym (home-same (cap t) (W t) (W (recycled t (slot x))) s (λ f m k. recycle-others s f (z .1) (omega arith))))
+    where
+      caps : cap (recycled t (slot x)) ≡ cap t
+      caps = recycled-cap t (slot x)
+
+      forth : (s : ℕ) → LiveSlot t s × (s ≡ slot x → ⊥) → LiveSlot (recycled t (slot x)) s
+      forth s z = let e = recycle-others s own (z .1) (omega arith) in let l = z .0 .0 in let h = z .0 .1 in (omega (arith, caps), omega arith)
+
+      back : (s : ℕ) → LiveSlot (recycled t (slot x)) s → LiveSlot t s × (s ≡ slot x → ⊥)
+      back s z =
+          let n : s ≢ slot x = (λ (q : s ≡ slot x). let y : W (recycled t (slot x)) s own < floor = rw q recycle-dead in let h = z .1 in omega arith) in
+          let e = recycle-others s own n (omega arith) in
+          let l = z .0 in
+          let h = z .1 in
+          ((omega (arith, caps), omega arith), n)
+
+  pub recycled-inv : W t (slot x) places ≤ 1 → Inv (recycled t (slot x)) (kidsOf 8 (W t) (slot x) ++ debt)
+  unfolding recycled
+  recycled-inv one = record {
+    sized = record {
+      least = v .sized .least;
+      most = v .sized .most;
+      kids = written-size (t .nodes) (slot x) empties row empties-length seven .kids ∙ v .sized .kids;
+      facts = written-size (t .nodes) (slot x) empties row empties-length seven .facts ∙ v .sized .facts;
+      cells = remove-length (homeAt (cap t) (W t)) (t .find) (slot x) ∙ v .sized .cells;
+    };
+    counts = recycle-counts 8 (cap t) (W t) (W (recycled t (slot x))) x debt (v .counts) debtor one recycle-others recycle-dead
+        (λ i m. recycle-zero i (omega arith) (omega arith) (omega arith));
+    fs = slot x ∷ v .fs;
+    freed = recycle-freed;
+    lives = (let e = v .lives in
+        omega (
+          arith,
+          live-upd (cap t) (W t) (W (recycled t (slot x))) (slot x) (debtor .low) recycle-others,
+          live-one (W t (slot x) own) was,
+          live-zero (W (recycled t (slot x)) (slot x) own) recycle-dead,
+        ));
+    clean = recycle-clean;
+    finds = recycle-finds;
+  }
+
+  pub recycled-frame : W t (slot x) holds ≡ 0 → Frame (cap t) (W t) (W (recycled t (slot x)))
+  recycled-frame unheld = record {
+    kept = λ b l h f m q. recycle-others b f (λ (e : b ≡ slot x). absurd (let z : W (recycled t (slot x)) b own < floor = rw e recycle-dead in omega arith)) m;
+    held = λ b l h k.
+        let n : b ≢ slot x = (λ (e : b ≡ slot x). absurd (let z : W t b holds ≡ 0 = rw e unheld in omega arith)) in
+        let e = recycle-others b own n (omega arith) in
+        omega arith;
+  }
+
+-- ---- the recursion
+
+-- what `rec` has to do for one entry of the debt. The capacity stays
+pub record Dropped (t t′ : Tables) (debt : List ℕ) : Type 0 where
+  pub inv : Inv t′ debt
+  pub frame : Frame (cap t) (W t) (W t′)
+  pub size : cap t′ ≡ cap t
+  pub next : t′ .arena .next ≡ t .arena .next
+
+dropped-trans : {t t′ t″ : Tables} {d d′ : List ℕ} → Dropped t t′ d → Dropped t′ t″ d′ → Dropped t t″ d′
+dropped-trans {t} {t′} {t″} p q = record {
+  inv = q .inv;
+  frame = frame-trans (p .frame) (subst (λ (c : ℕ). Frame c (W t′) (W t″)) (p .size) (q .frame));
+  size = q .size ∙ p .size;
+  next = q .next ∙ p .next;
+}
+
+dropped-refl : (t : Tables) (d : List ℕ) → Inv t d → Dropped t t d
+dropped-refl t d v = record { inv = v; frame = frame-refl (cap t) (W t); size = refl; next = refl }
+
+abbrev Good : (Tables → ℕ → Tables) → ℕ → Type 0
+Good rec k = (t : Tables) (x : ℕ) (debt : List ℕ) → Inv t (x ∷ debt) → (x ≢ 0 → W t (slot x) height < k) → Dropped t (rec t x) debt
+
+-- a height goes through
+low-after : (t t′ : Tables) (debt : List ℕ) (k z : ℕ) → Dropped t t′ debt → Live (cap t) (W t′) z → W t (slot z) height < k → W t′ (slot z) height < k
+low-after t t′ debt k z p w h =
+    let wi = w .is in
+    let wh = w .high in
+    let e = p .frame .kept (slot z) (w .low) (omega arith) height (omega arith) (omega arith) in
+    omega arith
+
+each-good : (rec : Tables → ℕ → Tables) (k : ℕ) → Good rec k → (ys : List ℕ) (t : Tables) (debt : List ℕ) → Inv t (ys ++ debt)
+    → ((y : ℕ) → y ≢ 0 → 1 ≤ occ y ys → W t (slot y) height < k)
+    → Dropped t (each rec t ys) debt
+unfolding each
+each-good rec k g [] t debt v h = dropped-refl t debt v
+each-good rec k g (y ∷ ys) t debt v h =
+    let r : Dropped t (rec t y) (ys ++ debt) = g t y (ys ++ debt) v (λ z. h y z (omega (arith, occ-here y ys))) in
+    dropped-trans r (each-good rec k g ys (rec t y) debt (r .inv)
+    (λ z d m.
+    let w : Live (cap (rec t y)) (W (rec t y)) z = r .inv .counts .named z d (omega (arith, total-append 8 (cap (rec t y)) (W (rec t y)) z ys debt)) in
+    low-after t (rec t y) (ys ++ debt) k z r (subst (λ (c : ℕ). Live c (W (rec t y)) z) (r .size) w) (h z d (omega (arith, occ-cons z y ys)))))
+
+recycled-dropped : (t : Tables) (x : ℕ) (debt : List ℕ) (v : Inv t (x ∷ debt)) (d : x ≢ 0) → W t (slot x) holds ≡ 0 → W t (slot x) places ≤ 1
+    → Dropped t (recycled t (slot x)) (kidsOf 8 (W t) (slot x) ++ debt)
+recycled-dropped t x debt v d u one = record {
+  inv = recycled-inv t x debt v d one;
+  frame = recycled-frame t x debt v d u;
+  size = recycled-cap t (slot x);
+  next = recycled-next t (slot x);
+}
+
+unplaced-dropped : (t : Tables) (x : ℕ) (debt : List ℕ) (v : Inv t (x ∷ debt)) (d : x ≢ 0) → 2 ≤ W t (slot x) holds + W t (slot x) places
+    → Dropped t (unplaced t (slot x)) debt
+unfolding unplaced
+unplaced-dropped t x debt v d two = record { inv = unplaced-inv t x debt v d two; frame = unplaced-frame t x debt v d; size = refl; next = refl }
+
+one-good : (rec : Tables → ℕ → Tables) (k : ℕ) → Good rec k → Good (dropOne rec) (suc k)
+unfolding each
+one-good rec k g t x debt v h = cases (ℕ-discrete x 0)
+    (λ (e : x ≡ 0).
+    rw (one-step t x rec _ (step-empty t x e)) (dropped-refl t debt (inv-empty t debt (subst (λ (z : ℕ). Inv t (z ∷ debt)) e v))))
+    (λ d.
+    let live = debtor t x debt v d in
+    let alive = v .counts .alive x live in
+    cases (ℕ-discrete (W t (slot x) holds) 0)
+    (λ u. cases (decLt 1 (W t (slot x) places))
+    (λ m. rw (one-step t x rec _ (step-more t x d u m)) (unplaced-dropped t x debt v d (omega arith)))
+    (λ m.
+    let one : W t (slot x) places ≤ 1 = omega arith in
+    let i = recycled-dropped t x debt v d u one in
+    let r = each-good rec k g (kidsOf 8 (W t) (slot x)) (recycled t (slot x)) debt (i .inv)
+    (λ y z m.
+    let w : Live (cap (recycled t (slot x))) (W (recycled t (slot x))) y =
+    i .inv .counts .named y z (omega (arith, total-append 8 (cap (recycled t (slot x))) (W (recycled t (slot x))) y (kidsOf 8 (W t) (slot x)) debt)) in
+    let p = v .counts .tall (slot x) y (live .low) z m in
+    let q = h d in
+    low-after t (recycled t (slot x)) (kidsOf 8 (W t) (slot x) ++ debt) k y i (subst (λ (c : ℕ). Live c (W (recycled t (slot x))) y) (i .size) w) (omega arith)) in
+    rw (one-step t x rec _ (step-last t x d u one)) (dropped-trans i r)))
+    (λ u.
+    let p = v .counts .placed x live in
+    let two : 2 ≤ W t (slot x) holds + W t (slot x) places = omega (arith, total-cons 8 (cap t) (W t) x x debt, same-refl x) in
+    rw (one-step t x rec _ (step-held t x d u)) (unplaced-dropped t x debt v d two)))
+
+pub drop-good : (k : ℕ) → Good (dropPlace k) k
+unfolding dropPlace
+drop-good zero t x debt v h = cases (ℕ-discrete x 0)
+    (λ (e : x ≡ 0). dropped-refl t debt (inv-empty t debt (subst (λ (z : ℕ). Inv t (z ∷ debt)) e v)))
+    (λ d. absurd (let p = h d in omega arith))
+drop-good (suc k) t x debt v h = one-good (dropPlace k) k (drop-good k) t x debt v h

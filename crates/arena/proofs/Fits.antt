@@ -1,0 +1,108 @@
+-- What the tests of the refusals say.
+use Prim.Native.Nat.{ℕ, _+_, _-_, _*_, _≤_, _<_}
+use native.Mathlib.Omega.{arith}
+use mathlib.Core.Path.{_≡_, refl, sym}
+use mathlib.Core.Bool.{Bool, true, false, true≢false}
+use lib.Dec.{eqb, leb, ltb}
+use lib.ListN.{length}
+use borrow.Author.Tests.{leb-true, eqb-true, le-leb, eq-eqb, ltb-true, leb-false, ne-eqb, eqb-false}
+use mathlib.Core.List.{List}
+use Rattle.basics.specs.Pick.{pick}
+use Rattle.nodes.specs.Tally.{Live}
+use Rattle.nodes.specs.Words.{own, holds, nodes, slot, floor}
+use Rattle.nodes.proofs.Sums.{split}
+use Rattle.arena.specs.Calls.{fitOf, fits, roomOf, liveOf, fullOf, holdNo, releaseNo, allLive, enough, noneOf}
+use Rattle.arena.specs.Models.{kidsNo}
+use Rattle.arena.specs.Tables.{Tables, cap, Sized, W}
+use Rattle.arena.specs.declared.Arena.{Arena}
+
+pub unlike : false ≡ true → ⊥
+unlike e = true≢false (sym e)
+
+pub both : (b x : Bool) → pick b x false ≡ true → (b ≡ true) × (x ≡ true)
+both true x e = (refl, e)
+both false x e = absurd (unlike e)
+
+fit-all : (c k f e : ℕ) → fitOf c k f e ≡ true → (2 ≤ c) × (c ≤ 65536) × (k ≡ 8 * c) × (f ≡ 7 * c) × (e ≡ 3 * c)
+unfolding fitOf
+fit-all c k f e h =
+    let o = both (leb 2 c) (pick (leb c 65536) (pick (eqb k (8 * c)) (pick (eqb f (7 * c)) (eqb e (3 * c)) false) false) false) h in
+    let p = both (leb c 65536) (pick (eqb k (8 * c)) (pick (eqb f (7 * c)) (eqb e (3 * c)) false) false) (o .1) in
+    let q = both (eqb k (8 * c)) (pick (eqb f (7 * c)) (eqb e (3 * c)) false) (p .1) in
+    let r = both (eqb f (7 * c)) (eqb e (3 * c)) (q .1) in
+    (leb-true 2 c (o .0), leb-true c 65536 (p .0), eqb-true k (8 * c) (q .0), eqb-true f (7 * c) (r .0), eqb-true e (3 * c) (r .1))
+
+pub fits-sized : (t : Tables) → fits t ≡ true → Sized t
+fits-sized t e =
+    let p = fit-all (cap t) (length (t .nodes .kids)) (length (t .nodes .facts)) (length (t .find)) e in
+    record { least = p .0; most = p .1; kids = p .2; facts = p .3; cells = p .4 }
+
+pub sized-fits : (t : Tables) → Sized t → fits t ≡ true
+unfolding fitOf
+sized-fits t s =
+    rw (
+      le-leb 2 (cap t) (s .least),
+      le-leb (cap t) 65536 (s .most),
+      eq-eqb (length (t .nodes .kids)) (8 * cap t) (s .kids),
+      eq-eqb (length (t .nodes .facts)) (7 * cap t) (s .facts),
+    )
+    (eq-eqb (length (t .find)) (3 * cap t) (s .cells))
+
+pub room-yes : (a : Arena) → roomOf a ≡ true → a .live + 1 < a .capacity
+unfolding roomOf
+room-yes a e = let p = ltb-true (a .live) (a .capacity - 1) e in omega arith
+
+pub live-is : (t : Tables) (id : ℕ) → liveOf (cap t) (W t) id ≡ true → Live (cap t) (W t) id
+unfolding liveOf
+live-is t id e =
+    let p = both (ltb (slot id) (cap t)) (pick (leb floor id) (eqb (W t (slot id) own) id) false) e in
+    let q = both (leb floor id) (eqb (W t (slot id) own) id) (p .1) in
+    record { low = ltb-true (slot id) (cap t) (p .0); is = eqb-true (W t (slot id) own) id (q .1); high = leb-true floor id (q .0) }
+
+-- the number 0
+module _ (t : Tables) (id : ℕ) where
+  hold-fits : holdNo t id ≡ 0 → fits t ≡ true
+  unfolding holdNo
+  hold-fits e = split (fits t) (λ f. f) (λ f. absurd (let z : _≡_ {A = ℕ} 1 0 = (rw f at e) in omega arith))
+
+  pub hold-live : holdNo t id ≡ 0 → (id ≡ 0 → ⊥) → (liveOf (cap t) (W t) id ≡ true) × (fullOf (W t) (slot id) ≡ false)
+  unfolding holdNo
+  hold-live e d =
+      split (liveOf (cap t) (W t) id)
+      (λ l. split (fullOf (W t) (slot id))
+      (λ u. absurd (let z : _≡_ {A = ℕ} 10 0 = (rw (hold-fits e, ne-eqb id 0 d, l, u) at e) in omega arith))
+      (λ u. (l, u)))
+      (λ l. absurd (let z : _≡_ {A = ℕ} 4 0 = (rw (hold-fits e, ne-eqb id 0 d, l) at e) in omega arith))
+
+  pub hold-few : holdNo t id ≡ 0 → (id ≡ 0 → ⊥) → W t (slot id) holds < 1000000
+  unfolding fullOf
+  hold-few e d = leb-false 1000000 (W t (slot id) holds) (hold-live e d .1)
+
+  release-fits : releaseNo t id ≡ 0 → fits t ≡ true
+  unfolding releaseNo
+  release-fits e = split (fits t) (λ f. f) (λ f. absurd (let z : _≡_ {A = ℕ} 1 0 = (rw f at e) in omega arith))
+
+  pub release-live : releaseNo t id ≡ 0 → (id ≡ 0 → ⊥) → (liveOf (cap t) (W t) id ≡ true) × (1 ≤ W t (slot id) holds)
+  unfolding releaseNo
+  release-live e d =
+      split (liveOf (cap t) (W t) id)
+      (λ l. split (eqb (W t (slot id) holds) 0)
+      (λ u. absurd (let z : _≡_ {A = ℕ} 5 0 = (rw (release-fits e, ne-eqb id 0 d, l, u) at e) in omega arith))
+      (λ u. (l, (let z = eqb-false (W t (slot id) holds) 0 u in omega arith))))
+      (λ l. absurd (let z : _≡_ {A = ℕ} 4 0 = (rw (release-fits e, ne-eqb id 0 d, l) at e) in omega arith))
+
+pub kids-fits : (t : Tables) (ks : List ℕ) → kidsNo t ks ≡ 0 → fits t ≡ true
+unfolding kidsNo
+kids-fits t ks e = split (fits t) (λ f. f) (λ f. absurd (let z : _≡_ {A = ℕ} 1 0 = (rw f at e) in omega arith))
+
+pub kids-fine : (t : Tables) (ks : List ℕ) → kidsNo t ks ≡ 0 → (allLive (cap t) (W t) ks ≡ true) × (enough (W t) ks ≡ true) × (noneOf ks ≡ false)
+unfolding kidsNo
+kids-fine t ks e =
+    let f = kids-fits t ks e in
+    split (allLive (cap t) (W t) ks)
+    (λ a. split (enough (W t) ks)
+    (λ b. split (noneOf ks)
+    (λ c. absurd (let z : _≡_ {A = ℕ} 7 0 = (rw (f, a, b, c) at e) in omega arith))
+    (λ c. (a, b, c)))
+    (λ b. absurd (let z : _≡_ {A = ℕ} 5 0 = (rw (f, a, b) at e) in omega arith)))
+    (λ a. absurd (let z : _≡_ {A = ℕ} 4 0 = (rw (f, a) at e) in omega arith))

@@ -1,0 +1,119 @@
+-- Hold and a fresh arena: well formed afterwards. (Their contracts are exact on any tables.)
+use mathlib.Core.Path.{_≡_, refl, sym, ap, _∙_, subst}
+use mathlib.Core.Logic.{_≢_}
+use mathlib.Core.Bool.{Bool, true, false}
+use mathlib.Core.List.{List, []}
+use Prim.Native.Nat.{ℕ, zero, suc, _+_, _-_, _*_, _%_, _^_, _≤_, _<_}
+use native.Mathlib.Decide.{ℕ-discrete}
+use native.Mathlib.Omega.{arith}
+use lib.Dec.{leb, ltb}
+use lib.ListN.{length, getD, replicate, length-replicate}
+use borrow.Author.Tests.{eq-eqb, ne-eqb}
+use Rattle.basics.specs.Pick.{pick}
+use Rattle.ids.specs.Ids.{generationOf}
+use Rattle.nodes.specs.Words.{holds, putOf, kidOf, factOf, own, link, spare, nodes, slot, floor, wordOf, factPut}
+use Rattle.nodes.proofs.Counts.{floor-pos}
+use Rattle.nodes.proofs.Freeing.{none-live}
+use Rattle.nodes.proofs.Sums.{cases, occ-nil}
+use Rattle.finding.specs.Content.{homeAt}
+use Rattle.finding.proofs.Finding.{finds-fresh, finds-as}
+use Rattle.arena.specs.Calls.{did, fitOf, fits, heldAt, holdNo, holdOf, fresh, freshOf}
+use Rattle.arena.specs.Models.{moreOf}
+use Rattle.arena.specs.Tables.{tables, Tables, LiveSlot, Sized, WellFormed}
+use Rattle.arena.specs.declared.Arena.{Arena}
+use Rattle.arena.proofs.Fits.{live-is, hold-live, fits-sized, hold-few}
+use Rattle.arena.proofs.Ids.{gen-zero}
+use Rattle.arena.proofs.Leaves.{held-kept}
+
+hold-refused : (t : Tables) (id : ℕ) → holdNo t id ≢ 0 → t ≡ holdOf t id .after
+unfolding holdOf
+hold-refused t id d = rw (ne-eqb (holdNo t id) 0 d)
+
+hold-empty : (t : Tables) (id : ℕ) → holdNo t id ≡ 0 → id ≡ 0 → t ≡ holdOf t id .after
+unfolding holdOf
+hold-empty t id z e = rw (eq-eqb (holdNo t id) 0 z, eq-eqb id 0 e)
+
+hold-done : (t : Tables) (id : ℕ) → holdNo t id ≡ 0 → id ≢ 0 → heldAt t (slot id) ≡ holdOf t id .after
+unfolding holdOf
+hold-done t id z e = rw (eq-eqb (holdNo t id) 0 z, ne-eqb id 0 e)
+
+pub hold-well : (n tallest : ℕ) (t : Tables) (id : ℕ) → n ≤ 8 → WellFormed n tallest t → WellFormed n tallest (holdOf t id .after)
+hold-well n tallest t id m w = cases (ℕ-discrete (holdNo t id) 0)
+    (λ z. cases (ℕ-discrete id 0)
+    (λ y. subst (λ (u : Tables). WellFormed n tallest u) (hold-empty t id z y) w)
+    (λ y.
+    let r = hold-live t id z y in
+    let v = live-is t id (r .0) in
+    let i = v .is in
+    let h = v .high in
+    subst (λ (u : Tables). WellFormed n tallest u) (hold-done t id z y) (held-kept n tallest t (slot id) m w (v .low, omega arith) (r .1))))
+    (λ z. subst (λ (u : Tables). WellFormed n tallest u) (hold-refused t id z) w)
+
+-- ---- the code's hold, whose sum runs over at 2^64, is the definition's
+
+pub held-is : (a : Arena) (k f e : List ℕ) (id : ℕ) (m : List ℕ) → holdNo (tables a k f e) id ≡ 0 → id ≢ 0
+    → m ≡ factPut f (slot id) holds (moreOf (factOf f (slot id) holds)) → did 0 (tables a k m e) ≡ holdOf (tables a k f e) id
+unfolding holdOf heldAt putOf wordOf moreOf
+held-is a k f e id m z d em =
+    let few : factOf f (slot id) holds < 1000000 = hold-few (tables a k f e) id z d in
+    let q : (factOf f (slot id) holds + 1) % 2 ^ 64 ≡ factOf f (slot id) holds + 1 = omega arith in
+    rw (eq-eqb (holdNo (tables a k f e) id) 0 z, ne-eqb id 0 d) (ap (λ (x : List ℕ). did 0 (tables a k x e)) (em ∙ ap (factPut f (slot id) holds) q))
+
+-- ---- a fresh arena
+
+zeros : (n i : ℕ) → _≡_ {A = ℕ} (getD (replicate n 0) i 0) 0
+zeros zero i = refl
+zeros (suc n) zero = refl
+zeros (suc n) (suc i) = zeros n i
+
+-- every word of two cleared tables is 0
+blank : (m n s f : ℕ) → wordOf (nodes (replicate m 0) (replicate n 0)) s f ≡ 0
+unfolding wordOf kidOf factOf
+blank m n s f =
+    none (ltb f 8) (none (ltb f 8) (zeros m (8 * s + f)) refl) (none (leb own f) (none (leb f spare) (zeros n (7 * s + (f - own))) refl) refl)
+  where
+    none : (b : Bool) {x y : ℕ} → x ≡ 0 → y ≡ 0 → pick b x y ≡ 0
+    none true p q = p
+    none false p q = q
+
+blank-well : (n tallest c j x y : ℕ) → Sized (tables (fresh c) (replicate j 0) (replicate x 0) (replicate y 0))
+    → WellFormed n tallest (tables (fresh c) (replicate j 0) (replicate x 0) (replicate y 0))
+blank-well n tallest c j x y z = record {
+  sized = z;
+  freed = [];
+  chain = record {
+    some = omega arith;
+    fits = (let p = z .least in omega arith);
+    chain = refl;
+    only = λ s m. absurd (omega (arith, occ-nil s));
+    once = λ s f. absurd (let a = f .given in let b = f .below in omega arith);
+    unused = λ s a l. blank j x s own;
+    ground = blank j x 0 own;
+  };
+  nodes = λ s l. absurd (dead s (l .1));
+  distinct = λ s b l m e f. absurd (dead s (l .1));
+  tallied = λ s l. absurd (dead s (l .1));
+  used = λ s l. absurd (dead s (l .1));
+  finds = finds-as (homeAt c (wordOf (nodes (replicate j 0) (replicate x 0)))) (homeAt c (wordOf (nodes (replicate j 0) (replicate x 0)))) (λ s. ⊥) (LiveSlot (tables (fresh c) (replicate j 0) (replicate x 0) (replicate y 0))) (replicate y 0)
+      (finds-fresh (homeAt c (wordOf (nodes (replicate j 0) (replicate x 0)))) y) (λ s p. ((λ b. absurd b), (λ l. dead s (l .1)))) (λ s p b. refl);
+  cleared = λ s l h. record { words = λ f m a b. blank j x s f; seal = ap (λ (k : ℕ). k % 2 ^ 32) (blank j x s own) };
+  linked = λ s l h. absurd (let e = blank j x s link in omega arith);
+  spared = λ s l. blank j x s spare;
+  gens = λ s l. subst (λ (k : ℕ). generationOf k ≤ 0x7FFD) (sym (blank j x s own)) gen-zero;
+  lives = sym (none-live c (wordOf (nodes (replicate j 0) (replicate x 0))) (λ s. blank j x s own));
+}
+  where
+    dead : (s : ℕ) → floor ≤ wordOf (nodes (replicate j 0) (replicate x 0)) s own → ⊥
+    dead s h = let e = blank j x s own in let p = floor-pos in omega arith
+
+fresh-done : (c : ℕ) (j x y : List ℕ) → fitOf c (length j) (length x) (length y) ≡ true
+    → tables (fresh c) (replicate (length j) 0) (replicate (length x) 0) (replicate (length y) 0) ≡ freshOf c j x y .after
+unfolding freshOf
+fresh-done c j x y e = rw e
+
+-- a fresh arena is well formed, over any tables of the right lengths
+pub fresh-well : (n tallest c : ℕ) (j x y : List ℕ) → fitOf c (length j) (length x) (length y) ≡ true → WellFormed n tallest (freshOf c j x y .after)
+fresh-well n tallest c j x y e =
+    subst (λ (u : Tables). WellFormed n tallest u) (fresh-done c j x y e)
+    (blank-well n tallest c (length j) (length x) (length y)
+    (fits-sized (tables (fresh c) (replicate (length j) 0) (replicate (length x) 0) (replicate (length y) 0)) (simp length-replicate e)))

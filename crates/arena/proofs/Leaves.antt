@@ -1,0 +1,289 @@
+-- Intern leaf: the probe finds what the scan finds, and well formed stays well formed.
+use mathlib.Core.Path.{_≡_, refl, sym, ap, ap₂, _∙_, subst}
+use mathlib.Core.Logic.{_≢_, inl, inr, ⊎-elim}
+use mathlib.Core.Bool.{true, false, true≢false}
+use mathlib.Core.List.{List, [], _++_}
+use Prim.Native.Nat.{ℕ, _+_, _%_, _^_, _≤_, _<_}
+use native.Mathlib.Decide.{ℕ-discrete}
+use native.Mathlib.Omega.{arith}
+use lib.Dec.{eqb}
+use lib.ListN.{length, getD, set}
+use borrow.Author.Tests.{eq-eqb, ne-eqb, eqb-true, leb-false}
+use Rattle.ids.specs.Ids.{generationOf, isLeaf}
+use Rattle.nodes.specs.Tally.{Live, occ}
+use Rattle.nodes.specs.Words.{own, value, holds, places, nodes, written, floor, wordOf, putOf}
+use Rattle.nodes.proofs.Access.{put-same, put-field}
+use Rattle.nodes.proofs.Counts.{floor-pos, live-own}
+use Rattle.nodes.proofs.Sums.{cases, split, occ-nil, occ-append}
+use Rattle.finding.specs.Cells.{insertAt, cellOf, probe, cell}
+use Rattle.finding.specs.Content.{contentIs, homeAt, homeFor}
+use Rattle.finding.proofs.Contents.{content-true, content-words, probe-as, home-content}
+use Rattle.finding.proofs.Finding.{finds-hit, finds-miss}
+use Rattle.arena.specs.Calls.{allOf, freshFacts, empties, Out, said, refused, fits, Fair, fullOf, roomOf, heldAt, freshSlot, slotGiven, named, leafIn, leafSlot, internLeafNo, leafMade, internLeafOf, noneOf}
+use Rattle.arena.specs.Models.{leafAt, cellFor, givenOut, idOf, writtenNodes, writtenAt, madeNodes, madeAt, hitBy, leafMissBy, leafBy, internLeafBy}
+use Rattle.arena.specs.Node.{leafId, Node, LeafNode}
+use Rattle.arena.specs.Tables.{tablesOf, Tables, cap, W, LiveSlot, WellFormed}
+use Rattle.arena.proofs.Dropping.{put-recounted}
+use Rattle.arena.proofs.Fits.{both, sized-fits, room-yes}
+use Rattle.arena.proofs.Ids.{flag-floor, leaf-flag, new-leaf, node-leaf, gen-small, leaf-gen}
+use Rattle.arena.proofs.Inv.{sized-within, Inv, Content, Recounted, recounted-word, move-inv, wf-inv, wf-content, inv-wf, inv-debt, content-recount}
+use Rattle.arena.proofs.Make.{more-is, fresh-free, fresh-bumps, made-inv, made-content, made-own, made-value, made-height, made-holds, made-kid}
+use Rattle.arena.proofs.Outs.{said-path, tables-path, arena-path}
+use Rattle.arena.proofs.Rows.{empties-none, empties-length, empties-at}
+use Rattle.arena.proofs.Scan.{find-hit, find-miss}
+
+empties-id : (s g : ℕ) → idOf empties s g ≡ leafId s g
+unfolding empties noneOf allOf idOf
+empties-id s g = refl
+
+-- ---- the search by content on well-formed tables: for any content (ks, v)
+module _ (n tallest : ℕ) (t : Tables) (w : WellFormed n tallest t) (ks : List ℕ) (v : ℕ) (e : length ks ≡ 8) where
+  pub not-ground : (s : ℕ) → LiveSlot t s → 0 < s
+  not-ground s l = cases (ℕ-discrete s 0)
+      (λ (q : s ≡ 0). absurd (let z : W t s own ≡ 0 = rw q (w .chain .ground) in let f = floor-pos in let h = l .1 in omega arith)) (λ q. omega arith)
+
+  pub search-hit : (s : ℕ) → LiveSlot t s → contentIs (W t) ks v s ≡ true → getD (t .find) (cellFor t ks v) 0 ≡ s
+  unfolding cellOf
+  search-hit s l h =
+      let c = content-words (W t) ks v s e h in
+      let o : homeAt (cap t) (W t) s ≡ homeFor (cap t) ks v = home-content (cap t) (W t) s ks v e (c .0) (c .1) in
+      let r = finds-hit (homeAt (cap t) (W t)) (LiveSlot t) (t .find) (w .finds) (contentIs (W t) ks v) s (not-ground s l) l h
+      (λ x p lx hx.
+      let d = content-words (W t) ks v x e hx in
+      w .distinct x s lx l (λ i j. d .0 i j ∙ sym (c .0 i j)) (d .1 ∙ sym (c .1))) in
+      subst (λ (z : ℕ). getD (t .find) (probe (contentIs (W t) ks v) (t .find) z) 0 ≡ s) o r
+
+  pub search-miss : ((x : ℕ) → 0 < x → LiveSlot t x → contentIs (W t) ks v x ≡ false) → getD (t .find) (cellFor t ks v) 0 ≡ 0
+  unfolding cellOf
+  search-miss h = finds-miss (homeAt (cap t) (W t)) (LiveSlot t) (t .find) (w .finds) (contentIs (W t) ks v) (homeFor (cap t) ks v) h
+
+  -- the cell where the search missed is the first empty one
+  pub cell-named : ((x : ℕ) → 0 < x → LiveSlot t x → contentIs (W t) ks v x ≡ false) → (s : ℕ) → s < 65536 → set (t .find) (cellFor t ks v) (s % 65536) ≡ named t ks v s
+  unfolding cellOf named insertAt
+  cell-named h s l =
+      let q : s % 65536 ≡ s = omega arith in
+      let p = probe-as (contentIs (W t) ks v) (λ x. false) (t .find) (homeFor (cap t) ks v)
+      (λ c a. h (cell (t .find) c) a (w .finds .names (cell (t .find) c) a .0 (c, refl))) in
+      ap₂ (λ (x y : ℕ). set (t .find) x y) p q
+
+-- ---- what the calls leave
+
+pub given-is : (n tallest : ℕ) (t : Tables) → n ≤ 8 → WellFormed n tallest t → t .arena .live + 1 < cap t → givenOut (t .arena) (W t) ≡ slotGiven (t .arena) (W t)
+unfolding givenOut slotGiven
+given-is n tallest t m w room =
+    let i = wf-inv n tallest t m w in
+    let most = w .sized .most in
+    let l = more-is (t .arena .live) (omega arith) in
+    cases (ℕ-discrete (t .arena .top) 0)
+    (λ z. let b = fresh-bumps t [] i room z .1 in let x = more-is (t .arena .next) (omega arith) in rw (eq-eqb (t .arena .top) 0 z) (arena-path _ _ _ _ _ _ _ _ refl x refl l))
+    (λ z. rw (ne-eqb (t .arena .top) 0 z) (arena-path _ _ _ _ _ _ _ _ refl refl refl l))
+
+pub content-at : (t : Tables) (ks : List ℕ) (v up h p at n tallest : ℕ) → Content n tallest (cap t) (wordOf (madeNodes t ks v up h p))
+    → Content n tallest (cap (madeAt t ks v up h p at)) (W (madeAt t ks v up h p at))
+unfolding writtenAt givenOut
+content-at t ks v up h p at n tallest c = c
+
+-- one hold more on a live node
+pub held-kept : (n tallest : ℕ) (t : Tables) (s : ℕ) → n ≤ 8 → WellFormed n tallest t → LiveSlot t s → fullOf (W t) s ≡ false → WellFormed n tallest (heldAt t s)
+unfolding heldAt fullOf
+held-kept n tallest t s m w l f =
+    let few = leb-false 1000000 (W t s holds) f in
+    let i = wf-inv n tallest t m w in
+    let id = i .counts .ids s (l .0) (l .1) in
+    let live : Live (cap t) (W t) (W t s own) = live-own 8 (cap t) (W t) [] (i .counts) s (l .0) (l .1) in
+    let r : Recounted s (t .nodes) (putOf (t .nodes) s holds (W t s holds + 1)) = put-recounted (t .nodes) s holds (W t s holds + 1) (inl refl) in
+    let now : wordOf (putOf (t .nodes) s holds (W t s holds + 1)) s holds ≡ W t s holds + 1 =
+    put-same (t .nodes) s holds (W t s holds + 1) (sized-within t s (w .sized) (l .0)) (omega arith) (omega arith) in
+    let old : wordOf (putOf (t .nodes) s holds (W t s holds + 1)) s places ≡ W t s places = put-field (t .nodes) s holds (W t s holds + 1) places (omega arith) in
+    let v : Inv (tablesOf (t .arena) (putOf (t .nodes) s holds (W t s holds + 1)) (t .find)) [] =
+    move-inv (t .arena) (t .nodes) (putOf (t .nodes) s holds (W t s holds + 1)) (t .find) [] [] (W t s own) i live
+    (subst (λ (z : ℕ). Recounted z (t .nodes) (putOf (t .nodes) s holds (W t s holds + 1))) (sym id) r) (λ y a b. refl)
+    (subst (λ (z : ℕ). wordOf (putOf (t .nodes) s holds (W t s holds + 1)) z places + occ (W t s own) [] ≡ W t z places + occ (W t s own) []) (sym id) (omega arith))
+    (subst (λ (z : ℕ). 1 ≤ wordOf (putOf (t .nodes) s holds (W t s holds + 1)) z holds + wordOf (putOf (t .nodes) s holds (W t s holds + 1)) z places) (sym id) (omega arith)) in
+    inv-wf n tallest (tablesOf (t .arena) (putOf (t .nodes) s holds (W t s holds + 1)) (t .find)) v
+    (content-recount n tallest (cap t) (W t) (wordOf (putOf (t .nodes) s holds (W t s holds + 1))) m
+    (λ b g k. recounted-word r b g (omega arith) (omega arith) (omega arith))
+    (λ b k h. cases (ℕ-discrete b s)
+    (λ (q : b ≡ s). subst (λ (z : ℕ). wordOf (putOf (t .nodes) s holds (W t s holds + 1)) z holds ≤ 1000000) (sym q) (omega arith))
+    (λ q. let e = r .others b holds q (omega arith) in let o = w .nodes b (k, h) .few in omega arith))
+    (wf-content n tallest t w))
+
+hit-is-full : (t : Tables) (s : ℕ) → fullOf (W t) s ≡ true → hitBy t s ≡ refused 10 t
+unfolding hitBy
+hit-is-full t s f = rw f
+
+hit-is-held : (t : Tables) (s : ℕ) → fullOf (W t) s ≡ false → hitBy t s ≡ said 0 (W t s own) (heldAt t s)
+unfolding hitBy
+hit-is-held t s f = rw f
+
+module _ (n tallest : ℕ) (t : Tables) (m : n ≤ 8) (w : WellFormed n tallest t) (v : ℕ) (some : v ≢ 0) where
+  leaf-in : (s : ℕ) → s < cap t → leafIn t v s ≡ true → LiveSlot t s × LeafNode (W t) s × (W t s value ≡ v)
+  unfolding leafIn
+  leaf-in s l h =
+      let b = both (isLeaf (W t s own)) (eqb (W t s value) v) h in
+      let live : floor ≤ W t s own = flag-floor (W t s own) (b .0) in
+      ((l, live), node-leaf m l (w .sized .most) (w .nodes s (l, live)) (b .0), eqb-true (W t s value) v (b .1))
+
+  leaf-content : (s : ℕ) → s < cap t → leafIn t v s ≡ true → contentIs (W t) empties v s ≡ true
+  leaf-content s l h =
+      let p = leaf-in s l h in
+      content-true (W t) empties v s empties-length (λ i j. p .1 .bare i j ∙ sym (empties-at i j)) (p .2)
+
+  content-leaf : (s : ℕ) → LiveSlot t s → contentIs (W t) empties v s ≡ true → leafIn t v s ≡ true
+  unfolding leafIn
+  content-leaf s l h =
+      let c = content-words (W t) empties v s empties-length h in
+      ⊎-elim
+      (λ f.
+      let low = l .0 in
+      let most = w .sized .most in
+      let q : isLeaf (W t s own) ≡ true = ap isLeaf (f .id) ∙ leaf-flag s (generationOf (W t s own)) (omega arith) (gen-small (W t s own)) in
+      rw q (eq-eqb (W t s value) v (c .1)))
+      (λ b. absurd (let k = b .some in let j = k .1 in k .2 (c .0 (k .0) (omega arith) ∙ empties-at (k .0) (omega arith))))
+      (w .nodes s l .kind)
+
+  no-leaf : leafSlot t v ≡ 0 → (x : ℕ) → 0 < x → LiveSlot t x → contentIs (W t) empties v x ≡ false
+  unfolding leafSlot
+  no-leaf z x p l = split (contentIs (W t) empties v x)
+      (λ h. absurd (true≢false (sym (content-leaf x l h) ∙ find-miss (leafIn t v) (cap t) z x (l .0) (omega arith))))
+      (λ h. h)
+
+  -- the slot of the leaf
+  leaf-slot : leafSlot t v ≢ 0 → (leafSlot t v < cap t) × (leafIn t v (leafSlot t v) ≡ true)
+  unfolding leafSlot
+  leaf-slot d = let r = find-hit (leafIn t v) (cap t) d in (r .1, r .0)
+
+  -- ---- there is one
+  hit-law : leafSlot t v ≢ 0 → leafBy t v ≡ hitBy t (leafSlot t v)
+  unfolding leafBy leafAt
+  hit-law d =
+      let q = leaf-slot d in
+      let r = search-hit n tallest t w empties v empties-length (leafSlot t v) (leaf-in (leafSlot t v) (q .0) (q .1) .0) (leaf-content (leafSlot t v) (q .0) (q .1)) in
+      rw (r, ne-eqb (leafSlot t v) 0 d)
+
+  -- ---- there is none
+  miss-law : leafSlot t v ≡ 0 → leafBy t v ≡ leafMissBy t v (cellFor t empties v)
+  unfolding leafBy leafAt
+  miss-law z = let r = search-miss n tallest t w empties v empties-length (no-leaf z) in rw r
+
+  fresh-low : t .arena .live + 1 < cap t → freshSlot (t .arena) < 65536
+  fresh-low room = let p = fresh-free t [] (wf-inv n tallest t m w) room .1 in let q = w .sized .most in omega arith
+
+  made-law : leafSlot t v ≡ 0 → roomOf (t .arena) ≡ true → leafMissBy t v (cellFor t empties v) ≡ leafMade t v
+  unfolding leafMissBy leafMade writtenNodes writtenAt
+  made-law z r =
+      let room = room-yes (t .arena) r in
+      let l = fresh-low room in
+      let o : freshSlot (t .arena) % 2 ^ 32 ≡ freshSlot (t .arena) = omega arith in
+      let g = w .gens (freshSlot (t .arena)) (fresh-free t [] (wf-inv n tallest t m w) room .1) in
+      let q = new-leaf (freshSlot (t .arena)) (generationOf (W t (freshSlot (t .arena)) own)) (omega arith) in
+      rw (r, o, q)
+      (said-path _ _ _ _ _ _ refl refl (tables-path _ _ _ _ _ _ (given-is n tallest t m w room) refl (cell-named n tallest t w empties v empties-length (no-leaf z) (freshSlot (t .arena)) l)))
+
+  full-law : roomOf (t .arena) ≡ false → leafMissBy t v (cellFor t empties v) ≡ refused 11 t
+  unfolding leafMissBy
+  full-law r = rw r
+
+  pub leaf-by : internLeafBy t v ≡ internLeafOf t v
+  unfolding internLeafBy internLeafOf internLeafNo
+  leaf-by =
+      rw (sized-fits t (w .sized), ne-eqb v 0 some)
+      (cases (ℕ-discrete (leafSlot t v) 0)
+      (λ z. split (roomOf (t .arena))
+      (λ r. rw (eq-eqb (leafSlot t v) 0 z, r) (miss-law z ∙ made-law z r))
+      (λ r. rw (eq-eqb (leafSlot t v) 0 z, r) (miss-law z ∙ full-law r)))
+      (λ z. split (fullOf (W t) (leafSlot t v))
+      (λ f. rw (ne-eqb (leafSlot t v) 0 z, f) (hit-law z ∙ hit-full z f))
+      (λ f. rw (ne-eqb (leafSlot t v) 0 z, f) (hit-law z ∙ hit-held z f))))
+    where
+      hit-full : leafSlot t v ≢ 0 → fullOf (W t) (leafSlot t v) ≡ true → hitBy t (leafSlot t v) ≡ refused 10 t
+      hit-full z f = hit-is-full t (leafSlot t v) f
+
+      hit-held : leafSlot t v ≢ 0 → fullOf (W t) (leafSlot t v) ≡ false → hitBy t (leafSlot t v) ≡ said 0 (W t (leafSlot t v) own) (heldAt t (leafSlot t v))
+      hit-held z f = hit-is-held t (leafSlot t v) f
+
+  -- ---- well formed afterwards
+
+  leaf-tables : leafSlot t v ≡ 0 → roomOf (t .arena) ≡ true → madeAt t empties v 0 1 0 (cellFor t empties v) ≡ leafMade t v .after
+  unfolding leafMade writtenNodes writtenAt
+  leaf-tables z r =
+      let room = room-yes (t .arena) r in
+      let l = fresh-low room in
+      tables-path _ _ _ _ _ _ (given-is n tallest t m w room)
+      (ap (λ (x : ℕ). written (t .nodes) (freshSlot (t .arena)) empties (freshFacts x v 0 1 0)) (empties-id (freshSlot (t .arena)) (generationOf (W t (freshSlot (t .arena)) own))))
+      (cell-named n tallest t w empties v empties-length (no-leaf z) (freshSlot (t .arena)) l)
+
+  made-kept : v ≤ 65535 → leafSlot t v ≡ 0 → roomOf (t .arena) ≡ true → WellFormed n tallest (leafMade t v .after)
+  made-kept high z r =
+      let room = room-yes (t .arena) r in
+      let l = fresh-low room in
+      let i : Inv t (empties ++ []) = inv-debt t [] (empties ++ []) (λ y d. owed y d) (wf-inv n tallest t m w) in
+      let o = made-own t [] [] empties v 0 1 0 empties-length i room in
+      let g = gen-small (W t (freshSlot (t .arena)) own) in
+      let self : wordOf (madeNodes t empties v 0 1 0) (freshSlot (t .arena)) own ≡ leafId (freshSlot (t .arena)) (generationOf (W t (freshSlot (t .arena)) own)) =
+      o ∙ empties-id (freshSlot (t .arena)) (generationOf (W t (freshSlot (t .arena)) own)) in
+      let v9 = made-value t [] [] empties v 0 1 0 empties-length i room in
+      let h11 = made-holds t [] [] empties v 0 1 0 empties-length i room in
+      let node : Node n tallest (cap t) (wordOf (madeNodes t empties v 0 1 0)) (freshSlot (t .arena)) = record {
+        kind = inl (record {
+          id = self ∙ ap (leafId (freshSlot (t .arena))) (sym (ap generationOf self ∙ leaf-gen (freshSlot (t .arena)) (generationOf (W t (freshSlot (t .arena)) own)) (omega arith) g));
+          some = omega arith;
+          bare = λ j k. made-kid t [] [] empties v 0 1 0 empties-length i room j k ∙ empties-at j k;
+          flat = made-height t [] [] empties v 0 1 0 empties-length i room;
+        });
+        small = omega arith;
+        few = omega arith;
+      } in
+      let inv : Inv (madeAt t empties v 0 1 0 (cellFor t empties v)) [] =
+      made-inv t [] [] empties v 0 1 0 empties-length i room (no-leaf z) (omega arith) (λ y a b. refl) (omega arith)
+      (λ y a b. absurd (let q = empties-none y a in omega arith)) in
+      subst (λ (u : Tables). WellFormed n tallest u) (leaf-tables z r)
+      (inv-wf n tallest (madeAt t empties v 0 1 0 (cellFor t empties v)) inv
+      (content-at t empties v 0 1 0 (cellFor t empties v) n tallest
+      (made-content t [] [] empties v 0 1 0 empties-length i room (no-leaf z) n tallest m node (wf-content n tallest t w))))
+    where
+      owed : (y : ℕ) → y ≢ 0 → occ y [] ≡ occ y (empties ++ [])
+      owed y d = omega (arith, occ-nil y, occ-append y empties [], empties-none y d)
+
+  pub leaf-kept : v ≤ 65535 → WellFormed n tallest (internLeafOf t v .after)
+  unfolding internLeafOf internLeafNo
+  leaf-kept high =
+      rw (sized-fits t (w .sized), ne-eqb v 0 some)
+      (cases (ℕ-discrete (leafSlot t v) 0)
+      (λ z. split (roomOf (t .arena))
+      (λ r. rw (eq-eqb (leafSlot t v) 0 z, r) (made-kept high z r))
+      (λ r. rw (eq-eqb (leafSlot t v) 0 z, r) w))
+      (λ z. split (fullOf (W t) (leafSlot t v))
+      (λ f. rw (ne-eqb (leafSlot t v) 0 z, f) w)
+      (λ f. rw (ne-eqb (leafSlot t v) 0 z, f)
+      (let q = leaf-slot z in held-kept n tallest t (leafSlot t v) m w (leaf-in (leafSlot t v) (q .0) (q .1) .0) f))))
+
+leaf-unsized : (t : Tables) (v : ℕ) → fits t ≡ false → internLeafBy t v ≡ internLeafOf t v
+unfolding internLeafBy internLeafOf internLeafNo
+leaf-unsized t v u = rw u
+
+leaf-nothing : (n tallest : ℕ) (t : Tables) (v : ℕ) → WellFormed n tallest t → v ≡ 0 → internLeafBy t v ≡ internLeafOf t v
+unfolding internLeafBy internLeafOf internLeafNo
+leaf-nothing n tallest t v w z = rw (sized-fits t (w .sized), eq-eqb v 0 z)
+
+leaf-nothing-is : (n tallest : ℕ) (t : Tables) (v : ℕ) → WellFormed n tallest t → v ≡ 0 → refused 6 t ≡ internLeafOf t v
+unfolding internLeafOf internLeafNo
+leaf-nothing-is n tallest t v w z = rw (sized-fits t (w .sized), eq-eqb v 0 z)
+
+-- ---- the two theorems
+
+-- the code's answer is the definition's
+pub leaf-law : (t : Tables) (v : ℕ) (x : Out) → x ≡ internLeafBy t v → (n tallest : ℕ) → n ≤ 8 → Fair n tallest t → x ≡ internLeafOf t v
+leaf-law t v x e n tallest m (inl u) = e ∙ unsized
+  where
+    unsized : internLeafBy t v ≡ internLeafOf t v
+    unsized = leaf-unsized t v u
+leaf-law t v x e n tallest m (inr w) = cases (ℕ-discrete v 0)
+    (λ z. e ∙ leaf-nothing n tallest t v w z)
+    (λ z. e ∙ leaf-by n tallest t m w v z)
+
+-- and well formed stays well formed
+pub leaf-well : (n tallest : ℕ) (t : Tables) (v : ℕ) → n ≤ 8 → v ≤ 65535 → WellFormed n tallest t → WellFormed n tallest (internLeafOf t v .after)
+leaf-well n tallest t v m high w = cases (ℕ-discrete v 0)
+    (λ z. subst (λ (o : Out). WellFormed n tallest (o .after)) (leaf-nothing-is n tallest t v w z) w)
+    (λ z. leaf-kept n tallest t m w v z high)

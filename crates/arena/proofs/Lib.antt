@@ -1,0 +1,15 @@
+pub mod Ids
+pub mod Rows
+pub mod Eight
+pub mod Inv
+pub mod Dropping
+pub mod Make
+pub mod Outs
+pub mod Fits
+pub mod Scan
+pub mod Fill
+pub mod Leaves
+pub mod Holding
+pub mod Branches
+pub mod Branching
+pub mod Releasing

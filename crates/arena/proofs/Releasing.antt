@@ -1,0 +1,395 @@
+-- Release: the code's way (a hold becomes a place that is owed, and that is dropped) is the definition's; well formed stays well formed;
+-- and a node lives on exactly if it is held, or stands below one that is.
+use mathlib.Core.Path.{_≡_, refl, sym, ap, ap₂, _∙_, subst}
+use mathlib.Core.Logic.{_≢_, inl, inr, _↔_}
+use mathlib.Core.Bool.{true, false}
+use mathlib.Core.List.{List, [], _∷_}
+use Prim.Native.Nat.{ℕ, zero, suc, _+_, _-_, _^_, _≤_, _<_}
+use native.Mathlib.Decide.{ℕ-discrete, decLt}
+use native.Mathlib.Omega.{arith}
+use lib.ListN.{length}
+use borrow.Author.Tests.{eq-eqb, ne-eqb}
+use Rattle.nodes.specs.Tally.{kidsOf, Live, occ, same}
+use Rattle.nodes.specs.Words.{own, height, holds, places, spare, Nodes, nodes, written, slot, floor, Words, wordOf, putOf}
+use Rattle.nodes.proofs.Access.{Within, put-size, size-trans, within-size, written-over, put-same, put-slot, put-field, put-put, put-word, put-less}
+use Rattle.nodes.proofs.Counts.{floor-pos, kids-same, Counts, live-same, total-bound}
+use Rattle.nodes.proofs.Frame.{Frame, Under, lives-iff, here, down}
+use Rattle.nodes.proofs.Sums.{cases, occ-nil, occ-here, occ-there}
+use Rattle.finding.specs.Cells.{remove}
+use Rattle.finding.specs.Content.{homeAt}
+use Rattle.finding.proofs.Contents.{home-same}
+use Rattle.arena.specs.Calls.{deadFacts, empties, Out, did, fits, Fair, recycled, lessOf, unusedOf, each, takes, releaseNo, releaseOf}
+use Rattle.arena.specs.Models.{settledN, unplaced, dropOne, dropPlace, moreOf, settled, releaseBy, releaseAny}
+use Rattle.arena.specs.Tables.{tablesOf, Tables, cap, W, WellFormed}
+use Rattle.arena.specs.declared.Arena.{Arena}
+use Rattle.arena.proofs.Dropping.{step-empty, step-held, step-more, step-last, one-step, Dropped, drop-good}
+use Rattle.arena.proofs.Fits.{live-is, release-live}
+use Rattle.arena.proofs.Ids.{node-low}
+use Rattle.arena.proofs.Inv.{sized-within, Inv, Content, Recounted, recounted-word, move-inv, wf-inv, wf-content, inv-wf, content-recount, content-frame}
+use Rattle.arena.proofs.Rows.{dead-length, empties-length}
+
+-- ---- tables that differ in counts of one slot are the same once it is recycled
+
+recycled-same : (a : Arena) (l m : Nodes) (f : List ℕ) (s : ℕ) → wordOf m s own ≡ wordOf l s own → ((b g : ℕ) → g < height → wordOf m b g ≡ wordOf l b g)
+    → ((row : List ℕ) → length row ≡ 7 → written m s empties row ≡ written l s empties row) → recycled (tablesOf a m f) s ≡ recycled (tablesOf a l f) s
+unfolding recycled
+recycled-same a l m f s mine e over =
+    let home : homeAt (a .capacity) (wordOf m) ≡ homeAt (a .capacity) (wordOf l) = (λ i b. home-same (a .capacity) (wordOf l) (wordOf m) b (λ g k d. e b g k) i) in
+    let row : written m s empties (deadFacts (wordOf m s own) (a .top)) ≡ written l s empties (deadFacts (wordOf l s own) (a .top)) =
+    ap (λ (x : ℕ). written m s empties (deadFacts x (a .top))) mine ∙ over (deadFacts (wordOf l s own) (a .top)) (dead-length (wordOf l s own) (a .top)) in
+    λ i. tablesOf (record { capacity = a .capacity; next = a .next; top = s; live = a .live - 1 }) (row i) (remove (home i) f s)
+
+put-keeps : (l : Nodes) (s f v b g : ℕ) → g ≢ f → wordOf (putOf l s f v) b g ≡ wordOf l b g
+put-keeps l s f v b g d = cases (ℕ-discrete b s) (λ (e : b ≡ s). rw e (put-field l s f v g d)) (λ e. put-slot l s f v b g e)
+
+put-over : (l : Nodes) (s f v : ℕ) (row : List ℕ) → length row ≡ 7 → written (putOf l s f v) s empties row ≡ written l s empties row
+put-over l s f v row e = written-over l s empties row empties-length e f v
+
+less-recycled : (f : ℕ) (t : Tables) (id : ℕ) → height ≤ f → recycled (lessOf f t id) (slot id) ≡ recycled t (slot id)
+unfolding lessOf
+less-recycled f t id k =
+    recycled-same (t .arena) (t .nodes) (putOf (t .nodes) (slot id) f (W t (slot id) f - 1)) (t .find) (slot id)
+    (put-keeps (t .nodes) (slot id) f (W t (slot id) f - 1) (slot id) own (omega arith))
+    (λ b g j. put-keeps (t .nodes) (slot id) f (W t (slot id) f - 1) b g (omega arith))
+    (put-over (t .nodes) (slot id) f (W t (slot id) f - 1))
+
+less-word : (f : ℕ) (t : Tables) (id b g : ℕ) → g ≢ f → W (lessOf f t id) b g ≡ W t b g
+unfolding lessOf
+less-word f t id b g d = put-keeps (t .nodes) (slot id) f (W t (slot id) f - 1) b g d
+
+less-at : (f : ℕ) (t : Tables) (id : ℕ) → own ≤ f → f ≤ spare → W (lessOf f t id) (slot id) f ≡ W t (slot id) f - 1
+unfolding lessOf
+less-at f t id m k = put-less (t .nodes) (slot id) f m k
+
+less-kids : (f : ℕ) (t : Tables) (id : ℕ) → height ≤ f → kidsOf 8 (W (lessOf f t id)) (slot id) ≡ kidsOf 8 (W t) (slot id)
+less-kids f t id k = kids-same 8 (W t) (W (lessOf f t id)) (slot id) (λ i j. less-word f t id (slot id) i (omega arith))
+
+-- ---- the cases of `takes`
+
+module _ (k f : ℕ) (t : Tables) (id : ℕ) where
+  takes-empty : id ≡ 0 → takes (suc k) f t id ≡ t
+  unfolding takes
+  takes-empty e = rw (eq-eqb id 0 e)
+
+  takes-left : id ≢ 0 → unusedOf (lessOf f t id) id ≡ false → takes (suc k) f t id ≡ lessOf f t id
+  unfolding takes
+  takes-left d u = rw (ne-eqb id 0 d, u)
+
+  takes-gone : id ≢ 0 → unusedOf (lessOf f t id) id ≡ true → takes (suc k) f t id ≡ each (takes k places) (recycled (lessOf f t id) (slot id)) (kidsOf 8 (W (lessOf f t id)) (slot id))
+  unfolding takes
+  takes-gone d u = rw (ne-eqb id 0 d, u)
+
+used-hold : (t : Tables) (id : ℕ) → W t (slot id) holds ≢ 0 → unusedOf t id ≡ false
+unfolding unusedOf
+used-hold t id d = rw (ne-eqb (W t (slot id) holds) 0 d)
+
+used-place : (t : Tables) (id : ℕ) → W t (slot id) holds ≡ 0 → W t (slot id) places ≢ 0 → unusedOf t id ≡ false
+unfolding unusedOf
+used-place t id e d = rw (eq-eqb (W t (slot id) holds) 0 e, ne-eqb (W t (slot id) places) 0 d)
+
+unused-both : (t : Tables) (id : ℕ) → W t (slot id) holds ≡ 0 → W t (slot id) places ≡ 0 → unusedOf t id ≡ true
+unfolding unusedOf
+unused-both t id e d = rw (eq-eqb (W t (slot id) holds) 0 e, eq-eqb (W t (slot id) places) 0 d)
+
+unplaced-less : (t : Tables) (id : ℕ) → unplaced t (slot id) ≡ lessOf places t id
+unfolding unplaced lessOf
+unplaced-less t id = refl
+
+each-nil : (rec : Tables → ℕ → Tables) (t : Tables) → each rec t [] ≡ t
+unfolding each
+each-nil rec t = refl
+
+-- taking a place is the code's drop, on any tables
+takes-drop-step : (k : ℕ) → ((t : Tables) (x : ℕ) → takes k places t x ≡ dropPlace k t x) → (t : Tables) (x : ℕ) → takes (suc k) places t x ≡ dropOne (dropPlace k) t x
+takes-drop-step k ih t x = cases (ℕ-discrete x 0)
+    (λ e. takes-empty k places t x e ∙ sym (one-step t x (dropPlace k) _ (step-empty t x e) ∙ each-nil (dropPlace k) t))
+    (λ d.
+    let h = less-word places t x (slot x) holds (omega arith) in
+    let p = less-at places t x (omega arith) (omega arith) in
+    cases (ℕ-discrete (W t (slot x) holds) 0)
+    (λ z. cases (decLt 1 (W t (slot x) places))
+    (λ m.
+    takes-left k places t x d (used-place (lessOf places t x) x (h ∙ z) (omega arith))
+    ∙ sym (one-step t x (dropPlace k) _ (step-more t x d z m) ∙ each-nil (dropPlace k) (unplaced t (slot x)) ∙ unplaced-less t x))
+    (λ m.
+    takes-gone k places t x d (unused-both (lessOf places t x) x (h ∙ z) (omega arith))
+    ∙ ap₂ (λ (u : Tables) (l : List ℕ). each (takes k places) u l) (less-recycled places t x (omega arith)) (less-kids places t x (omega arith))
+    ∙ ap (λ (r : Tables → ℕ → Tables). each r (recycled t (slot x)) (kidsOf 8 (W t) (slot x))) (λ i u y. ih u y i)
+    ∙ sym (one-step t x (dropPlace k) _ (step-last t x d z (omega arith)))))
+    (λ z.
+    takes-left k places t x d (used-hold (lessOf places t x) x (λ y. z (sym h ∙ y)))
+    ∙ sym (one-step t x (dropPlace k) _ (step-held t x d z) ∙ each-nil (dropPlace k) (unplaced t (slot x)) ∙ unplaced-less t x)))
+
+takes-zero : (f : ℕ) (t : Tables) (x : ℕ) → takes 0 f t x ≡ t
+unfolding takes
+takes-zero f t x = refl
+
+pub takes-drop : (k : ℕ) (t : Tables) (x : ℕ) → takes k places t x ≡ dropPlace k t x
+unfolding dropPlace
+takes-drop zero t x = takes-zero places t x
+takes-drop (suc k) t x = takes-drop-step k (takes-drop k) t x
+
+-- ---- the hold that becomes an owed place
+
+module _ (t : Tables) (id : ℕ) (d : id ≢ 0) (within : Within (t .nodes) (slot id)) (held : 1 ≤ W t (slot id) holds) (few : W t (slot id) places < (2 ^ 64 - 1)) where
+  abbrev s : ℕ
+  s = slot id
+
+  abbrev one : Nodes
+  one = putOf (t .nodes) s holds (W t s holds - 1)
+
+  one-places : wordOf one s places ≡ W t s places
+  one-places = put-field (t .nodes) s holds (W t s holds - 1) places (omega arith)
+
+  one-within : Within one s
+  one-within = within-size (t .nodes) one s (put-size (t .nodes) s holds (W t s holds - 1)) within
+
+  more-places : moreOf (W t s places) ≡ W t s places + 1
+  unfolding moreOf
+  more-places = omega arith
+
+  settled-places : W (settled t s) s places ≡ W t s places + 1
+  unfolding settled settledN
+  settled-places = put-same one s places (moreOf (W t s places)) one-within (omega arith) (omega arith) ∙ more-places
+
+  settled-holds : W (settled t s) s holds ≡ W t s holds - 1
+  unfolding settled settledN
+  settled-holds = put-field one s places (moreOf (W t s places)) holds (omega arith) ∙ put-same (t .nodes) s holds (W t s holds - 1) within (omega arith) (omega arith)
+
+  settled-recounted : Recounted s (t .nodes) (settled t s .nodes)
+  unfolding settled settledN
+  settled-recounted = record {
+    size = size-trans (put-size (t .nodes) s holds (W t s holds - 1)) (put-size one s places (moreOf (W t s places)));
+    others = λ b f q m. put-slot one s places (moreOf (W t s places)) b f q ∙ put-slot (t .nodes) s holds (W t s holds - 1) b f q;
+    same = λ f m a b. put-field one s places (moreOf (W t s places)) f b ∙ put-field (t .nodes) s holds (W t s holds - 1) f a;
+  }
+
+  settled-word : (b f : ℕ) → f ≤ spare → f ≢ holds → f ≢ places → W (settled t s) b f ≡ W t b f
+  settled-word = recounted-word settled-recounted
+
+  settled-unplaced : unplaced (settled t s) s ≡ lessOf holds t id
+  unfolding unplaced lessOf settled settledN
+  settled-unplaced =
+      let e : wordOf (putOf one s places (moreOf (W t s places))) s places - 1 ≡ wordOf one s places = (let p = put-same one s places (moreOf (W t s places)) one-within (omega arith) (omega arith) in let q = more-places in let r = one-places in omega arith) in
+      ap (λ (l : Nodes). tablesOf (t .arena) l (t .find))
+      (put-put one s places (moreOf (W t s places)) (wordOf (putOf one s places (moreOf (W t s places))) s places - 1) ∙ put-word one s places (wordOf (putOf one s places (moreOf (W t s places))) s places - 1) e)
+
+  settled-recycled : recycled (settled t s) s ≡ recycled t s
+  unfolding settled settledN
+  settled-recycled =
+      recycled-same (t .arena) (t .nodes) (putOf one s places (moreOf (W t s places))) (t .find) s
+      (put-keeps one s places (moreOf (W t s places)) s own (omega arith) ∙ put-keeps (t .nodes) s holds (W t s holds - 1) s own (omega arith))
+      (λ b g j. put-keeps one s places (moreOf (W t s places)) b g (omega arith) ∙ put-keeps (t .nodes) s holds (W t s holds - 1) b g (omega arith))
+      (λ row e. put-over one s places (moreOf (W t s places)) row e ∙ put-over (t .nodes) s holds (W t s holds - 1) row e)
+
+  settled-kids : kidsOf 8 (W (settled t s)) s ≡ kidsOf 8 (W t) s
+  settled-kids = kids-same 8 (W t) (W (settled t s)) s (λ i j. settled-word s i (omega arith) (omega arith) (omega arith))
+
+  release-step : (k : ℕ) → dropOne (dropPlace k) (settled t s) id ≡ takes (suc k) holds t id
+  release-step k =
+      let h = less-at holds t id (omega arith) (omega arith) in
+      let p = less-word holds t id s places (omega arith) in
+      let u11 = settled-holds in
+      let u12 = settled-places in
+      cases (ℕ-discrete (W t s holds - 1) 0)
+      (λ z. cases (ℕ-discrete (W t s places) 0)
+      (λ y.
+      one-step (settled t s) id (dropPlace k) _ (step-last (settled t s) id d (u11 ∙ z) (omega arith))
+      ∙ ap₂ (λ (u : Tables) (l : List ℕ). each (dropPlace k) u l) (settled-recycled ∙ sym (less-recycled holds t id (omega arith))) (settled-kids ∙ sym (less-kids holds t id (omega arith)))
+      ∙ ap (λ (r : Tables → ℕ → Tables). each r (recycled (lessOf holds t id) s) (kidsOf 8 (W (lessOf holds t id)) s)) (λ i u y. sym (takes-drop k u y) i)
+      ∙ sym (takes-gone k holds t id d (unused-both (lessOf holds t id) id (h ∙ z) (p ∙ y))))
+      (λ y.
+      one-step (settled t s) id (dropPlace k) _ (step-more (settled t s) id d (u11 ∙ z) (omega arith))
+      ∙ each-nil (dropPlace k) (unplaced (settled t s) s) ∙ settled-unplaced
+      ∙ sym (takes-left k holds t id d (used-place (lessOf holds t id) id (h ∙ z) (λ q. y (sym p ∙ q))))))
+      (λ z.
+      one-step (settled t s) id (dropPlace k) _ (step-held (settled t s) id d (λ q. z (sym u11 ∙ q)))
+      ∙ each-nil (dropPlace k) (unplaced (settled t s) s) ∙ settled-unplaced
+      ∙ sym (takes-left k holds t id d (used-hold (lessOf holds t id) id (λ q. z (sym h ∙ q)))))
+
+  pub release-takes : releaseBy t id ≡ takes 7 holds t id
+  unfolding releaseBy dropPlace
+  release-takes = release-step 6
+
+-- ---- on well-formed tables
+
+less-slot : (t : Tables) (id b : ℕ) → b ≢ slot id → W (lessOf holds t id) b holds ≡ W t b holds
+unfolding lessOf
+less-slot t id b q = put-slot (t .nodes) (slot id) holds (W t (slot id) holds - 1) b holds q
+
+-- standing below depends on the children alone
+pub under-map : (W W′ : Words) → ((b f : ℕ) → f < 8 → W′ b f ≡ W b f) → (a y : ℕ) → Under W a y → Under W′ a y
+under-map W W′ e a y (here) = here
+under-map W W′ e a y (down {b = b} u z o) =
+    down (under-map W W′ e a b u) z (subst (λ (l : List ℕ). 1 ≤ occ y l) (sym (kids-same 8 W W′ (slot b) (λ i j. e (slot b) i j))) o)
+
+-- the tables after a release of a live node that is held: well formed; every node that lives on keeps all its words but the places, and its hold
+-- apart the released one keeps its own; and a node lives on exactly if, the hold given back, it stands at or below a held one
+pub record Released (n tallest : ℕ) (t : Tables) (id : ℕ) (t′ : Tables) : Type 0 where
+  pub well : WellFormed n tallest t′
+  pub size : cap t′ ≡ cap t
+  pub frame : Frame (cap t) (W (lessOf holds t id)) (W t′)
+  pub lives : (y : ℕ) → Live (cap t) (W t′) y
+      ↔ ((a : ℕ) × Live (cap t) (W t) a × (1 ≤ W (lessOf holds t id) (slot a) holds) × Under (W t) a y)
+
+module _ (n tallest : ℕ) (t : Tables) (m : n ≤ 8) (low : tallest ≤ 6) (w : WellFormed n tallest t) (id : ℕ) (live : Live (cap t) (W t) id) (held : 1 ≤ W t (slot id) holds) where
+  inv : Inv t []
+  inv = wf-inv n tallest t m w
+
+  some : id ≢ 0
+  some e = let p = floor-pos in let q = live .high in omega arith
+
+  inside : Within (t .nodes) (slot id)
+  inside = sized-within t (slot id) (w .sized) (live .low)
+
+  few : W t (slot id) places < (2 ^ 64 - 1)
+  few = let p = inv .counts .placed id live in let q = w .sized .most in omega (arith, total-bound 8 (cap t) (W t) [] id)
+
+  pub release-by : releaseBy t id ≡ takes 7 holds t id
+  release-by = release-takes t id some inside held few
+
+  pub u-word : (b f : ℕ) → f ≤ spare → f ≢ holds → f ≢ places → W (settled t (slot id)) b f ≡ W t b f
+  u-word = settled-word t id some inside held few
+
+  pub u-inv : Inv (settled t (slot id)) (id ∷ [])
+  unfolding settled settledN
+  u-inv =
+      let e11 = settled-holds t id some inside held few in
+      let e12 = settled-places t id some inside held few in
+      settle-inv (t .arena) (t .nodes) (t .find) id (settled t (slot id) .nodes) inv live (settled-recounted t id some inside held few)
+      (omega arith) (omega arith)
+    where
+      settle-inv : (a : Arena) (l : Nodes) (f : List ℕ) (x : ℕ) (l′ : Nodes) → Inv (tablesOf a l f) [] → Live (a .capacity) (wordOf l) x → Recounted (slot x) l l′
+          → wordOf l′ (slot x) places ≡ wordOf l (slot x) places + 1 → 1 ≤ wordOf l′ (slot x) holds + wordOf l′ (slot x) places → Inv (tablesOf a l′ f) (x ∷ [])
+      settle-inv a l f x l′ v lv r e k =
+          move-inv a l l′ f [] (x ∷ []) x v lv r (λ y z q. occ-there y x [] q) (omega (arith, occ-here x [], occ-nil x)) k
+
+  u-cap : cap (settled t (slot id)) ≡ cap t
+  unfolding settled settledN
+  u-cap = refl
+
+  u-content : Content n tallest (cap t) (W (settled t (slot id)))
+  u-content =
+      content-recount n tallest (cap t) (W t) (W (settled t (slot id))) m (λ b f k. u-word b f (omega arith) (omega arith) (omega arith))
+      (λ b k h. let o = w .nodes b (k, h) .few in cases (ℕ-discrete b (slot id))
+      (λ (q : b ≡ slot id). subst (λ (z : ℕ). W (settled t (slot id)) z holds ≤ 1000000) (sym q)
+      (let e = settled-holds t id some inside held few in let o2 : W t (slot id) holds ≤ 1000000 = subst (λ (z : ℕ). W t z holds ≤ 1000000) q o in omega arith))
+      (λ q. let e = settled-recounted t id some inside held few .others b holds q (omega arith) in omega arith))
+      (wf-content n tallest t w)
+
+  pub u-low : (b : ℕ) → b < cap t → floor ≤ W (settled t (slot id)) b own → W (settled t (slot id)) b height < 7
+  u-low b l h =
+      let e = u-word b own (omega arith) (omega arith) (omega arith) in
+      let e10 = u-word b height (omega arith) (omega arith) (omega arith) in
+      let p = node-low m l (w .sized .most) (w .nodes b (l, omega arith)) in
+      omega arith
+
+  dropped : Dropped (settled t (slot id)) (releaseBy t id) []
+  unfolding releaseBy
+  dropped = drop-good 7 (settled t (slot id)) id [] u-inv
+      (λ d. u-low (slot id) (live .low) (let e = u-word (slot id) own (omega arith) (omega arith) (omega arith) in let i = live .is in let h = live .high in omega arith))
+
+  -- a hold less, and a place more
+  less-u : (b f : ℕ) → f ≤ spare → f ≢ places → W (settled t (slot id)) b f ≡ W (lessOf holds t id) b f
+  less-u b f k d = cases (ℕ-discrete f holds)
+      (λ (q : f ≡ holds). subst (λ (z : ℕ). W (settled t (slot id)) b z ≡ W (lessOf holds t id) b z) (sym q) (same-holds b))
+      (λ q. u-word b f k q d ∙ sym (less-word holds t id b f q))
+    where
+      same-holds : (b : ℕ) → W (settled t (slot id)) b holds ≡ W (lessOf holds t id) b holds
+      same-holds b = cases (ℕ-discrete b (slot id))
+          (λ (q : b ≡ slot id). subst (λ (z : ℕ). W (settled t (slot id)) z holds ≡ W (lessOf holds t id) z holds) (sym q) (settled-holds t id some inside held few ∙ sym (less-at holds t id (omega arith) (omega arith))))
+          (λ q. settled-recounted t id some inside held few .others b holds q (omega arith) ∙ sym (less-slot t id b q))
+
+  after-frame : Frame (cap t) (W (settled t (slot id))) (W (releaseBy t id))
+  after-frame = subst (λ (c : ℕ). Frame c (W (settled t (slot id))) (W (releaseBy t id))) u-cap (dropped .frame)
+
+  after-cap : cap (releaseBy t id) ≡ cap t
+  after-cap = dropped .size ∙ u-cap
+
+  after-counts : Counts 8 (cap t) (W (releaseBy t id)) []
+  after-counts = subst (λ (c : ℕ). Counts 8 c (W (releaseBy t id)) []) after-cap (dropped .inv .counts)
+
+  pub release-good : Released n tallest t id (releaseBy t id)
+  release-good = record {
+    well = inv-wf n tallest (releaseBy t id) (dropped .inv)
+        (subst (λ (c : ℕ). Content n tallest c (W (releaseBy t id))) (sym after-cap)
+        (content-frame n tallest (cap t) (W (settled t (slot id))) (W (releaseBy t id)) [] m after-counts after-frame u-content));
+    size = after-cap;
+    frame = record {
+      kept = λ b l h f k d. after-frame .kept b l h f k d ∙ less-u b f k d;
+      held = λ b l h k.
+          let e = less-u b own (omega arith) (omega arith) in
+          let e11 = less-u b holds (omega arith) (omega arith) in
+          after-frame .held b l (omega arith) (omega arith);
+    };
+    lives = λ y.
+        let r = lives-iff (cap t) (W (settled t (slot id))) (W (releaseBy t id)) after-counts after-frame 7 u-low y in (
+          (λ v.
+              let q = r .0 v in (
+                q .0,
+                live-same (cap t) (W (settled t (slot id))) (W t) (q .0) (sym (u-word (slot (q .0)) own (omega arith) (omega arith) (omega arith))) (q .1),
+                (let e = less-u (slot (q .0)) holds (omega arith) (omega arith) in let z = q .2 in omega arith),
+                under-map (W (settled t (slot id))) (W t) (λ b f k. sym (u-word b f (omega arith) (omega arith) (omega arith))) (q .0) y (q .3),
+              )),
+          (λ q. r .1 (
+            q .0,
+            live-same (cap t) (W t) (W (settled t (slot id))) (q .0) (u-word (slot (q .0)) own (omega arith) (omega arith) (omega arith)) (q .1),
+            (let e = less-u (slot (q .0)) holds (omega arith) (omega arith) in let z = q .2 in omega arith),
+            under-map (W t) (W (settled t (slot id))) (λ b f k. u-word b f (omega arith) (omega arith) (omega arith)) (q .0) y (q .3),
+          )),
+        );
+  }
+
+-- ---- the two theorems
+
+release-refused : (t : Tables) (id : ℕ) → releaseNo t id ≢ 0 → releaseAny t id ≡ releaseOf t id
+unfolding releaseAny releaseOf
+release-refused t id d = rw (ne-eqb (releaseNo t id) 0 d)
+
+release-empty : (t : Tables) (id : ℕ) → id ≡ 0 → releaseAny t id ≡ releaseOf t id
+unfolding releaseAny releaseOf
+release-empty t id e = let q = takes-empty 6 holds t id e in rw (eq-eqb id 0 e, q)
+
+release-done : (t : Tables) (id : ℕ) → releaseNo t id ≡ 0 → id ≢ 0 → releaseBy t id ≡ takes 7 holds t id → releaseAny t id ≡ releaseOf t id
+unfolding releaseAny releaseOf
+release-done t id z d e = rw (eq-eqb (releaseNo t id) 0 z, ne-eqb id 0 d) (ap (did 0) e)
+
+release-unsized : (t : Tables) (id : ℕ) → fits t ≡ false → releaseNo t id ≢ 0
+unfolding releaseNo
+release-unsized t id u z = let y : _≡_ {A = ℕ} 1 0 = (rw u at z) in omega arith
+
+-- the code's answer is the definition's
+pub release-law : (t : Tables) (id : ℕ) (x : Out) → x ≡ releaseAny t id → (n tallest : ℕ) → n ≤ 8 → tallest ≤ 6 → Fair n tallest t → x ≡ releaseOf t id
+release-law t id x e n tallest m low (inl u) = e ∙ release-refused t id (release-unsized t id u)
+release-law t id x e n tallest m low (inr w) = e ∙ cases (ℕ-discrete (releaseNo t id) 0)
+    (λ z. cases (ℕ-discrete id 0)
+    (λ y. release-empty t id y)
+    (λ y. let r = release-live t id z y in release-done t id z y (release-by n tallest t m low w id (live-is t id (r .0)) (r .1))))
+    (λ z. release-refused t id z)
+
+release-after-refused : (t : Tables) (id : ℕ) → releaseNo t id ≢ 0 → t ≡ releaseOf t id .after
+unfolding releaseOf
+release-after-refused t id d = rw (ne-eqb (releaseNo t id) 0 d)
+
+release-after-empty : (t : Tables) (id : ℕ) → releaseNo t id ≡ 0 → id ≡ 0 → t ≡ releaseOf t id .after
+unfolding releaseOf
+release-after-empty t id z e = rw (eq-eqb (releaseNo t id) 0 z) (sym (takes-empty 6 holds t id e))
+
+release-after : (t : Tables) (id : ℕ) → releaseNo t id ≡ 0 → takes 7 holds t id ≡ releaseOf t id .after
+unfolding releaseOf
+release-after t id z = rw (eq-eqb (releaseNo t id) 0 z)
+
+-- an accepted release of a node
+pub release-released : (n tallest : ℕ) (t : Tables) (id : ℕ) → n ≤ 8 → tallest ≤ 6 → WellFormed n tallest t → releaseNo t id ≡ 0 → id ≢ 0 → Released n tallest t id (releaseOf t id .after)
+release-released n tallest t id m low w z y =
+    let r = release-live t id z y in
+    subst (λ (u : Tables). Released n tallest t id u) (release-by n tallest t m low w id (live-is t id (r .0)) (r .1) ∙ release-after t id z)
+    (release-good n tallest t m low w id (live-is t id (r .0)) (r .1))
+
+-- and well formed stays well formed
+pub release-well : (n tallest : ℕ) (t : Tables) (id : ℕ) → n ≤ 8 → tallest ≤ 6 → WellFormed n tallest t → WellFormed n tallest (releaseOf t id .after)
+release-well n tallest t id m low w = cases (ℕ-discrete (releaseNo t id) 0)
+    (λ z. cases (ℕ-discrete id 0)
+    (λ y. subst (λ (u : Tables). WellFormed n tallest u) (release-after-empty t id z y) w)
+    (λ y. release-released n tallest t id m low w z y .well))
+    (λ z. subst (λ (u : Tables). WellFormed n tallest u) (release-after-refused t id z) w)

@@ -1,0 +1,310 @@
+-- What each public call answers and leaves. On tables that are not sized: refusal 1, nothing changed. On well-formed tables: exactly this.
+use mathlib.Core.Path.{_≡_}
+use mathlib.Core.Logic.{_⊎_}
+use mathlib.Core.Bool.{Bool, true, false}
+use mathlib.Core.List.{List, [], _∷_}
+use Prim.Native.Nat.{ℕ, zero, suc, _+_, _-_, _*_, _^_}
+use lib.Dec.{eqb, leb, ltb}
+use lib.ListN.{length, replicate}
+use Rattle.basics.specs.Pick.{pick}
+use Rattle.ids.specs.Ids.{empty, invalid, isLeaf, generationOf}
+use Rattle.nodes.specs.Tally.{occ, kidsOf}
+use Rattle.ids.specs.declared.BlockId.{BlockId}
+use Rattle.nodes.specs.Words.{Nodes, nodes, Words, wordOf, putOf, written, own, value, holds, places, link, slot, floor}
+use Rattle.finding.specs.Cells.{insertAt, remove}
+use Rattle.finding.specs.Content.{agree, homeFor, homeAt}
+use Rattle.arena.specs.Node.{nextGeneration, leafId, branchId, valueFor, heightFor}
+use Rattle.arena.specs.Tables.{Tables, tablesOf, tables, cap, W, WellFormed}
+use Rattle.arena.specs.declared.Answer.{Answer}
+use Rattle.arena.specs.declared.Arena.{Arena}
+use Rattle.arena.specs.declared.Counted.{Counted}
+use Rattle.arena.specs.declared.Made.{Made}
+
+-- ## Answers: a number, an id, and the arena afterwards
+
+pub record Out : Type 0 where
+  pub no : ℕ
+  pub id : ℕ
+  pub after : Tables
+
+abbrev pub said : ℕ → ℕ → Tables → Out
+said x id t = record { no = x; id = id; after = t }
+
+-- a refusal returns its number with id INVALID, and changes nothing lent
+abbrev pub refused : ℕ → Tables → Out
+refused x t = said x invalid t
+
+-- a call that answers no id
+abbrev pub did : ℕ → Tables → Out
+did x t = said x empty t
+
+-- the raw numbers of ids
+unfoldable pub rawIds : List BlockId → List ℕ
+rawIds [] = []
+rawIds (b ∷ bs) = b .0 ∷ rawIds bs
+
+-- what the code's answer and the lists afterwards come to
+abbrev pub made : Made → List ℕ → List ℕ → List ℕ → Out
+made r k f e = said (r .no) (r .id .0) (tables (r .arena) k f e)
+
+abbrev pub answered : Answer → List ℕ → List ℕ → List ℕ → Out
+answered r k f e = did (r .no) (tables (r .arena) k f e)
+
+-- ## Refusals
+
+-- not refusal 1: capacity 2 to 65,536, and each table's length the one fixed for it: 8 and 7 words and 3 cells a slot
+unfoldable pub fitOf : ℕ → ℕ → ℕ → ℕ → Bool
+fitOf c k f e =
+    pick (leb 2 c) (pick (leb c 65536) (pick (eqb k (8 * c)) (pick (eqb f (7 * c)) (eqb e (3 * c)) false) false) false) false
+
+abbrev pub fits : Tables → Bool
+fits t = fitOf (cap t) (length (t .nodes .kids)) (length (t .nodes .facts)) (length (t .find))
+
+-- the tables of which a contract speaks: not sized, or well formed
+abbrev pub Fair : ℕ → ℕ → Tables → Type 0
+Fair n tallest t = (fits t ≡ false) ⊎ WellFormed n tallest t
+
+-- an id is live exactly if it is, in all 64 bits, the id of a node now in the arena
+unfoldable pub liveOf : ℕ → Words → ℕ → Bool
+liveOf c W id = pick (ltb (slot id) c) (pick (leb floor id) (eqb (W (slot id) own) id) false) false
+
+-- refusal 10: the node in slot s already has 1,000,000 holds
+unfoldable pub fullOf : Words → ℕ → Bool
+fullOf W s = leb 1000000 (W s holds)
+
+-- not refusal 11: there is a free slot (capacity - 1 - live is not 0)
+unfoldable pub roomOf : Arena → Bool
+roomOf a = ltb (a .live) (a .capacity - 1)
+
+-- ## A hold: the caller gets one hold on the node in slot s
+
+unfoldable pub heldAt : Tables → ℕ → Tables
+heldAt t s = tablesOf (t .arena) (putOf (t .nodes) s holds (W t s holds + 1)) (t .find)
+
+-- ## A fresh node
+
+-- fresh slot: the last one freed, else the lowest never used
+unfoldable pub freshSlot : Arena → ℕ
+freshSlot a = pick (eqb (a .top) 0) (a .next) (a .top)
+
+-- the state once it is given out
+unfoldable pub slotGiven : Arena → Words → Arena
+slotGiven a W = record {
+  capacity = a .capacity;
+  next = pick (eqb (a .top) 0) (a .next + 1) (a .next);
+  top = pick (eqb (a .top) 0) 0 (W (a .top) link);
+  live = a .live + 1;
+}
+
+-- its facts in order: its id, value and height, h holds and p places; link and spare are 0
+unfoldable pub freshFacts : ℕ → ℕ → ℕ → ℕ → ℕ → List ℕ
+freshFacts id v up h p = id ∷ v ∷ up ∷ h ∷ p ∷ 0 ∷ 0 ∷ []
+
+-- eight EMPTY children
+unfoldable pub empties : List ℕ
+empties = 0 ∷ 0 ∷ 0 ∷ 0 ∷ 0 ∷ 0 ∷ 0 ∷ 0 ∷ []
+
+-- its slot stands in the first empty cell from its home on
+unfoldable pub named : Tables → List ℕ → ℕ → ℕ → List ℕ
+named t ks v s = insertAt (λ x. false) (t .find) (homeFor (cap t) ks v) s
+
+-- ## Intern leaf: the live node of that value if there is one, else a fresh one; the caller gets one hold
+
+-- a slot below k of which p is true, or 0 for none (slot 0 has no node)
+unfoldable pub findSlot : (ℕ → Bool) → ℕ → ℕ
+findSlot p zero = 0
+findSlot p (suc k) = let on = findSlot p k in pick (p k) k on
+
+-- slot s has the leaf of value v. (An own word with the leaf flag is the id of a live leaf)
+unfoldable pub leafIn : Tables → ℕ → ℕ → Bool
+leafIn t v s = pick (isLeaf (W t s own)) (eqb (W t s value) v) false
+
+unfoldable pub leafSlot : Tables → ℕ → ℕ
+leafSlot t v = findSlot (leafIn t v) (cap t)
+
+-- refusals 1, 6, 10 (there is one) and 11 (there is none), the lowest that applies
+unfoldable pub internLeafNo : Tables → ℕ → ℕ
+internLeafNo t v =
+    pick (fits t)
+    (pick (eqb v 0) 6
+    (pick (eqb (leafSlot t v) 0) (pick (roomOf (t .arena)) 0 11) (pick (fullOf (W t) (leafSlot t v)) 10 0)))
+    1
+
+-- a fresh leaf, with one hold
+unfoldable pub leafMade : Tables → ℕ → Out
+leafMade t v =
+    let s = freshSlot (t .arena) in
+    let id = leafId s (generationOf (W t s own)) in
+    said 0 id (tablesOf (slotGiven (t .arena) (W t)) (written (t .nodes) s empties (freshFacts id v 0 1 0)) (named t empties v s))
+
+unfoldable pub internLeafOf : Tables → ℕ → Out
+internLeafOf t v =
+    pick (eqb (internLeafNo t v) 0)
+    (pick (eqb (leafSlot t v) 0) (leafMade t v) (said 0 (W t (leafSlot t v) own) (heldAt t (leafSlot t v))))
+    (refused (internLeafNo t v) t)
+
+-- ## Release: takes one hold. A node with both counts 0 is recycled, and then its eight children are released in octant order, each
+-- completely before the next (a child's place ends, as the hold did)
+
+-- recycled: value 0, both counts 0, generation one higher, or 0 where that would reach 0x7FFE; linked to the one freed before it
+unfoldable pub deadFacts : ℕ → ℕ → List ℕ
+deadFacts o top = nextGeneration (generationOf o) * 2 ^ 32 ∷ 0 ∷ 0 ∷ 0 ∷ 0 ∷ top ∷ 0 ∷ []
+
+-- children EMPTY; its slot is on top of the freed ones, and no longer in the finding table
+unfoldable pub recycled : Tables → ℕ → Tables
+recycled t s =
+    tablesOf (record { capacity = t .arena .capacity; next = t .arena .next; top = s; live = t .arena .live - 1 })
+    (written (t .nodes) s empties (deadFacts (W t s own) (t .arena .top))) (remove (homeAt (cap t) (W t)) (t .find) s)
+
+-- one less in a count f, holds or places, of the node of id
+unfoldable pub lessOf : ℕ → Tables → ℕ → Tables
+lessOf f t id = tablesOf (t .arena) (putOf (t .nodes) (slot id) f (W t (slot id) f - 1)) (t .find)
+
+-- both counts are 0
+unfoldable pub unusedOf : Tables → ℕ → Bool
+unusedOf t id = pick (eqb (W t (slot id) holds) 0) (eqb (W t (slot id) places) 0) false
+
+-- one after the other
+unfoldable pub each : {A : Type 0} → (A → ℕ → A) → A → List ℕ → A
+each g t [] = t
+each g t (y ∷ ys) = each g (g t y) ys
+
+-- one of a count is taken, k levels down at most: no node is taller than k - 1. EMPTY: nothing
+unfoldable pub takes : ℕ → ℕ → Tables → ℕ → Tables
+takes zero f t id = t
+takes (suc k) f t id =
+    let less = lessOf f t id in
+    let gone = each (takes k places) (recycled less (slot id)) (kidsOf 8 (W less) (slot id)) in
+    let left = pick (unusedOf less id) gone less in
+    pick (eqb id 0) t left
+
+-- refusals 1, 4, 5
+unfoldable pub releaseNo : Tables → ℕ → ℕ
+releaseNo t id =
+    pick (fits t) (pick (eqb id 0) 0 (pick (liveOf (cap t) (W t) id) (pick (eqb (W t (slot id) holds) 0) 5 0) 4)) 1
+
+unfoldable pub releaseOf : Tables → ℕ → Out
+releaseOf t id = pick (eqb (releaseNo t id) 0) (did 0 (takes 7 holds t id)) (did (releaseNo t id) t)
+
+-- ## Hold: EMPTY is accepted and changes nothing. Refusals 1, 4, 10
+
+unfoldable pub holdNo : Tables → ℕ → ℕ
+holdNo t id =
+    pick (fits t) (pick (eqb id 0) 0 (pick (liveOf (cap t) (W t) id) (pick (fullOf (W t) (slot id)) 10 0) 4)) 1
+
+unfoldable pub holdOf : Tables → ℕ → Out
+holdOf t id = pick (eqb (holdNo t id) 0) (did 0 (pick (eqb id 0) t (heldAt t (slot id)))) (did (holdNo t id) t)
+
+-- ## Counts: holds and places of a live node, 0 and 0 of EMPTY. Refusals 1, 4
+
+pub record Numbers : Type 0 where
+  pub no : ℕ
+  pub holds : ℕ
+  pub places : ℕ
+
+abbrev pub numbers : ℕ → ℕ → ℕ → Numbers
+numbers x h p = record { no = x; holds = h; places = p }
+
+unfoldable pub countsOf : Tables → ℕ → Numbers
+countsOf t id =
+    pick (fits t)
+    (pick (eqb id 0) (numbers 0 0 0)
+    (pick (liveOf (cap t) (W t) id) (numbers 0 (W t (slot id) holds) (W t (slot id) places)) (numbers 4 0 0)))
+    (numbers 1 0 0)
+
+abbrev pub counted : Counted → Numbers
+counted r = numbers (r .no) (r .holds) (r .places)
+
+-- ## A fresh arena clears every slot, with generation 0 and none given out. Refusal 1
+
+abbrev pub fresh : ℕ → Arena
+fresh c = record { capacity = c; next = 1; top = 0; live = 0 }
+
+unfoldable pub freshOf : ℕ → List ℕ → List ℕ → List ℕ → Out
+freshOf c k f e =
+    pick (fitOf c (length k) (length f) (length e))
+    (did 0 (tables (fresh c) (replicate (length k) 0) (replicate (length f) 0) (replicate (length e) 0)))
+    (did 1 (tables (fresh c) k f e))
+
+-- ## Intern branch: the live node of those eight ids if there is one, else a fresh one; the caller gets one hold. It uses up one of the
+-- caller's holds for each child place that isn't EMPTY. On a hit those holds just end; on a fresh node they become places
+
+-- is p true of each?
+unfoldable pub allOf : (ℕ → Bool) → List ℕ → Bool
+allOf p [] = true
+allOf p (k ∷ ks) = let rest = allOf p ks in pick (p k) rest false
+
+-- EMPTY or live
+unfoldable pub liveOrEmpty : ℕ → Words → ℕ → Bool
+liveOrEmpty c W k = pick (eqb k 0) true (liveOf c W k)
+
+-- EMPTY, or it has the holds that the call would take, one for each place of it among ks
+unfoldable pub enoughFor : Words → List ℕ → ℕ → Bool
+enoughFor W ks k = pick (eqb k 0) true (leb (occ k ks) (W (slot k) holds))
+
+-- not refusal 4: each id is EMPTY or live
+abbrev pub allLive : ℕ → Words → List ℕ → Bool
+allLive c W ks = allOf (liveOrEmpty c W) ks
+
+-- not refusal 5: no fewer holds than the call would take
+abbrev pub enough : Words → List ℕ → Bool
+enough W ks = allOf (enoughFor W ks) ks
+
+-- refusal 7: eight EMPTY children
+unfoldable pub noneOf : List ℕ → Bool
+noneOf ks = allOf (λ k. eqb k 0) ks
+
+-- slot s has the live node of the eight ids
+unfoldable pub branchIn : Tables → List ℕ → ℕ → Bool
+branchIn t ks s = pick (leb floor (W t s own)) (agree (W t) s 0 ks) false
+
+unfoldable pub branchSlot : Tables → List ℕ → ℕ
+branchSlot t ks = findSlot (branchIn t ks) (cap t)
+
+-- refusals 1, 4, 5, 7, 8 (taller than allowed), 10 (there is one) and 11 (there is none), the lowest that applies
+unfoldable pub internBranchNo : ℕ → ℕ → Tables → List ℕ → ℕ
+internBranchNo n tallest t ks =
+    pick (fits t)
+    (pick (allLive (cap t) (W t) ks)
+    (pick (enough (W t) ks)
+    (pick (noneOf ks) 7
+    (pick (leb (heightFor n (W t) ks) tallest)
+    (pick (eqb (branchSlot t ks) 0) (pick (roomOf (t .arena)) 0 11) (pick (fullOf (W t) (branchSlot t ks)) 10 0))
+    8))
+    5)
+    4)
+    1
+
+-- a hold on the node of k ends; EMPTY: nothing
+unfoldable pub unheldKid : Nodes → ℕ → Nodes
+unheldKid x k = pick (eqb k 0) x (putOf x (slot k) holds (wordOf x (slot k) holds - 1))
+
+-- the holds end
+abbrev pub unheld : Nodes → List ℕ → Nodes
+unheld x ks = each unheldKid x ks
+
+-- a hold on the node of k becomes a place; EMPTY: nothing
+unfoldable pub placedKid : Nodes → ℕ → Nodes
+placedKid x k =
+    pick (eqb k 0) x (putOf (putOf x (slot k) holds (wordOf x (slot k) holds - 1)) (slot k) places (wordOf x (slot k) places + 1))
+
+-- the holds become places
+abbrev pub placed : Nodes → List ℕ → Nodes
+placed x ks = each placedKid x ks
+
+-- a fresh branch, with one hold
+unfoldable pub branchMade : ℕ → Tables → List ℕ → Out
+branchMade n t ks =
+    let s = freshSlot (t .arena) in
+    let id = branchId ks s (generationOf (W t s own)) in
+    let v = valueFor n (W t) ks in
+    said 0 id
+    (tablesOf (slotGiven (t .arena) (W t)) (written (placed (t .nodes) ks) s ks (freshFacts id v (heightFor n (W t) ks) 1 0))
+    (named t ks v s))
+
+unfoldable pub internBranchOf : ℕ → ℕ → Tables → List ℕ → Out
+internBranchOf n tallest t ks =
+    pick (eqb (internBranchNo n tallest t ks) 0)
+    (pick (eqb (branchSlot t ks) 0) (branchMade n t ks)
+    (said 0 (W t (branchSlot t ks) own) (heldAt (tablesOf (t .arena) (unheld (t .nodes) ks) (t .find)) (branchSlot t ks))))
+    (refused (internBranchNo n tallest t ks) t)

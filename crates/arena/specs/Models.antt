@@ -1,0 +1,172 @@
+-- What the private functions leave, of any tables: mirrors of the code. No reader has to believe them: the public contracts cite `Calls`.
+use mathlib.Core.List.{List, []}
+use Prim.Native.Nat.{ℕ, zero, suc, _+_, _-_, _/_, _%_, _^_}
+use lib.Dec.{eqb, leb, ltb}
+use lib.ListN.{getD, set}
+use Rattle.basics.specs.Pick.{pick}
+use Rattle.basics.specs.Sums.{sumTo}
+use Rattle.ids.specs.Ids.{generationOf, newLeaf, newBranch}
+use Rattle.nodes.specs.Tally.{kidsOf}
+use Rattle.nodes.specs.Words.{Nodes, Words, wordOf, putOf, written, own, holds, places, link, slot}
+use Rattle.finding.specs.Cells.{cellOf}
+use Rattle.arena.specs.Calls.{Out, said, refused, did, fits, fullOf, roomOf, heldAt, freshSlot, freshFacts, empties, recycled, each, releaseNo, noneOf, unheld, allLive, enough}
+use Rattle.arena.specs.Node.{leafId, branchId, kidTypes, kidMask}
+use Rattle.nodes.specs.Values.{valueAt, heightAt, maxTo}
+use Rattle.arena.specs.Tables.{Tables, tablesOf, cap, W}
+use Rattle.arena.specs.declared.Arena.{Arena}
+
+-- ## Recycling
+
+unfoldable pub unplaced : Tables → ℕ → Tables
+unplaced t s = tablesOf (t .arena) (putOf (t .nodes) s places (W t s places - 1)) (t .find)
+
+-- what one place taken from x comes to: the tables, and the ids that are then owed, none unless the slot was recycled
+pub record Step : Type 0 where
+  pub after : Tables
+  pub owed : List ℕ
+
+abbrev pub stepOf : Tables → List ℕ → Step
+stepOf t l = record { after = t; owed = l }
+
+unfoldable pub step : Tables → ℕ → Step
+step t x =
+    pick (eqb x 0) (stepOf t [])
+    (pick (eqb (W t (slot x) holds) 0)
+    (pick (leb (W t (slot x) places) 1) (stepOf (recycled t (slot x)) (kidsOf 8 (W t) (slot x))) (stepOf (unplaced t (slot x)) []))
+    (stepOf (unplaced t (slot x)) []))
+
+unfoldable pub dropOne : (Tables → ℕ → Tables) → Tables → ℕ → Tables
+dropOne rec t x = each rec (step t x .after) (step t x .owed)
+
+-- takes one place from x; the last one recycles its slot and drops its children in turn, k levels down at most
+unfoldable pub dropPlace : ℕ → Tables → ℕ → Tables
+dropPlace zero t x = t
+dropPlace (suc k) t x = dropOne (dropPlace k) t x
+
+-- ## A fresh node
+
+-- one more, running over at 2^64
+unfoldable pub moreOf : ℕ → ℕ
+moreOf x = (x + 1) % 2 ^ 64
+
+-- the state once a slot is given out
+unfoldable pub givenOut : Arena → Words → Arena
+givenOut a W = record {
+  capacity = a .capacity;
+  next = pick (eqb (a .top) 0) (moreOf (a .next)) (a .next);
+  top = pick (eqb (a .top) 0) 0 (W (a .top) link);
+  live = moreOf (a .live);
+}
+
+-- the id of a fresh node with the children ks
+unfoldable pub idOf : List ℕ → ℕ → ℕ → ℕ
+idOf ks s g = pick (noneOf ks) (leafId s g) (branchId ks s g)
+
+-- a fresh node that is written with the id `id`, of the content (ks, v), with h holds and p places
+unfoldable pub writtenNodes : Tables → ℕ → List ℕ → ℕ → ℕ → ℕ → ℕ → Nodes
+writtenNodes t id ks v up h p = written (t .nodes) (freshSlot (t .arena)) ks (freshFacts id v up h p)
+
+-- and named in the cell `at`
+unfoldable pub writtenAt : Tables → ℕ → List ℕ → ℕ → ℕ → ℕ → ℕ → ℕ → Tables
+writtenAt t id ks v up h p at =
+    tablesOf (givenOut (t .arena) (W t)) (writtenNodes t id ks v up h p) (set (t .find) at (freshSlot (t .arena) % 65536))
+
+abbrev pub ownFor : Tables → List ℕ → ℕ
+ownFor t ks = idOf ks (freshSlot (t .arena)) (generationOf (W t (freshSlot (t .arena)) own))
+
+-- the same with its own id
+abbrev pub madeNodes : Tables → List ℕ → ℕ → ℕ → ℕ → ℕ → Nodes
+madeNodes t ks v up h p = writtenNodes t (ownFor t ks) ks v up h p
+
+abbrev pub madeAt : Tables → List ℕ → ℕ → ℕ → ℕ → ℕ → ℕ → Tables
+madeAt t ks v up h p at = writtenAt t (ownFor t ks) ks v up h p at
+
+-- ## Intern leaf
+
+-- the cell where the search for a content ends
+abbrev pub cellFor : Tables → List ℕ → ℕ → ℕ
+cellFor t ks v = cellOf (t .find) (cap t) (W t) ks v
+
+unfoldable pub hitBy : Tables → ℕ → Out
+hitBy t s = pick (fullOf (W t) s) (refused 10 t) (said 0 (W t s own) (heldAt t s))
+
+unfoldable pub leafMissBy : Tables → ℕ → ℕ → Out
+leafMissBy t v at =
+    let id = newLeaf (freshSlot (t .arena) % 2 ^ 32) (generationOf (W t (freshSlot (t .arena)) own)) in
+    pick (roomOf (t .arena)) (said 0 id (writtenAt t id empties v 0 1 0 at)) (refused 11 t)
+
+-- once the search has ended at the cell `at`, which names s
+unfoldable pub leafAt : Tables → ℕ → ℕ → ℕ → Out
+leafAt t v s at = pick (eqb s 0) (leafMissBy t v at) (hitBy t s)
+
+unfoldable pub leafBy : Tables → ℕ → Out
+leafBy t v = leafAt t v (getD (t .find) (cellFor t empties v) 0) (cellFor t empties v)
+
+unfoldable pub internLeafBy : Tables → ℕ → Out
+internLeafBy t v = pick (fits t) (pick (eqb v 0) (refused 6 t) (leafBy t v)) (refused 1 t)
+
+-- ## Release
+
+-- a hold becomes a place that is owed
+unfoldable pub settledN : Nodes → ℕ → Nodes
+settledN x s = putOf (putOf x s holds (wordOf x s holds - 1)) s places (moreOf (wordOf x s places))
+
+unfoldable pub settled : Tables → ℕ → Tables
+settled t s = tablesOf (t .arena) (settledN (t .nodes) s) (t .find)
+
+unfoldable pub releaseBy : Tables → ℕ → Tables
+releaseBy t id = dropPlace 7 (settled t (slot id)) id
+
+unfoldable pub releaseAny : Tables → ℕ → Out
+releaseAny t id = pick (eqb (releaseNo t id) 0) (did 0 (pick (eqb id 0) t (releaseBy t id))) (did (releaseNo t id) t)
+
+-- ## Intern branch
+
+-- each hold a place
+unfoldable pub settledKid : Nodes → ℕ → Nodes
+settledKid x k = pick (eqb k 0) x (settledN x (slot k))
+
+abbrev pub settles : Nodes → List ℕ → Nodes
+settles x ks = each settledKid x ks
+
+-- the sum of the stored values, as the code adds them
+unfoldable pub wrapSum : Words → List ℕ → ℕ → ℕ
+wrapSum W ks n = sumTo n (λ i. valueAt W (getD ks i 0) % 65536)
+
+-- the height of the tallest of the children
+unfoldable pub topFor : Words → List ℕ → ℕ → ℕ
+topFor W ks n = maxTo n (λ i. heightAt W (getD ks i 0))
+
+-- the stored value, as the code works it out
+unfoldable pub valueBy : ℕ → Words → List ℕ → ℕ
+valueBy n W ks = wrapSum W ks n / n
+
+-- one hold more
+unfoldable pub heldBy : Tables → ℕ → Tables
+heldBy t s = tablesOf (t .arena) (putOf (t .nodes) s holds (moreOf (W t s holds))) (t .find)
+
+unfoldable pub branchMissBy : Tables → List ℕ → ℕ → ℕ → ℕ → Out
+branchMissBy t ks v up at =
+    let id = newBranch (freshSlot (t .arena) % 2 ^ 32) (generationOf (W t (freshSlot (t .arena)) own)) (kidTypes ks) (kidMask ks) in
+    pick (roomOf (t .arena)) (said 0 id (writtenAt (tablesOf (t .arena) (settles (t .nodes) ks) (t .find)) id ks v up 1 0 at)) (refused 11 t)
+
+unfoldable pub branchHitBy : Tables → List ℕ → ℕ → Out
+branchHitBy t ks s =
+    pick (fullOf (W t) s) (refused 10 t) (said 0 (W t s own) (heldBy (tablesOf (t .arena) (unheld (t .nodes) ks) (t .find)) s))
+
+unfoldable pub branchAt : Tables → List ℕ → ℕ → ℕ → ℕ → ℕ → Out
+branchAt t ks v up s at = pick (eqb s 0) (branchMissBy t ks v up at) (branchHitBy t ks s)
+
+unfoldable pub branchBy : ℕ → Tables → List ℕ → ℕ → Out
+branchBy n t ks top =
+    let v = valueBy n (W t) ks in
+    branchAt t ks v (top + 1) (getD (t .find) (cellFor t ks v) 0) (cellFor t ks v)
+
+unfoldable pub kidsNo : Tables → List ℕ → ℕ
+kidsNo t ks = pick (fits t) (pick (allLive (cap t) (W t) ks) (pick (enough (W t) ks) (pick (noneOf ks) 7 0) 5) 4) 1
+
+unfoldable pub branchLow : ℕ → ℕ → Tables → List ℕ → Out
+branchLow n tallest t ks = let top = topFor (W t) ks n in pick (ltb top tallest) (branchBy n t ks top) (refused 8 t)
+
+unfoldable pub internBranchBy : ℕ → ℕ → Tables → List ℕ → Out
+internBranchBy n tallest t ks = pick (eqb (kidsNo t ks) 0) (branchLow n tallest t ks) (refused (kidsNo t ks) t)

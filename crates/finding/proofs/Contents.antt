@@ -1,0 +1,123 @@
+-- A content compared, and the homes: a content's home depends on it alone, and lies below twice the capacity.
+use mathlib.Core.Path.{_≡_, refl, sym, ap, ap₂, _∙_, subst}
+use mathlib.Core.Logic.{_≢_}
+use mathlib.Core.Bool.{Bool, true, false, true≢false}
+use mathlib.Core.List.{List, [], _∷_}
+use Prim.Native.Nat.{ℕ, zero, suc, _+_, _-_, _*_, _/_, _%_, _≤_, _<_}
+use native.Mathlib.Nat.{mod-lt}
+use native.Mathlib.Decide.{ℕ-discrete}
+use native.Mathlib.Omega.{arith}
+use lib.Dec.{eqb}
+use lib.ListN.{length, getD}
+use borrow.Author.Tests.{eq-eqb, ne-eqb, eqb-true}
+use Rattle.basics.specs.Pick.{pick}
+use Rattle.nodes.specs.Tally.{tabFrom, kidsOf}
+use Rattle.nodes.specs.Words.{Nodes, kidOf, wordOf, Words, value, own, height}
+use Rattle.nodes.proofs.Access.{word-kid}
+use Rattle.nodes.proofs.Counts.{kids-same}
+use Rattle.nodes.proofs.Sums.{cases}
+use Rattle.finding.specs.Cells.{stops, probeN, probe, cell}
+use Rattle.finding.specs.Content.{agree, contentIs, hashOf, homeIn, homeFor, homeAt}
+
+-- a list is the table of its elements
+pub tab-list : (ks : List ℕ) (i : ℕ) (f : ℕ → ℕ) → ((j : ℕ) → j < length ks → f (i + j) ≡ getD ks j 0) → tabFrom (length ks) i f ≡ ks
+unfolding tabFrom
+tab-list [] i f h = refl
+tab-list (a ∷ ks) i f h =
+    let e : i + 0 ≡ i = omega arith in
+    ap₂ (λ (z : ℕ) (l : List ℕ). z ∷ l) (ap f (sym e) ∙ h 0 (omega arith))
+    (tab-list ks (suc i) f (λ j l. let e : suc i + j ≡ i + suc j = omega arith in ap f e ∙ h (suc j) (omega arith)))
+
+-- ---- the content compared
+
+pub agree-true : (W : Words) (s i : ℕ) (ks : List ℕ) → ((j : ℕ) → j < length ks → W s (i + j) ≡ getD ks j 0) → agree W s i ks ≡ true
+unfolding agree
+agree-true W s i [] h = refl
+agree-true W s i (k ∷ ks) h =
+    let e : i + 0 ≡ i = omega arith in
+    let w : W s i ≡ k = ap (W s) (sym e) ∙ h 0 (omega arith) in
+    let r = agree-true W s (i + 1) ks (λ j m. let q : i + 1 + j ≡ i + suc j = omega arith in ap (W s) q ∙ h (suc j) (omega arith)) in
+    rw (eq-eqb (W s i) k w) r
+
+pub agree-words : (W : Words) (s i : ℕ) (ks : List ℕ) → agree W s i ks ≡ true → (j : ℕ) → j < length ks → W s (i + j) ≡ getD ks j 0
+unfolding agree
+agree-words W s i [] a j m = absurd (omega arith)
+agree-words W s i (k ∷ ks) a zero m = go (eqb (W s i) k) refl a
+  where
+    go : (b : Bool) → eqb (W s i) k ≡ b → pick b (agree W s (i + 1) ks) false ≡ true → W s (i + 0) ≡ k
+    go true e q = let z : i + 0 ≡ i = omega arith in ap (W s) z ∙ eqb-true (W s i) k e
+    go false e q = absurd (true≢false (sym q))
+agree-words W s i (k ∷ ks) a (suc j) m =
+    let z : i + suc j ≡ i + 1 + j = omega arith in
+    ap (W s) z ∙ agree-words W s (i + 1) ks (go (eqb (W s i) k) a) j (omega arith)
+  where
+    go : (b : Bool) → pick b (agree W s (i + 1) ks) false ≡ true → agree W s (i + 1) ks ≡ true
+    go true q = q
+    go false q = absurd (true≢false (sym q))
+
+pub content-true : (W : Words) (ks : List ℕ) (v s : ℕ) → length ks ≡ 8 → ((i : ℕ) → i < 8 → W s i ≡ getD ks i 0) → W s value ≡ v → contentIs W ks v s ≡ true
+unfolding contentIs
+content-true W ks v s e h k = rw (eq-eqb (W s value) v k) (agree-true W s 0 ks (λ j m. let z : 0 + j ≡ j = omega arith in rw z (h j (omega arith))))
+
+pub content-words : (W : Words) (ks : List ℕ) (v s : ℕ) → length ks ≡ 8 → contentIs W ks v s ≡ true → ((i : ℕ) → i < 8 → W s i ≡ getD ks i 0) × (W s value ≡ v)
+unfolding contentIs
+content-words W ks v s n a = go (eqb (W s value) v) refl a
+  where
+    go : (b : Bool) → eqb (W s value) v ≡ b → pick b (agree W s 0 ks) false ≡ true → ((i : ℕ) → i < 8 → W s i ≡ getD ks i 0) × (W s value ≡ v)
+    go true e q = ((λ i m. let z : 0 + i ≡ i = omega arith in ap (W s) (sym z) ∙ agree-words W s 0 ks q i (omega arith)), eqb-true (W s value) v e)
+    go false e q = absurd (true≢false (sym q))
+
+-- the children are words
+pub agree-kids : (x : Nodes) (s i : ℕ) (ks : List ℕ) → i + length ks ≤ 8 → agree (kidOf (x .kids)) s i ks ≡ agree (wordOf x) s i ks
+unfolding agree
+agree-kids x s i [] h = refl
+agree-kids x s i (k ∷ ks) h =
+    let e = word-kid x s i (omega arith) in
+    let r = agree-kids x s (i + 1) ks (omega arith) in
+    rw (e, r)
+
+-- ---- homes
+
+pub home-same : (cap : ℕ) (W W′ : Words) (s : ℕ) → ((f : ℕ) → f < height → f ≢ own → W′ s f ≡ W s f) → homeAt cap W′ s ≡ homeAt cap W s
+unfolding homeAt homeFor
+home-same cap W W′ s e =
+    let k : kidsOf 8 W′ s ≡ kidsOf 8 W s = kids-same 8 W W′ s (λ i m. e i (omega arith) (omega arith)) in
+    let v : W′ s value ≡ W s value = e value (omega arith) (omega arith) in
+    rw (k, v)
+
+pub home-below : (cap h : ℕ) → 0 < cap → homeIn cap h < 2 * cap
+unfolding homeIn
+home-below cap h l = rw (ne-eqb cap 0 (omega arith)) (let p : h / 2 % cap < cap = mod-lt (h / 2) l in omega arith)
+
+pub home-for-below : (cap : ℕ) (ks : List ℕ) (v : ℕ) → 0 < cap → homeFor cap ks v < 2 * cap
+unfolding homeFor
+home-for-below cap ks v l = home-below cap (hashOf ks v) l
+
+-- the content of a slot is its words
+pub kids-are : (W : Words) (s : ℕ) (ks : List ℕ) → length ks ≡ 8 → ((i : ℕ) → i < 8 → W s i ≡ getD ks i 0) → kidsOf 8 W s ≡ ks
+unfolding kidsOf
+kids-are W s ks e h = subst (λ (n : ℕ). tabFrom n 0 (W s) ≡ ks) e (tab-list ks 0 (W s) (λ j l. let q : 0 + j ≡ j = omega arith in rw q (h j (omega arith))))
+
+pub home-content : (cap : ℕ) (W : Words) (s : ℕ) (ks : List ℕ) (v : ℕ) → length ks ≡ 8 → ((i : ℕ) → i < 8 → W s i ≡ getD ks i 0) → W s value ≡ v
+    → homeAt cap W s ≡ homeFor cap ks v
+unfolding homeAt
+home-content cap W s ks v e h x = rw (kids-are W s ks e h, x)
+
+-- ---- probes
+
+-- two tests that agree on what the table names lead to the same cell
+stops-as : (same other : ℕ → Bool) (x : ℕ) → (0 < x → same x ≡ other x) → stops same x ≡ stops other x
+unfolding stops
+stops-as same other x h = cases (ℕ-discrete x 0) (λ z. rw (eq-eqb x 0 z)) (λ z. rw (ne-eqb x 0 z) (h (omega arith)))
+
+probeN-as : (same other : ℕ → Bool) (t : List ℕ) (f i : ℕ) → ((q : ℕ) → 0 < cell t q → same (cell t q) ≡ other (cell t q)) → probeN same t f i ≡ probeN other t f i
+unfolding probeN
+probeN-as same other t zero i h = refl
+probeN-as same other t (suc f) i h =
+    let e = stops-as same other (getD t i 0) (h i) in
+    let r = probeN-as same other t f (suc i) h in
+    rw (e, r)
+
+pub probe-as : (same other : ℕ → Bool) (t : List ℕ) (i : ℕ) → ((q : ℕ) → 0 < cell t q → same (cell t q) ≡ other (cell t q)) → probe same t i ≡ probe other t i
+unfolding probe
+probe-as same other t i h = probeN-as same other t (length t - i) i h

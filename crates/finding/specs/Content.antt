@@ -1,0 +1,50 @@
+-- A node's content, its value and its eight child ids: compared, and hashed. Hash equality is never enough: contents are compared. No answer
+-- depends on the hash.
+use mathlib.Core.Bool.{Bool, true, false}
+use mathlib.Core.List.{List, [], _∷_}
+use Prim.Native.Nat.{ℕ, _+_, _*_, _/_, _%_, _^_}
+use lib.Dec.{eqb}
+use Rattle.basics.specs.Pick.{pick}
+use Rattle.nodes.specs.Words.{Words, value}
+use Rattle.nodes.specs.Tally.{kidsOf}
+
+-- ## Compared
+
+-- do the words of slot s from i on begin with ks?
+unfoldable pub agree : Words → ℕ → ℕ → List ℕ → Bool
+agree W s i [] = true
+agree W s i (k ∷ ks) = pick (eqb (W s i) k) (agree W s (i + 1) ks) false
+
+-- has slot s the value v and the children ks?
+unfoldable pub contentIs : Words → List ℕ → ℕ → ℕ → Bool
+contentIs W ks v s = pick (eqb (W s value) v) (agree W s 0 ks) false
+
+-- ## Hashed: shift and add, running over at 2^64
+
+unfoldable pub wrap : ℕ → ℕ
+wrap x = x % 2 ^ 64
+
+-- h times 37, and k
+unfoldable pub mixOf : ℕ → ℕ → ℕ
+mixOf h k =
+    let four = wrap (wrap (h + h) + wrap (h + h)) in
+    let eight = wrap (four + four) in
+    let sixteen = wrap (eight + eight) in
+    wrap (wrap (wrap (sixteen + sixteen) + four) + wrap (h + k))
+
+unfoldable pub hashOf : List ℕ → ℕ → ℕ
+hashOf [] h = h
+hashOf (k ∷ ks) h = hashOf ks (mixOf h k)
+
+-- ## Homes: a content's first cell to look at, one of twice as many as there are slots
+
+-- h modulo 2 cap
+unfoldable pub homeIn : ℕ → ℕ → ℕ
+homeIn cap h = pick (eqb cap 0) 0 (2 * (h / 2 % cap) + h % 2)
+
+unfoldable pub homeFor : ℕ → List ℕ → ℕ → ℕ
+homeFor cap ks v = homeIn cap (hashOf ks v)
+
+-- the home of the node in slot s
+unfoldable pub homeAt : ℕ → Words → ℕ → ℕ
+homeAt cap W s = homeFor cap (kidsOf 8 W s) (W s value)

@@ -1,0 +1,614 @@
+// Intern leaf and intern branch: the live node of a content if there is one, else a fresh one. What they answer and leave is in the crate
+// arena's specs/Calls.antt.
+use arena::Arena;
+use arena::Made;
+use arena::fit;
+use arena::grant;
+use arena::is_live;
+use arena::less;
+use arena::settle;
+use arena::slot_of;
+use finding::put_cell;
+use finding::search;
+use ids::BlockId;
+use nodes::HEIGHT;
+use nodes::HOLDS;
+use nodes::LINK;
+use nodes::OWN;
+use nodes::VALUE;
+use nodes::fact;
+use nodes::put_fact;
+use nodes::write_slot;
+use std::num::wrapping_add_u64;
+ghost use mathlib.Core.Path.{_≡_};
+ghost use mathlib.Core.Bool.{not};
+ghost use mathlib.Core.List.{List};
+ghost use Prim.Native.Nat.{ℕ, _%_, _^_, _<_, _≤_, max};
+ghost use lib.Dec.{eqb};
+ghost use Rattle.ids.specs.Ids.{generationOf, isLeaf, newLeaf, newBranch};
+ghost use Rattle.nodes.specs.Tally.{oneIf, occ};
+ghost use Rattle.nodes.specs.Words.{nodes as nodesOf, factOf, slot};
+ghost use Rattle.arena.specs.Calls.{made, Fair, liveOrEmpty, enoughFor, roomOf, freshSlot, each, allLive, enough, noneOf, unheldKid, unheld, internLeafOf, internBranchOf, rawIds};
+ghost use Rattle.arena.specs.Models.{givenOut, hitBy, leafMissBy, leafAt, leafBy, internLeafBy, settledKid, settles, wrapSum, topFor, branchMissBy, branchHitBy, branchAt, branchBy, branchLow, kidsNo, internBranchBy};
+ghost use Rattle.arena.specs.Node.{kidMask, kidTypes};
+ghost use Rattle.nodes.specs.Values.{valueAt, heightAt};
+ghost use Rattle.arena.specs.Tables.{tables};
+
+// Eight EMPTY children.
+const NONE: [u64; 8] = [0, 0, 0, 0, 0, 0, 0, 0];
+
+// The id of a leaf in slot s, whose own word is `o`.
+fn leaf_id(s: usize, o: u64) -> u64
+    ensures { λ r. ⌜ r ≡ newLeaf (s % 2 ^ 32) (generationOf o) ⌝ }
+{
+    let id = BlockId::new_leaf((s % 0x1_0000_0000) as u32, BlockId(o).generation());
+    id.0
+}
+
+// Not refusal 11: is there a free slot?
+fn has_room(a: Arena) -> bool
+    ensures { λ r. ⌜ r ≡ roomOf a ⌝ }
+{
+    (a.live as u64) < less(a.capacity as u64)
+}
+
+// Fresh slot: the last one freed, else the lowest never used.
+fn fresh_slot(a: Arena) -> usize
+    ensures { λ r. ⌜ r ≡ freshSlot a ⌝ }
+{
+    if a.top == 0 {
+        return a.next;
+    }
+    a.top
+}
+
+// The state once the fresh slot is given out.
+fn give(a: Arena, facts: &[u64]) -> Arena
+    ensures { λ r. ⌜ r ≡ givenOut a (factOf (now (facts .entry))) ⌝ }
+{
+    if a.top == 0 {
+        return Arena {
+            capacity: a.capacity,
+            next: wrapping_add_u64(a.next as u64, 1) as usize,
+            top: 0,
+            live: wrapping_add_u64(a.live as u64, 1) as usize,
+        };
+    }
+    let top = fact(facts, a.top, LINK) as usize;
+    Arena {
+        capacity: a.capacity,
+        next: a.next,
+        top: top,
+        live: wrapping_add_u64(a.live as u64, 1) as usize,
+    }
+}
+
+// One hold more on the node in slot s, which is there already.
+fn hit(a: Arena, facts: &mut [u64], s: usize) -> Made
+    ensures { λ r. ⌜ ((k e : List ℕ) → made r k (now (facts .exit)) e ≡ hitBy (tables a k (now (facts .entry)) e) s) ⌝ }
+{
+    let h = fact(facts, s, HOLDS);
+    if 1000000 <= h {
+        return Made {
+            no: 10,
+            id: BlockId::INVALID,
+            arena: a,
+        };
+    }
+    let o = fact(facts, s, OWN);
+    put_fact(facts, s, HOLDS, h + 1);
+    Made {
+        no: 0,
+        id: BlockId(o),
+        arena: a,
+    }
+}
+
+// A fresh leaf, named in the cell `at`.
+fn leaf_miss(
+    a: Arena,
+    kids: &mut [u64],
+    facts: &mut [u64],
+    find: &mut [u16],
+    v: u64,
+    at: usize,
+) -> Made
+    ensures { λ r. ⌜ made r (now (kids .exit)) (now (facts .exit)) (now (find .exit)) ≡ leafMissBy (tables a (now (kids .entry)) (now (facts .entry)) (now (find .entry))) v at ⌝ }
+{
+    if has_room(a) {
+        let s = fresh_slot(a);
+        let id = leaf_id(s, fact(facts, s, OWN));
+        let b = give(a, facts);
+        write_slot(kids, facts, s, NONE, [id, v, 0, 1, 0, 0, 0]);
+        put_cell(find, at, s);
+        return Made {
+            no: 0,
+            id: BlockId(id),
+            arena: b,
+        };
+    }
+    Made {
+        no: 11,
+        id: BlockId::INVALID,
+        arena: a,
+    }
+}
+
+// The leaf of value v, once the search has ended at the cell `at`, which names s.
+fn leaf_at(
+    a: Arena,
+    kids: &mut [u64],
+    facts: &mut [u64],
+    find: &mut [u16],
+    v: u64,
+    s: usize,
+    at: usize,
+) -> Made
+    ensures { λ r. ⌜ made r (now (kids .exit)) (now (facts .exit)) (now (find .exit)) ≡ leafAt (tables a (now (kids .entry)) (now (facts .entry)) (now (find .entry))) v s at ⌝ }
+{
+    if s == 0 {
+        return leaf_miss(a, kids, facts, find, v, at);
+    }
+    hit(a, facts, s)
+}
+
+// The leaf of value v: the live node if there is one, else a fresh one.
+fn leaf(a: Arena, kids: &mut [u64], facts: &mut [u64], find: &mut [u16], v: u64) -> Made
+    ensures { λ r. ⌜ made r (now (kids .exit)) (now (facts .exit)) (now (find .exit)) ≡ leafBy (tables a (now (kids .entry)) (now (facts .entry)) (now (find .entry))) v ⌝ }
+{
+    let f = search(find, kids, facts, a.capacity, NONE, v);
+    leaf_at(a, kids, facts, find, v, f.slot, f.cell)
+}
+
+// Intern leaf on any tables.
+fn leaf_any(a: Arena, kids: &mut [u64], facts: &mut [u64], find: &mut [u16], value: u16) -> Made
+    ensures { λ r. ⌜ made r (now (kids .exit)) (now (facts .exit)) (now (find .exit)) ≡ internLeafBy (tables a (now (kids .entry)) (now (facts .entry)) (now (find .entry))) value ⌝ }
+{
+    if fit(a.capacity, kids.len(), facts.len(), find.len()) {
+        if value == 0 {
+            return Made {
+                no: 6,
+                id: BlockId::INVALID,
+                arena: a,
+            };
+        }
+        return leaf(a, kids, facts, find, value as u64);
+    }
+    Made {
+        no: 1,
+        id: BlockId::INVALID,
+        arena: a,
+    }
+}
+
+// Is the id EMPTY or live?
+fn live_or_empty(capacity: usize, facts: &[u64], k: u64) -> bool
+    ensures { λ r. ⌜ r ≡ liveOrEmpty capacity (factOf (now (facts .entry))) k ⌝ }
+{
+    if k == 0 {
+        return true;
+    }
+    is_live(capacity, facts, k)
+}
+
+// Not refusal 4: is each id EMPTY or live?
+fn all_live(capacity: usize, facts: &[u64], ks: [u64; 8]) -> bool
+    ensures { λ r. ⌜ r ≡ allLive capacity (factOf (now (facts .entry))) ks ⌝ }
+{
+    let mut i: usize = 0;
+    while i < 8 {
+        if !live_or_empty(capacity, facts, ks[i]) {
+            return false;
+        }
+        i += 1;
+    }
+    true
+}
+
+// How often y stands among the eight.
+fn occurs(ks: [u64; 8], y: u64) -> u64
+    ensures { λ r. ⌜ r ≡ occ y ks ⌝ }
+{
+    let mut n: u64 = 0;
+    let mut i: usize = 0;
+    while i < 8 {
+        if y == ks[i] {
+            n += 1;
+        }
+        i += 1;
+    }
+    n
+}
+
+// Has k a hold for each of its places among the eight?
+fn enough_for(facts: &[u64], ks: [u64; 8], k: u64) -> bool
+    ensures { λ r. ⌜ r ≡ enoughFor (factOf (now (facts .entry))) ks k ⌝ }
+{
+    if k == 0 {
+        return true;
+    }
+    occurs(ks, k) <= fact(facts, slot_of(k), HOLDS)
+}
+
+// Not refusal 5: has each the holds that the call would take?
+fn has_enough(facts: &[u64], ks: [u64; 8]) -> bool
+    ensures { λ r. ⌜ r ≡ enough (factOf (now (facts .entry))) ks ⌝ }
+{
+    let mut i: usize = 0;
+    while i < 8 {
+        if !enough_for(facts, ks, ks[i]) {
+            return false;
+        }
+        i += 1;
+    }
+    true
+}
+
+// Refusal 7: are all eight EMPTY?
+fn no_kids(ks: [u64; 8]) -> bool
+    ensures { λ r. ⌜ r ≡ noneOf ks ⌝ }
+{
+    let mut i: usize = 0;
+    while i < 8 {
+        if !BlockId(ks[i]).is_empty() {
+            return false;
+        }
+        i += 1;
+    }
+    true
+}
+
+// Refusals 1, 4, 5 and 7.
+fn kids_no(a: Arena, kids: &[u64], facts: &[u64], find: &[u16], ks: [u64; 8]) -> u32
+    ensures { λ r. ⌜ r ≡ kidsNo (tables a (now (kids .entry)) (now (facts .entry)) (now (find .entry))) ks ⌝ }
+{
+    if fit(a.capacity, kids.len(), facts.len(), find.len()) {
+        if all_live(a.capacity, facts, ks) {
+            if has_enough(facts, ks) {
+                if no_kids(ks) {
+                    return 7;
+                }
+                return 0;
+            }
+            return 5;
+        }
+        return 4;
+    }
+    1
+}
+
+// The stored value of an id; 0 of EMPTY.
+fn value_at(facts: &[u64], id: u64) -> u64
+    ensures { λ r. ⌜ r ≡ valueAt (factOf (now (facts .entry))) id ⌝ }
+{
+    if id == 0 {
+        return 0;
+    }
+    fact(facts, slot_of(id), VALUE)
+}
+
+// The height of an id; 0 of EMPTY.
+fn height_at(facts: &[u64], id: u64) -> u64
+    ensures { λ r. ⌜ r ≡ heightAt (factOf (now (facts .entry))) id ⌝ }
+{
+    if id == 0 {
+        return 0;
+    }
+    fact(facts, slot_of(id), HEIGHT)
+}
+
+// The sum of the first n children's stored values.
+fn sum_of(facts: &[u64], ks: [u64; 8], n: usize) -> u64
+    requires { ⌜ n ≤ 8 ⌝ }
+    ensures { λ r. ⌜ r ≡ wrapSum (factOf (now (facts .entry))) ks n ⌝ }
+{
+    let mut sum: u64 = 0;
+    let mut i: usize = 0;
+    while i < n {
+        sum += value_at(facts, ks[i]) % 65536;
+        i += 1;
+    }
+    sum
+}
+
+// The larger of two.
+fn larger(x: u64, y: u64) -> u64
+    ensures { λ r. ⌜ r ≡ max x y ⌝ }
+{
+    if x < y { y } else { x }
+}
+
+// The height of the tallest of the first n children.
+fn top_of(facts: &[u64], ks: [u64; 8], n: usize) -> u64
+    requires { ⌜ n ≤ 8 ⌝ }
+    ensures { λ r. ⌜ r ≡ topFor (factOf (now (facts .entry))) ks n ⌝ }
+{
+    let mut top: u64 = 0;
+    let mut i: usize = 0;
+    while i < n {
+        top = larger(top, height_at(facts, ks[i]));
+        i += 1;
+    }
+    top
+}
+
+// 1 if the child isn't EMPTY.
+fn kid_bit(k: u64) -> u8
+    ensures { λ r. ⌜ (r ≡ oneIf (not (eqb k 0))) × (r ≤ 1) ⌝ }
+{
+    if k == 0 { 0 } else { 1 }
+}
+
+// 1 if the child is a leaf.
+fn leaf_bit(k: u64) -> u8
+    ensures { λ r. ⌜ (r ≡ oneIf (isLeaf k)) × (r ≤ 1) ⌝ }
+{
+    if BlockId(k).is_leaf() { 1 } else { 0 }
+}
+
+// Mask bit i is 1 exactly if child i isn't EMPTY.
+fn mask_of(ks: [u64; 8]) -> u8
+    ensures { λ r. ⌜ r ≡ kidMask ks ⌝ }
+{
+    kid_bit(ks[0])
+        + 2 * kid_bit(ks[1])
+        + 4 * kid_bit(ks[2])
+        + 8 * kid_bit(ks[3])
+        + 16 * kid_bit(ks[4])
+        + 32 * kid_bit(ks[5])
+        + 64 * kid_bit(ks[6])
+        + 128 * kid_bit(ks[7])
+}
+
+// Types bit i exactly if child i is a leaf.
+fn types_of(ks: [u64; 8]) -> u8
+    ensures { λ r. ⌜ r ≡ kidTypes ks ⌝ }
+{
+    leaf_bit(ks[0])
+        + 2 * leaf_bit(ks[1])
+        + 4 * leaf_bit(ks[2])
+        + 8 * leaf_bit(ks[3])
+        + 16 * leaf_bit(ks[4])
+        + 32 * leaf_bit(ks[5])
+        + 64 * leaf_bit(ks[6])
+        + 128 * leaf_bit(ks[7])
+}
+
+// The id of a branch in slot s, whose own word is `o`.
+fn branch_id(ks: [u64; 8], s: usize, o: u64) -> u64
+    ensures { λ r. ⌜ r ≡ newBranch (s % 2 ^ 32) (generationOf o) (kidTypes ks) (kidMask ks) ⌝ }
+{
+    let id = BlockId::new_branch(
+        (s % 0x1_0000_0000) as u32,
+        BlockId(o).generation(),
+        types_of(ks),
+        mask_of(ks),
+    );
+    id.0
+}
+
+// A hold on the node of k becomes a place; EMPTY: nothing.
+fn settle_kid(facts: &mut [u64], k: u64)
+    ensures { λ _. ⌜ ((j : List ℕ) → nodesOf j (now (facts .exit)) ≡ settledKid (nodesOf j (now (facts .entry))) k) ⌝ }
+{
+    if k == 0 {
+        return;
+    }
+    settle(facts, slot_of(k));
+}
+
+// The holds become places.
+fn settle_all(facts: &mut [u64], ks: [u64; 8])
+    ensures { λ _. ⌜ ((j : List ℕ) → nodesOf j (now (facts .exit)) ≡ settles (nodesOf j (now (facts .entry))) ks) ⌝ }
+{
+    let mut i: usize = 0;
+    while i < 8 {
+        settle_kid(facts, ks[i]);
+        i += 1;
+    }
+}
+
+// A hold on the node of k ends; EMPTY: nothing.
+fn unhold_kid(facts: &mut [u64], k: u64)
+    ensures { λ _. ⌜ ((j : List ℕ) → nodesOf j (now (facts .exit)) ≡ unheldKid (nodesOf j (now (facts .entry))) k) ⌝ }
+{
+    if k == 0 {
+        return;
+    }
+    let s = slot_of(k);
+    put_fact(facts, s, HOLDS, less(fact(facts, s, HOLDS)));
+}
+
+// The holds end.
+fn unhold_all(facts: &mut [u64], ks: [u64; 8])
+    ensures { λ _. ⌜ ((j : List ℕ) → nodesOf j (now (facts .exit)) ≡ unheld (nodesOf j (now (facts .entry))) ks) ⌝ }
+{
+    let mut i: usize = 0;
+    while i < 8 {
+        unhold_kid(facts, ks[i]);
+        i += 1;
+    }
+}
+
+// The node in slot s is there already: the holds of the children end, and a hold on it is granted.
+fn branch_hit(a: Arena, facts: &mut [u64], ks: [u64; 8], s: usize) -> Made
+    ensures { λ r. ⌜ ((k e : List ℕ) → made r k (now (facts .exit)) e ≡ branchHitBy (tables a k (now (facts .entry)) e) ks s) ⌝ }
+{
+    if 1000000 <= fact(facts, s, HOLDS) {
+        return Made {
+            no: 10,
+            id: BlockId::INVALID,
+            arena: a,
+        };
+    }
+    let o = fact(facts, s, OWN);
+    unhold_all(facts, ks);
+    grant(facts, s);
+    Made {
+        no: 0,
+        id: BlockId(o),
+        arena: a,
+    }
+}
+
+// A fresh branch, named in the cell `at`.
+fn branch_miss(
+    a: Arena,
+    kids: &mut [u64],
+    facts: &mut [u64],
+    find: &mut [u16],
+    ks: [u64; 8],
+    v: u64,
+    up: u64,
+    at: usize,
+) -> Made
+    ensures { λ r. ⌜ made r (now (kids .exit)) (now (facts .exit)) (now (find .exit)) ≡ branchMissBy (tables a (now (kids .entry)) (now (facts .entry)) (now (find .entry))) ks v up at ⌝ }
+{
+    if has_room(a) {
+        let s = fresh_slot(a);
+        let id = branch_id(ks, s, fact(facts, s, OWN));
+        settle_all(facts, ks);
+        let b = give(a, facts);
+        write_slot(kids, facts, s, ks, [id, v, up, 1, 0, 0, 0]);
+        put_cell(find, at, s);
+        return Made {
+            no: 0,
+            id: BlockId(id),
+            arena: b,
+        };
+    }
+    Made {
+        no: 11,
+        id: BlockId::INVALID,
+        arena: a,
+    }
+}
+
+// The branch of the content (ks, v), once the search has ended at the cell `at`, which names s.
+fn branch_at(
+    a: Arena,
+    kids: &mut [u64],
+    facts: &mut [u64],
+    find: &mut [u16],
+    ks: [u64; 8],
+    v: u64,
+    up: u64,
+    s: usize,
+    at: usize,
+) -> Made
+    ensures { λ r. ⌜ made r (now (kids .exit)) (now (facts .exit)) (now (find .exit)) ≡ branchAt (tables a (now (kids .entry)) (now (facts .entry)) (now (find .entry))) ks v up s at ⌝ }
+{
+    if s == 0 {
+        return branch_miss(a, kids, facts, find, ks, v, up, at);
+    }
+    branch_hit(a, facts, ks, s)
+}
+
+// The branch of n children, whose tallest is `top` high.
+fn branch(
+    a: Arena,
+    kids: &mut [u64],
+    facts: &mut [u64],
+    find: &mut [u16],
+    ks: [u64; 8],
+    n: usize,
+    top: u64,
+) -> Made
+    requires { ⌜ (1 ≤ n) × (n ≤ 8) × (top < 1000) ⌝ }
+    ensures { λ r. ⌜ made r (now (kids .exit)) (now (facts .exit)) (now (find .exit)) ≡ branchBy n (tables a (now (kids .entry)) (now (facts .entry)) (now (find .entry))) ks top ⌝ }
+{
+    let v = sum_of(facts, ks, n) / n as u64;
+    let f = search(find, kids, facts, a.capacity, ks, v);
+    branch_at(a, kids, facts, find, ks, v, top + 1, f.slot, f.cell)
+}
+
+// The branch of n children unless it is taller than `tallest`: refusal 8.
+fn branch_low(
+    a: Arena,
+    kids: &mut [u64],
+    facts: &mut [u64],
+    find: &mut [u16],
+    ks: [u64; 8],
+    n: usize,
+    tallest: u64,
+) -> Made
+    requires { ⌜ (1 ≤ n) × (n ≤ 8) × (tallest ≤ 1000) ⌝ }
+    ensures { λ r. ⌜ made r (now (kids .exit)) (now (facts .exit)) (now (find .exit)) ≡ branchLow n tallest (tables a (now (kids .entry)) (now (facts .entry)) (now (find .entry))) ks ⌝ }
+{
+    let top = top_of(facts, ks, n);
+    if top < tallest {
+        return branch(a, kids, facts, find, ks, n, top);
+    }
+    Made {
+        no: 8,
+        id: BlockId::INVALID,
+        arena: a,
+    }
+}
+
+// Intern branch on any tables, of n children, no taller than `tallest`.
+fn branch_any(
+    a: Arena,
+    kids: &mut [u64],
+    facts: &mut [u64],
+    find: &mut [u16],
+    ks: [u64; 8],
+    n: usize,
+    tallest: u64,
+) -> Made
+    requires { ⌜ (1 ≤ n) × (n ≤ 8) × (tallest ≤ 1000) ⌝ }
+    ensures { λ r. ⌜ made r (now (kids .exit)) (now (facts .exit)) (now (find .exit)) ≡ internBranchBy n tallest (tables a (now (kids .entry)) (now (facts .entry)) (now (find .entry))) ks ⌝ }
+{
+    let no = kids_no(a, kids, facts, find, ks);
+    if no != 0 {
+        return Made {
+            no: no,
+            id: BlockId::INVALID,
+            arena: a,
+        };
+    }
+    branch_low(a, kids, facts, find, ks, n, tallest)
+}
+
+// The raw numbers of eight ids.
+fn raw_ids(ids: [BlockId; 8]) -> [u64; 8]
+    ensures { λ r. ⌜ r ≡ rawIds ids ⌝ }
+{
+    [
+        ids[0].0,
+        ids[1].0,
+        ids[2].0,
+        ids[3].0,
+        ids[4].0,
+        ids[5].0,
+        ids[6].0,
+        ids[7].0,
+    ]
+}
+
+// Intern leaf: the live node of that value if there is one, else a fresh one; the caller gets one hold.
+pub fn intern_leaf(
+    arena: Arena,
+    kids: &mut [u64],
+    facts: &mut [u64],
+    find: &mut [u16],
+    value: u16,
+) -> Made
+    ensures { λ r. ⌜ ((n tallest : ℕ) → n ≤ 8 → Fair n tallest (tables arena (now (kids .entry)) (now (facts .entry)) (now (find .entry))) → made r (now (kids .exit)) (now (facts .exit)) (now (find .exit)) ≡ internLeafOf (tables arena (now (kids .entry)) (now (facts .entry)) (now (find .entry))) value) ⌝ }
+{
+    leaf_any(arena, kids, facts, find, value)
+}
+
+// Intern branch: the live node of those eight ids if there is one, else a fresh one; the caller gets one hold. It uses up one of the caller's
+// holds for each child that isn't EMPTY.
+pub fn intern_branch(
+    arena: Arena,
+    kids: &mut [u64],
+    facts: &mut [u64],
+    find: &mut [u16],
+    children: [BlockId; 8],
+) -> Made
+    ensures { λ r. ⌜ (Fair 8 6 (tables arena (now (kids .entry)) (now (facts .entry)) (now (find .entry))) → made r (now (kids .exit)) (now (facts .exit)) (now (find .exit)) ≡ internBranchOf 8 6 (tables arena (now (kids .entry)) (now (facts .entry)) (now (find .entry))) (rawIds children)) ⌝ }
+{
+    branch_any(arena, kids, facts, find, raw_ids(children), 8, 6)
+}

@@ -1,0 +1,213 @@
+-- Which nodes go in a call and which stay, and what those that stay keep.
+use mathlib.Core.Path.{_≡_, refl, sym, ap, _∙_, subst}
+use mathlib.Core.Logic.{_≢_, _⊎_, inr, _↔_}
+use mathlib.Core.List.{List, []}
+use Prim.Native.Nat.{ℕ, suc, _+_, _≤_}
+use native.Mathlib.Decide.{decLt}
+use native.Mathlib.Omega.{arith}
+use lib.ListN.{length}
+use Rattle.nodes.specs.Tally.{Live, kidsOf, occ}
+use Rattle.nodes.specs.Words.{own, holds, slot, floor, wordOf}
+use Rattle.nodes.proofs.Counts.{Counts, live-same, kid-live, live-nonzero, live-own, tally-pos, occ-bare}
+use Rattle.nodes.proofs.Frame.{Under, total-nil, frame-refl, lives-iff}
+use Rattle.nodes.proofs.Sums.{cases}
+use Rattle.arena.specs.Calls.{Out, heldAt, leafSlot, internLeafOf, holdOf, releaseOf, lessOf, takes, branchSlot, internBranchOf, unheld, placed}
+use Rattle.arena.specs.Tables.{Tables, tablesOf, cap, W, WellFormed}
+use Rattle.arena.proofs.Fits.{live-is, room-yes}
+use Rattle.arena.proofs.Ids.{node-low}
+use Rattle.arena.proofs.Inv.{wf-counts}
+use Rattle.arena.proofs.Releasing.{Released, release-released}
+use Rattle.ledger.specs.Ledger.{Call, release, Handed, outcome, on, ifAccepted, takesOf, holdsOn}
+use Rattle.ledger.specs.Fates.{Lives, Same, Grew, heldLeft}
+use Rattle.ledger.proofs.Balance.{call-well, call-effect, leaf-grew, branch-grew, branch-held-grew, leaf-adds, branch-adds, eased-word, less-on, released-old}
+use Rattle.ledger.proofs.Effects.{grew-refl, was-live, holds-live, holds-dead, on-zero, accepted, unaccepted}
+use Rattle.ledger.proofs.Ladders.{leaf-ways, branch-ways, hold-ways, release-ways}
+use Rattle.ledger.proofs.Writes.{held-cap, held-word, held-grew}
+
+-- In well-formed tables an id other than EMPTY is not live exactly if it has no hold and no live node has it as a child.
+pub unlive-exactly : (n tallest : ℕ) (t : Tables) → n ≤ 8 → WellFormed n tallest t → (y : ℕ) → y ≢ 0
+    → (Lives t y → ⊥) ↔ ((holdsOn t y ≡ 0) × ((b : ℕ) → Lives t b → occ y (kidsOf 8 (W t) (slot b)) ≡ 0))
+unlive-exactly n tallest t m w y d = (
+  (λ gone. (
+    holds-dead t y gone,
+    (λ b l. cases (decLt 0 (occ y (kidsOf 8 (W t) (slot b))))
+        (λ o. absurd (gone (kid-live c (slot b) y (l .low) d o)))
+        (λ o. omega arith)),
+  )),
+  (λ h v.
+      let p = c .placed y v in
+      let a = c .alive y v in
+      let z = h .0 in
+      let k = holds-live t y v in
+      let q = tally-pos 8 (cap t) (W t) y (omega (arith, total-nil 8 (cap t) (W t) y)) in
+      let b = q .0 in
+      cases (decLt (W t b own) floor)
+      (λ dead. let e = occ-bare 8 (W t) b y d (c .bare b (q .1) dead) in let o = q .2 in omega arith)
+      (λ live.
+      let l : Lives t (W t b own) = live-own 8 (cap t) (W t) [] c b (q .1) (omega arith) in
+      let s : slot (W t b own) ≡ b = c .ids b (q .1) (omega arith) in
+      let e : occ y (kidsOf 8 (W t) b) ≡ 0 = subst (λ (x : ℕ). occ y (kidsOf 8 (W t) x) ≡ 0) s (h .1 (W t b own) l) in
+      let o = q .2 in
+      omega arith)),
+)
+  where
+    c : Counts 8 (cap t) (W t) []
+    c = wf-counts n tallest t m w
+
+module _ (n tallest : ℕ) (m : n ≤ 8) (pos : 1 ≤ n) (low : tallest ≤ 6) (t : Tables) (w : WellFormed n tallest t) (c : Call) (h : Handed n c) where
+  -- The capacity stays.
+  pub call-size : cap (outcome n tallest t c .after) ≡ cap t
+  call-size = call-effect n tallest m pos low t w c h .size
+
+  -- A call takes no more holds than there are.
+  pub takes-no-more : (y : ℕ) → takesOf (outcome n tallest t c) c y ≤ holdsOn t y
+  takes-no-more y = call-effect n tallest m pos low t w c h .affords y
+
+  -- The holds afterwards are those before, less those the call takes, plus those it grants.
+  pub held-left : (y : ℕ) → holdsOn (outcome n tallest t c .after) y ≡ heldLeft t (outcome n tallest t c) c y
+  unfolding heldLeft
+  held-left y = omega (arith, call-effect n tallest m pos low t w c h .balance y, takes-no-more y)
+
+  -- A node goes in a call exactly if, once the call has taken and granted, nobody holds it and no node that is there afterwards has it as a child.
+  pub gone-exactly : (y : ℕ) → Lives t y
+      → (Lives (outcome n tallest t c .after) y → ⊥)
+      ↔ ((heldLeft t (outcome n tallest t c) c y ≡ 0)
+      × ((b : ℕ) → Lives (outcome n tallest t c .after) b → occ y (kidsOf 8 (W (outcome n tallest t c .after)) (slot b)) ≡ 0))
+  gone-exactly y v =
+      let r = unlive-exactly n tallest (outcome n tallest t c .after) m (call-well n tallest m pos low t w c h) y (live-nonzero v) in
+      let e = held-left y in
+      ((λ g. (sym e ∙ r .0 g .0, r .0 g .1)), (λ q. r .1 (e ∙ q .0, q .1)))
+
+  -- Every node that is there before and afterwards keeps its id, its eight children, its stored value and its height.
+  pub stays : (y : ℕ) → Lives t y → Lives (outcome n tallest t c .after) y → Same t (outcome n tallest t c .after) y
+  stays y v u = call-effect n tallest m pos low t w c h .kept y v u
+
+-- ---- interning and holding end no node
+
+-- Interning a leaf ends no node: each stays, as it was.
+pub leaf-ends-none : (n tallest : ℕ) (t : Tables) → n ≤ 8 → WellFormed n tallest t → (v : ℕ) → Grew t (internLeafOf t v .after)
+leaf-ends-none n tallest t m w v =
+    leaf-ways t v (λ f e. to e (grew-refl t)) (λ f z e. to e (grew-refl t)) (λ f z s r e. to e (leaf-grew n tallest t m w (room-yes (t .arena) r) v))
+    (λ f z s r e. to e (grew-refl t)) (λ f z s r e. to e (grew-refl t)) (λ f z s r e. to e (held-grew t (leafSlot t v)))
+  where
+    to : {o : Out} → internLeafOf t v ≡ o → Grew t (o .after) → Grew t (internLeafOf t v .after)
+    to e x = subst (λ (o : Out). Grew t (o .after)) (sym e) x
+
+-- Interning a branch ends no node: each stays, as it was.
+pub branch-ends-none : (n tallest : ℕ) (t : Tables) → n ≤ 8 → WellFormed n tallest t → (ks : List ℕ) → length ks ≡ 8 → Grew t (internBranchOf n tallest t ks .after)
+branch-ends-none n tallest t m w ks e8 =
+    branch-ways n tallest t ks (λ f e. to e (grew-refl t)) (λ f a e. to e (grew-refl t)) (λ f a b e. to e (grew-refl t)) (λ f a b c e. to e (grew-refl t)) (λ f a b c h e. to e (grew-refl t))
+    (λ f s r e. to e (branch-grew n tallest t m w ks e8 f (room-yes (t .arena) r)))
+    (λ f s r e. to e (grew-refl t)) (λ f s r e. to e (grew-refl t)) (λ f s r e. to e (branch-held-grew n tallest t m w ks e8 f))
+  where
+    to : {o : Out} → internBranchOf n tallest t ks ≡ o → Grew t (o .after) → Grew t (internBranchOf n tallest t ks .after)
+    to e x = subst (λ (o : Out). Grew t (o .after)) (sym e) x
+
+-- Holding ends no node: each stays, as it was. On any tables.
+pub hold-ends-none : (t : Tables) (id : ℕ) → Grew t (holdOf t id .after)
+hold-ends-none t id =
+    hold-ways t id (λ f e. to e (grew-refl t)) (λ f z e. to e (grew-refl t)) (λ f z l e. to e (grew-refl t)) (λ f z l r e. to e (grew-refl t)) (λ f z l r e. to e (held-grew t (slot id)))
+  where
+    to : {o : Out} → holdOf t id ≡ o → Grew t (o .after) → Grew t (holdOf t id .after)
+    to e x = subst (λ (o : Out). Grew t (o .after)) (sym e) x
+
+-- ---- what is new
+
+abbrev New : Tables → ℕ → Out → Type 0
+New t y o = Lives (o .after) y → (y ≡ o .id) ⊎ Lives t y
+
+held-none-new : (t : Tables) (s y : ℕ) → Lives (heldAt t s) y → Lives t y
+held-none-new t s y l = was-live t (heldAt t s) (held-cap t s) y (held-word t s (slot y) own (omega arith)) l
+
+-- Interning a leaf makes no node but the one that it answers.
+pub leaf-makes-one : (n tallest : ℕ) (t : Tables) → n ≤ 8 → WellFormed n tallest t → (v y : ℕ) → Lives (internLeafOf t v .after) y → (y ≡ internLeafOf t v .id) ⊎ Lives t y
+leaf-makes-one n tallest t m w v y =
+    leaf-ways t v (λ f e. to e (λ l. inr l)) (λ f z e. to e (λ l. inr l)) (λ f z s r e. to e (leaf-adds n tallest t m w (room-yes (t .arena) r) v y))
+    (λ f z s r e. to e (λ l. inr l)) (λ f z s r e. to e (λ l. inr l)) (λ f z s r e. to e (λ l. inr (held-none-new t (leafSlot t v) y l)))
+  where
+    to : {o : Out} → internLeafOf t v ≡ o → New t y o → New t y (internLeafOf t v)
+    to e x = subst (λ (o : Out). New t y o) (sym e) x
+
+-- Interning a branch makes no node but the one that it answers.
+pub branch-makes-one : (n tallest : ℕ) (t : Tables) → n ≤ 8 → WellFormed n tallest t → (ks : List ℕ) → length ks ≡ 8 → (y : ℕ)
+    → Lives (internBranchOf n tallest t ks .after) y → (y ≡ internBranchOf n tallest t ks .id) ⊎ Lives t y
+branch-makes-one n tallest t m w ks e8 y =
+    branch-ways n tallest t ks
+    (λ f e. to e (λ l. inr l)) (λ f a e. to e (λ l. inr l)) (λ f a b e. to e (λ l. inr l)) (λ f a b c e. to e (λ l. inr l)) (λ f a b c h e. to e (λ l. inr l))
+    (λ f s r e. to e (branch-adds n tallest t m w ks e8 f (room-yes (t .arena) r) y))
+    (λ f s r e. to e (λ l. inr l)) (λ f s r e. to e (λ l. inr l))
+    (λ f s r e. to e (λ l. inr (
+    live-same (cap t) (wordOf (unheld (t .nodes) ks)) (W t) y (sym (eased-word n tallest t m w ks e8 f (slot y) own (omega arith)))
+    (held-none-new (tablesOf (t .arena) (unheld (t .nodes) ks) (t .find)) (branchSlot t ks) y l))))
+  where
+    to : {o : Out} → internBranchOf n tallest t ks ≡ o → New t y o → New t y (internBranchOf n tallest t ks)
+    to e x = subst (λ (o : Out). New t y o) (sym e) x
+
+-- Holding makes no node. On any tables.
+pub hold-makes-none : (t : Tables) (id y : ℕ) → Lives (holdOf t id .after) y → Lives t y
+hold-makes-none t id y =
+    hold-ways t id (λ f e. to e (λ l. l)) (λ f z e. to e (λ l. l)) (λ f z l e. to e (λ l. l)) (λ f z l r e. to e (λ l. l)) (λ f z l r e. to e (held-none-new t (slot id) y))
+  where
+    to : {o : Out} → holdOf t id ≡ o → (Lives (o .after) y → Lives t y) → Lives (holdOf t id .after) y → Lives t y
+    to e x = subst (λ (o : Out). Lives (o .after) y → Lives t y) (sym e) x
+
+-- Releasing makes no node.
+pub release-makes-none : (n tallest : ℕ) (t : Tables) → n ≤ 8 → tallest ≤ 6 → WellFormed n tallest t → (id y : ℕ) → Lives (releaseOf t id .after) y → Lives t y
+release-makes-none n tallest t m low w id y =
+    release-ways t id (λ f e. to e (λ l. l)) (λ f z e. to e (λ l. l)) (λ f z l e. to e (λ l. l)) (λ f z l r e. to e (λ l. l))
+    (λ f z l r k e. released-old n tallest t (releaseOf t id .after) id (release-released n tallest t id m low w k z) (live-is t id l) r y)
+  where
+    to : {o : Out} → releaseOf t id ≡ o → (Lives (o .after) y → Lives t y) → Lives (releaseOf t id .after) y → Lives t y
+    to e x = subst (λ (o : Out). Lives (o .after) y → Lives t y) (sym e) x
+
+-- ---- what a release leaves, said of the tables before it
+
+-- In well-formed tables a node is live exactly if it is held, or stands below one that is.
+pub lives-exactly : (n tallest : ℕ) (t : Tables) → n ≤ 8 → WellFormed n tallest t → (y : ℕ) → Lives t y ↔ ((a : ℕ) × Lives t a × (1 ≤ holdsOn t a) × Under (W t) a y)
+lives-exactly n tallest t m w y =
+    let r = lives-iff (cap t) (W t) (W t) (wf-counts n tallest t m w) (frame-refl (cap t) (W t)) (suc tallest)
+    (λ b l h. let p = node-low m l (w .sized .most) (w .nodes b (l, h)) in omega arith) y in (
+      (λ v. let q = r .0 v in (q .0, q .1, (let h = q .2 in omega (arith, holds-live t (q .0) (q .1))), q .3)),
+      (λ q. r .1 (q .0, q .1, (let h = q .2 in omega (arith, holds-live t (q .0) (q .1))), q .3)),
+    )
+
+-- what a release leaves: the nodes at or below one that is still held, once the hold is given back
+abbrev Left : Tables → ℕ → ℕ → Out → Type 0
+Left t id y o = Lives (o .after) y ↔ ((a : ℕ) × Lives t a × (1 ≤ heldLeft t o (release id) a) × Under (W t) a y)
+
+unchanged-left : (n tallest : ℕ) (t : Tables) → n ≤ 8 → WellFormed n tallest t → (id y k e : ℕ) → ((a : ℕ) → takesOf (record { no = k; id = e; after = t }) (release id) a ≡ 0)
+    → Left t id y (record { no = k; id = e; after = t })
+unfolding heldLeft
+unchanged-left n tallest t m w id y k e none =
+    let r = lives-exactly n tallest t m w y in (
+      (λ v. let q = r .0 v in (q .0, q .1, (let h = q .2 in let z = none (q .0) in omega arith), q .3)),
+      (λ q. r .1 (q .0, q .1, (let h = q .2 in let z = none (q .0) in omega arith), q .3)),
+    )
+
+released-left : (n tallest : ℕ) (t u : Tables) (id : ℕ) → Released n tallest t id u → Lives t id → W t (slot id) holds ≢ 0 → (y : ℕ) → Left t id y (record { no = 0; id = 0; after = u })
+unfolding heldLeft
+released-left n tallest t u id r v held y =
+    let l = r .lives y in (
+      (λ s.
+          let q = l .0 (subst (λ (c : ℕ). Live c (W u) y) (r .size) s) in
+          (q .0, q .1, (let h = q .2 in omega (arith, left (q .0) (q .1), holds-live t (q .0) (q .1))), q .3)),
+      (λ q. subst (λ (c : ℕ). Live c (W u) y) (sym (r .size)) (l .1 (q .0, q .1, (let h = q .2 in omega (arith, left (q .0) (q .1), holds-live t (q .0) (q .1))), q .3))),
+    )
+  where
+    left : (a : ℕ) → Lives t a → W (lessOf holds t id) (slot a) holds + ifAccepted (record { no = 0; id = 0; after = u }) (on a id) ≡ W t (slot a) holds
+    left a w = ap (λ (k : ℕ). W (lessOf holds t id) (slot a) holds + k) (accepted (record { no = 0; id = 0; after = u }) (on a id) refl) ∙ less-on n tallest t u id r v held a w
+
+-- After a release a node is live exactly if, before it, it was at or below a node on which a hold is left once the one is given back.
+pub release-leaves : (n tallest : ℕ) (t : Tables) → n ≤ 8 → tallest ≤ 6 → WellFormed n tallest t → (id y : ℕ)
+    → Lives (releaseOf t id .after) y ↔ ((a : ℕ) × Lives t a × (1 ≤ heldLeft t (releaseOf t id) (release id) a) × Under (W t) a y)
+release-leaves n tallest t m low w id y =
+    release-ways t id
+    (λ f e. to e (unchanged-left n tallest t m w id y 1 0 (λ a. unaccepted (record { no = 1; id = 0; after = t }) (on a id) (omega arith))))
+    (λ f z e. to e (unchanged-left n tallest t m w id y 0 0 (λ a. accepted (record { no = 0; id = 0; after = t }) (on a id) refl ∙ on-zero a id z)))
+    (λ f z l e. to e (unchanged-left n tallest t m w id y 4 0 (λ a. unaccepted (record { no = 4; id = 0; after = t }) (on a id) (omega arith))))
+    (λ f z l r e. to e (unchanged-left n tallest t m w id y 5 0 (λ a. unaccepted (record { no = 5; id = 0; after = t }) (on a id) (omega arith))))
+    (λ f z l r k e. to e (released-left n tallest t (takes 7 holds t id) id
+    (subst (λ (o : Out). Released n tallest t id (o .after)) e (release-released n tallest t id m low w k z)) (live-is t id l) r y))
+  where
+    to : {o : Out} → releaseOf t id ≡ o → Left t id y o → Left t id y (releaseOf t id)
+    to e x = subst (λ (o : Out). Left t id y o) (sym e) x

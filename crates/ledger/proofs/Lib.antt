@@ -1,0 +1,11 @@
+pub mod Ladders
+pub mod Effects
+pub mod Writes
+pub mod Found
+pub mod Balance
+pub mod Going
+pub mod Contents
+pub mod Refusals
+pub mod Recycling
+pub mod Generations
+pub mod Again

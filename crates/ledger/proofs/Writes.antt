@@ -1,0 +1,204 @@
+-- The three ways in which the calls write holds: one more on a node, one less for each place in a list of children, and a fresh node with one.
+use mathlib.Core.Path.{_≡_, refl, sym, ap, _∙_, subst}
+use mathlib.Core.Logic.{_≢_, _⊎_, inl, inr}
+use mathlib.Core.List.{List, [], _∷_}
+use Prim.Native.Nat.{ℕ, suc, _+_, _-_, _≤_, _<_}
+use native.Mathlib.Decide.{ℕ-discrete}
+use native.Mathlib.Omega.{arith}
+use lib.ListN.{length, getD}
+use borrow.Author.Tests.{eq-eqb, ne-eqb}
+use Rattle.ids.specs.Ids.{generationOf}
+use Rattle.nodes.specs.Tally.{occ, kidsOf}
+use Rattle.nodes.specs.Words.{Nodes, own, value, holds, places, slot, floor, wordOf, putOf, written}
+use Rattle.nodes.proofs.Access.{Within, put-same, put-slot, put-field, put-less, written-others, written-kid, written-fact}
+use Rattle.nodes.proofs.Counts.{Others, live-inj, live-nonzero}
+use Rattle.nodes.proofs.Sums.{cases, occ-nil, occ-cons, occ-here, occ-there}
+use Rattle.finding.proofs.Contents.{kids-are}
+use Rattle.arena.specs.Calls.{heldAt, freshFacts, each, unheldKid, placedKid, unheld, placed, slotGiven}
+use Rattle.arena.specs.Tables.{Tables, tablesOf, cap, W, Sized}
+use Rattle.arena.specs.declared.Arena.{Arena}
+use Rattle.arena.proofs.Inv.{sized-within}
+use Rattle.arena.proofs.Rows.{fresh-length}
+use Rattle.ledger.specs.Ledger.{on, holdsOn}
+use Rattle.ledger.specs.Fates.{Lives, Grew, Has}
+use Rattle.ledger.proofs.Effects.{on-same, on-diff, counted-holds, made-holds, still-live, was-live}
+
+pub put-keeps : (l : Nodes) (s f v b g : ℕ) → g ≢ f → wordOf (putOf l s f v) b g ≡ wordOf l b g
+put-keeps l s f v b g d = cases (ℕ-discrete b s) (λ (e : b ≡ s). rw e (put-field l s f v g d)) (λ e. put-slot l s f v b g e)
+
+-- ---- one hold more
+
+module _ (t : Tables) (s : ℕ) where
+  pub held-cap : cap (heldAt t s) ≡ cap t
+  unfolding heldAt
+  held-cap = refl
+
+  pub held-arena : heldAt t s .arena ≡ t .arena
+  unfolding heldAt
+  held-arena = refl
+
+  pub held-word : (b f : ℕ) → f ≢ holds → W (heldAt t s) b f ≡ W t b f
+  unfolding heldAt
+  held-word b f d = put-keeps (t .nodes) s holds (W t s holds + 1) b f d
+
+  pub held-here : Within (t .nodes) s → W (heldAt t s) s holds ≡ W t s holds + 1
+  unfolding heldAt
+  held-here w = put-same (t .nodes) s holds (W t s holds + 1) w (omega arith) (omega arith)
+
+  pub held-there : (b : ℕ) → b ≢ s → W (heldAt t s) b holds ≡ W t b holds
+  unfolding heldAt
+  held-there b d = put-slot (t .nodes) s holds (W t s holds + 1) b holds d
+
+  pub held-grew : Grew t (heldAt t s)
+  held-grew = record {
+    size = held-cap;
+    stays = λ y v. (still-live t (heldAt t s) held-cap y (held-word (slot y) own (omega arith)) v, (λ f l. held-word (slot y) f (omega arith)));
+  }
+
+pub held-balance : (t : Tables) (s x : ℕ) → Sized t → Lives t x → slot x ≡ s → (y : ℕ) → holdsOn (heldAt t s) y + 0 ≡ holdsOn t y + on y x
+held-balance t s x z v e y =
+    counted-holds t (heldAt t s) (held-cap t s) y (on y x) 0 (held-word t s (slot y) own (omega arith))
+    (λ w. cases (ℕ-discrete (slot y) s)
+    (λ (q : slot y ≡ s).
+    let p = on-same y x (live-nonzero v) (live-inj w v (q ∙ sym e)) in
+    let h : W (heldAt t s) (slot y) holds ≡ W t (slot y) holds + 1 =
+    subst (λ (k : ℕ). W (heldAt t s) k holds ≡ W t k holds + 1) (sym q) (held-here t s (sized-within t s z (let l = v .low in omega arith))) in
+    omega arith)
+    (λ q. let p = on-diff y x (λ r. q (ap slot r ∙ e)) in let h = held-there t s (slot y) q in omega arith))
+    (λ d. sym (on-diff y x (λ r. d (subst (λ (k : ℕ). Lives t k) (sym r) v))))
+
+-- ---- one hold less for each child place that isn't EMPTY
+
+module _ (run : Nodes → List ℕ → Nodes) (one : Nodes → ℕ → Nodes) (nil : (l : Nodes) → run l [] ≡ l)
+    (empty : (l : Nodes) (ks : List ℕ) (k : ℕ) → k ≡ 0 → run l (k ∷ ks) ≡ run l ks) (node : (l : Nodes) (ks : List ℕ) (k : ℕ) → k ≢ 0 → run l (k ∷ ks) ≡ run (one l (slot k)) ks)
+    (less : (l : Nodes) (s : ℕ) → wordOf (one l s) s holds ≡ wordOf l s holds - 1) (other : (l : Nodes) (s b : ℕ) → b ≢ s → wordOf (one l s) b holds ≡ wordOf l b holds) where
+  run-holds : (ks : List ℕ) (l : Nodes) (y : ℕ) → y ≢ 0 → ((k : ℕ) → k ≢ 0 → 1 ≤ occ k ks → slot y ≡ slot k → y ≡ k) → wordOf (run l ks) (slot y) holds ≡ wordOf l (slot y) holds - occ y ks
+  run-holds [] l y d apart = ap (λ (x : Nodes). wordOf x (slot y) holds) (nil l) ∙ omega (arith, occ-nil y)
+  run-holds (k ∷ ks) l y d apart =
+      let later : (x : Nodes) → wordOf (run x ks) (slot y) holds ≡ wordOf x (slot y) holds - occ y ks = (λ x. run-holds ks x y d (λ j z o q. apart j z (omega (arith, occ-cons j k ks)) q)) in
+      cases (ℕ-discrete k 0)
+      (λ z. ap (λ (x : Nodes). wordOf x (slot y) holds) (empty l ks k z) ∙ later l ∙ omega (arith, occ-there y k ks (λ q. d (q ∙ z))))
+      (λ z. ap (λ (x : Nodes). wordOf x (slot y) holds) (node l ks k z) ∙ later (one l (slot k)) ∙ cases (ℕ-discrete (slot y) (slot k))
+      (λ q.
+      let e : y ≡ k = apart k z (omega (arith, occ-here k ks)) q in
+      let o : occ y (k ∷ ks) ≡ suc (occ y ks) = ap (λ (x : ℕ). occ y (x ∷ ks)) (sym e) ∙ occ-here y ks in
+      let h : wordOf (one l (slot k)) (slot y) holds ≡ wordOf l (slot y) holds - 1 = subst (λ (x : ℕ). wordOf (one l (slot k)) x holds ≡ wordOf l x holds - 1) (sym q) (less l (slot k)) in
+      omega arith)
+      (λ q. let h = other l (slot k) (slot y) q in omega (arith, occ-there y k ks (λ r. q (ap slot r)))))
+
+abbrev lessN : Nodes → ℕ → Nodes
+lessN l s = putOf l s holds (wordOf l s holds - 1)
+
+abbrev placeN : Nodes → ℕ → Nodes
+placeN l s = putOf (lessN l s) s places (wordOf l s places + 1)
+
+unheld-nil : (l : Nodes) → unheld l [] ≡ l
+unfolding each unheldKid
+unheld-nil l = refl
+
+unheld-empty : (l : Nodes) (ks : List ℕ) (k : ℕ) → k ≡ 0 → unheld l (k ∷ ks) ≡ unheld l ks
+unfolding each unheldKid
+unheld-empty l ks k e = rw (eq-eqb k 0 e)
+
+unheld-node : (l : Nodes) (ks : List ℕ) (k : ℕ) → k ≢ 0 → unheld l (k ∷ ks) ≡ unheld (lessN l (slot k)) ks
+unfolding each unheldKid
+unheld-node l ks k e = rw (ne-eqb k 0 e)
+
+placed-nil : (l : Nodes) → placed l [] ≡ l
+unfolding each placedKid
+placed-nil l = refl
+
+placed-empty : (l : Nodes) (ks : List ℕ) (k : ℕ) → k ≡ 0 → placed l (k ∷ ks) ≡ placed l ks
+unfolding each placedKid
+placed-empty l ks k e = rw (eq-eqb k 0 e)
+
+placed-node : (l : Nodes) (ks : List ℕ) (k : ℕ) → k ≢ 0 → placed l (k ∷ ks) ≡ placed (placeN l (slot k)) ks
+unfolding each placedKid
+placed-node l ks k e = rw (ne-eqb k 0 e)
+
+module _ (ks : List ℕ) (l : Nodes) (y : ℕ) (d : y ≢ 0) (apart : (k : ℕ) → k ≢ 0 → 1 ≤ occ k ks → slot y ≡ slot k → y ≡ k) where
+  pub unheld-holds : wordOf (unheld l ks) (slot y) holds ≡ wordOf l (slot y) holds - occ y ks
+  unheld-holds =
+      run-holds unheld lessN unheld-nil unheld-empty unheld-node
+      (λ x s. put-less x s holds (omega arith) (omega arith)) (λ x s b q. put-slot x s holds (wordOf x s holds - 1) b holds q) ks l y d apart
+
+  pub placed-holds : wordOf (placed l ks) (slot y) holds ≡ wordOf l (slot y) holds - occ y ks
+  placed-holds =
+      run-holds placed placeN placed-nil placed-empty placed-node
+      (λ x s. put-field (lessN x s) s places (wordOf x s places + 1) holds (omega arith) ∙ put-less x s holds (omega arith) (omega arith))
+      (λ x s b q. put-slot (lessN x s) s places (wordOf x s places + 1) b holds q ∙ put-slot x s holds (wordOf x s holds - 1) b holds q) ks l y d apart
+
+-- ---- a fresh node with one hold, in the dead slot s
+
+pub given-cap : (t : Tables) → slotGiven (t .arena) (W t) .capacity ≡ cap t
+unfolding slotGiven
+given-cap t = refl
+
+module _ (t : Tables) (p : Nodes) (a : Arena) (g ks : List ℕ) (s id v up : ℕ) (eight : length ks ≡ 8) (caps : a .capacity ≡ cap t) (low : s < cap t) (dead : W t s own < floor)
+    (within : Within p s) (words : (b f : ℕ) → f < holds → wordOf p b f ≡ W t b f) where
+  abbrev u : Tables
+  u = tablesOf a (written p s ks (freshFacts id v up 1 0)) g
+
+  seven : length (freshFacts id v up 1 0) ≡ 7
+  seven = fresh-length id v up 1 0
+
+  pub new-others : Others s (wordOf p) (W u)
+  new-others = written-others p s ks (freshFacts id v up 1 0) eight seven
+
+  new-fact : (i : ℕ) → i < 7 → W u s (own + i) ≡ getD (freshFacts id v up 1 0) i 0
+  new-fact = written-fact p s ks (freshFacts id v up 1 0) eight seven within
+
+  pub new-kids : kidsOf 8 (W u) s ≡ ks
+  new-kids = kids-are (W u) s ks eight (written-kid p s ks (freshFacts id v up 1 0) eight seven within)
+
+  pub new-own : W u s own ≡ id
+  unfolding freshFacts
+  new-own = new-fact 0 (omega arith)
+
+  pub new-value : W u s value ≡ v
+  unfolding freshFacts
+  new-value = new-fact 1 (omega arith)
+
+  pub new-holds : W u s holds ≡ 1
+  unfolding freshFacts
+  new-holds = new-fact 3 (omega arith)
+
+  away : (y : ℕ) → Lives t y → slot y ≢ s
+  away y l q = let b : W t (slot y) own < floor = subst (λ (z : ℕ). W t z own < floor) (sym q) dead in let i = l .is in let h = l .high in omega arith
+
+  pub new-word : (b f : ℕ) → b ≢ s → f < holds → W u b f ≡ W t b f
+  new-word b f q l = new-others b f q (omega arith) ∙ words b f l
+
+  pub new-grew : Grew t u
+  new-grew = record {
+    size = caps;
+    stays = λ y l. (still-live t u caps y (new-word (slot y) own (away y l) (omega arith)) l, (λ f m. new-word (slot y) f (away y l) m));
+  }
+
+  -- the only new one
+  pub new-only : slot id ≡ s → (y : ℕ) → Lives u y → (y ≡ id) ⊎ Lives t y
+  new-only i y l = cases (ℕ-discrete (slot y) s)
+      (λ q. inl (sym (l .is) ∙ ap (λ (z : ℕ). W u z own) q ∙ new-own))
+      (λ q. inr (was-live t u caps y (new-word (slot y) own q (omega arith)) l))
+
+  -- it has the content asked for, and was not there before
+  pub new-has : slot id ≡ s → floor ≤ id → Has u id ks v × (Lives t id → ⊥)
+  new-has i h = (
+    record {
+      live = record { low = omega arith; is = ap (λ (z : ℕ). W u z own) i ∙ new-own; high = h };
+      kids = ap (kidsOf 8 (W u)) i ∙ new-kids;
+      worth = ap (λ (z : ℕ). W u z value) i ∙ new-value;
+    },
+    (λ l. away id l i),
+  )
+
+  -- its slot keeps its generation, and so do all others
+  pub new-gens : generationOf id ≡ generationOf (W t s own) → (b : ℕ) → generationOf (W u b own) ≡ generationOf (W t b own)
+  new-gens g b = cases (ℕ-discrete b s)
+      (λ (q : b ≡ s). subst (λ (z : ℕ). generationOf (W u z own) ≡ generationOf (W t z own)) (sym q) (ap generationOf new-own ∙ g))
+      (λ q. ap generationOf (new-word b own q (omega arith)))
+
+  pub new-balance : slot id ≡ s → floor ≤ id → (y k : ℕ) → (Lives t y → wordOf p (slot y) holds + k ≡ W t (slot y) holds) → ((Lives t y → ⊥) → k ≡ 0) → holdsOn u y + k ≡ holdsOn t y + on y id
+  new-balance i h y k live none =
+      made-holds t u caps s id y k low dead new-own i h new-holds (λ q. new-word (slot y) own q (omega arith))
+      (λ q l. let x = live l in let z = new-others (slot y) holds q (omega arith) in omega arith) none

@@ -1,0 +1,61 @@
+-- What becomes of a node in a call, what a content is, and how often a slot was recycled.
+use mathlib.Core.Path.{_≡_}
+use mathlib.Core.List.{List}
+use Prim.Native.Nat.{ℕ, zero, suc, _+_, _-_, _<_}
+use lib.Dec.{leb, ltb}
+use Rattle.basics.specs.Pick.{pick}
+use Rattle.nodes.specs.Tally.{Live, kidsOf}
+use Rattle.nodes.specs.Words.{own, value, holds, slot, floor}
+use Rattle.arena.specs.Calls.{Out}
+use Rattle.arena.specs.Node.{nextGeneration}
+use Rattle.arena.specs.Tables.{Tables, cap, W}
+use Rattle.ledger.specs.Ledger.{Call, Handed, outcome, grants, takesOf, holdsOn}
+
+-- y is the id of a node now in the arena
+abbrev pub Lives : Tables → ℕ → Type 0
+Lives t y = Live (cap t) (W t) y
+
+-- the holds on y before the call, less those it takes, plus those it grants
+unfoldable pub heldLeft : Tables → Out → Call → ℕ → ℕ
+heldLeft t o c y = holdsOn t y - takesOf o c y + grants o c y
+
+-- y has the same id, eight children, stored value and height in u as in t: all its words but the two counts (and the link and the spare word)
+abbrev pub Same : Tables → Tables → ℕ → Type 0
+Same t u y = (f : ℕ) → f < holds → W u (slot y) f ≡ W t (slot y) f
+
+-- from t to u no node ends: each that is live in t is live in u, and has there all that it had but its counts
+pub record Grew (t u : Tables) : Type 0 where
+  pub size : cap u ≡ cap t
+  pub stays : (y : ℕ) → Lives t y → Lives u y × Same t u y
+
+-- ## Contents
+
+-- y is a live node with the eight children ks and the stored value v
+pub record Has (t : Tables) (y : ℕ) (ks : List ℕ) (v : ℕ) : Type 0 where
+  pub live : Lives t y
+  pub kids : kidsOf 8 (W t) (slot y) ≡ ks
+  pub worth : W t (slot y) value ≡ v
+
+-- interning the content ks, v answered o: the id of a live node of exactly that content; the one that was there if there was one, and then no
+-- slot was given out; else an id that was not live before
+pub record Interned (t : Tables) (ks : List ℕ) (v : ℕ) (o : Out) : Type 0 where
+  pub has : Has (o .after) (o .id) ks v
+  pub again : (y : ℕ) → Has t y ks v → (o .id ≡ y) × (o .after .arena ≡ t .arena)
+  pub fresh : ((y : ℕ) → Has t y ks v → ⊥) → Lives t (o .id) → ⊥
+
+-- ## Generations
+
+-- the generation of a slot after k recyclings
+unfoldable pub turned : ℕ → ℕ → ℕ
+turned zero g = g
+turned (suc k) g = nextGeneration (turned k g)
+
+-- 1 if the node in slot s ended between t and u: it was live and the slot is not; else 0
+unfoldable pub ended : Tables → Tables → ℕ → ℕ
+ended t u s = pick (leb floor (W t s own)) (pick (ltb (W u s own) floor) 1 0) 0
+
+-- u is reached from t by calls, which have recycled each slot so often
+pub data Later (n tallest : ℕ) (t : Tables) : Tables → (ℕ → ℕ) → Type 0 where
+  now : Later n tallest t t (λ s. 0)
+  then : {u : Tables} {times : ℕ → ℕ} → Later n tallest t u times → (c : Call) → Handed n c
+      → Later n tallest t (outcome n tallest u c .after) (λ s. times s + ended u (outcome n tallest u c .after) s)

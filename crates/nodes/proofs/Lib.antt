@@ -1,0 +1,7 @@
+pub mod Sums
+pub mod Access
+pub mod Counts
+pub mod Freeing
+pub mod Walking
+pub mod Frame
+pub mod Local

@@ -1,0 +1,118 @@
+// The words of the nodes in their two lent tables, `kids` and `facts`: see specs/Words.antt. Every function is total: what lies outside a
+// table reads 0 and is not written.
+ghost use mathlib.Core.Path.{_≡_};
+ghost use Prim.Native.Nat.{_+_, _*_, _-_, _<_, _≤_};
+ghost use lib.ListN.{length, getD, set};
+ghost use Rattle.nodes.specs.Words.{nodes, kidOf, factOf, factPut, putsFrom, written};
+ghost use Rattle.nodes.specs.Tally.{kidsOf};
+
+// The words of a slot in the table `facts`. (The children are the words 0 to 7.)
+pub const OWN: usize = 8;
+
+pub const VALUE: usize = 9;
+
+pub const HEIGHT: usize = 10;
+
+pub const HOLDS: usize = 11;
+
+pub const PLACES: usize = 12;
+
+pub const LINK: usize = 13;
+
+pub const SPARE: usize = 14;
+
+// Child i of slot s; 0 above 7.
+pub fn kid(kids: &[u64], s: usize, i: usize) -> u64
+    ensures { λ r. ⌜ r ≡ kidOf (now (kids .entry)) s i ⌝ }
+{
+    if i < 8 {
+        if s < kids.len() {
+            let at = 8 * s + i;
+            if at < kids.len() {
+                return kids[at];
+            }
+        }
+    }
+    0
+}
+
+// The eight children of slot s.
+pub fn children(kids: &[u64], s: usize) -> [u64; 8]
+    ensures { λ r. ⌜ r ≡ kidsOf 8 (kidOf (now (kids .entry))) s ⌝ }
+{
+    [
+        kid(kids, s, 0),
+        kid(kids, s, 1),
+        kid(kids, s, 2),
+        kid(kids, s, 3),
+        kid(kids, s, 4),
+        kid(kids, s, 5),
+        kid(kids, s, 6),
+        kid(kids, s, 7),
+    ]
+}
+
+// The fact f of slot s; 0 where f is none of the seven.
+pub fn fact(facts: &[u64], s: usize, f: usize) -> u64
+    ensures { λ r. ⌜ r ≡ factOf (now (facts .entry)) s f ⌝ }
+{
+    if OWN <= f {
+        if f <= SPARE {
+            if s < facts.len() {
+                let at = 7 * s + (f - OWN);
+                if at < facts.len() {
+                    return facts[at];
+                }
+            }
+        }
+    }
+    0
+}
+
+// Writes the fact f of slot s.
+pub fn put_fact(facts: &mut [u64], s: usize, f: usize, v: u64)
+    ensures { λ _. ⌜ now (facts .exit) ≡ factPut (now (facts .entry)) s f v ⌝ }
+{
+    if OWN <= f {
+        if f <= SPARE {
+            if s < facts.len() {
+                let place = 7 * s + (f - OWN);
+                if place < facts.len() {
+                    facts[place] = v;
+                }
+            }
+        }
+    }
+}
+
+// Writes one number; nothing past the end.
+fn put_at(table: &mut [u64], at: usize, v: u64)
+    ensures { λ _. ⌜ now (table .exit) ≡ set (now (table .entry)) at v ⌝ }
+{
+    if at < table.len() {
+        table[at] = v;
+    }
+}
+
+// Writes a row, the words of slot s in a table of `width` words a slot.
+fn put_row(table: &mut [u64], width: usize, s: usize, row: &[u64])
+    requires { ⌜ (1 ≤ width) × (width ≤ 8) ⌝ }
+    ensures { λ _. ⌜ now (table .exit) ≡ putsFrom (now (table .entry)) (width * s) (now (row .entry)) ⌝ }
+{
+    if s < table.len() {
+        let at = width * s;
+        let mut i: usize = 0;
+        while i < row.len() {
+            put_at(table, at + i, row[i]);
+            i += 1;
+        }
+    }
+}
+
+// Writes a whole slot: its eight children and its seven facts.
+pub fn write_slot(kids: &mut [u64], facts: &mut [u64], s: usize, ks: [u64; 8], fs: [u64; 7])
+    ensures { λ _. ⌜ nodes (now (kids .exit)) (now (facts .exit)) ≡ written (nodes (now (kids .entry)) (now (facts .entry))) s ks fs ⌝ }
+{
+    put_row(kids, 8, s, &ks);
+    put_row(facts, 7, s, &fs);
+}

@@ -1,0 +1,4 @@
+pub mod Ladders
+pub mod Passes
+pub mod Tallying
+pub mod Searching

@@ -1,0 +1,12 @@
+pub mod Paint
+pub mod Blocks
+pub mod Ends
+pub mod Fill
+pub mod Grow
+pub mod Parts
+pub mod Cube
+pub mod Calls
+pub mod Plain
+pub mod Laws
+pub mod Meaning
+pub mod Sample

@@ -1,0 +1,107 @@
+-- A change of a cube's list that writes g into a region of cells and leaves the others alone.
+use Prim.Native.Nat.{ℕ, zero, suc, _+_, _*_, _/_, _%_, _≤_, _<_}
+use native.Mathlib.Nat.{mul-le-mul-right}
+use native.Mathlib.Omega.{arith}
+use mathlib.Core.Path.{_≡_, _∙_, refl, sym, ap, subst}
+use mathlib.Core.Logic.{_≢_}
+use mathlib.Core.List.{List}
+use lib.Arith.{digits-div, digits-mod}
+use lib.ListN.{length, getD}
+use Rattle.reading.specs.Models.{times}
+
+-- ---- where cell (x, y, z) stands: s cells a row, t rows a plane (t is s for a cube, 1 for a sheet)
+
+abbrev pub addr : ℕ → ℕ → ℕ → ℕ → ℕ → ℕ
+addr s t x y z = y * (t * s) + z * s + x
+
+pub addr-lt : (s t x y z : ℕ) → x < s → y < s → z < t → addr s t x y z < s * t * s
+addr-lt s t x y z hx hy hz =
+    let a : suc z * s ≤ t * s = mul-le-mul-right s hz in
+    let b : suc y * (t * s) ≤ s * (t * s) = mul-le-mul-right (t * s) hy in
+    omega arith
+
+-- x, z and y are the digits of the address
+addr-row : (s t x y z : ℕ) → addr s t x y z ≡ (y * t + z) * s + x
+addr-row s t x y z = omega arith
+
+pub addr-x : (s t x y z : ℕ) → x < s → addr s t x y z % s ≡ x
+addr-x s t x y z h = rw (addr-row s t x y z) (digits-mod (y * t + z) h)
+
+pub addr-z : (s t x y z : ℕ) → x < s → z < t → addr s t x y z / s % t ≡ z
+addr-z s t x y z h k = rw (addr-row s t x y z, digits-div (y * t + z) h) (digits-mod y k)
+
+pub addr-yz : (s t x y z : ℕ) → x < s → z < t → addr s t x y z / s / t ≡ y
+addr-yz s t x y z h k = rw (addr-row s t x y z, digits-div (y * t + z) h) (digits-div y k)
+
+pub record SameCell (x y z x′ y′ z′ : ℕ) : Type 0 where
+  pub ex : x ≡ x′
+  pub ey : y ≡ y′
+  pub ez : z ≡ z′
+
+pub addr-one : (s t x y z x′ y′ z′ : ℕ) → x < s → z < t → x′ < s → z′ < t → addr s t x y z ≡ addr s t x′ y′ z′ → SameCell x y z x′ y′ z′
+addr-one s t x y z x′ y′ z′ h k h′ k′ e =
+    record {
+      ex = sym (addr-x s t x y z h) ∙ ap (λ (i : ℕ). i % s) e ∙ addr-x s t x′ y′ z′ h′;
+      ey = sym (addr-yz s t x y z h k) ∙ ap (λ (i : ℕ). i / s / t) e ∙ addr-yz s t x′ y′ z′ h′ k′;
+      ez = sym (addr-z s t x y z h k) ∙ ap (λ (i : ℕ). i / s % t) e ∙ addr-z s t x′ y′ z′ h′ k′;
+    }
+
+-- ---- painting
+
+pub record Paints (s t : ℕ) (R : ℕ → ℕ → ℕ → Type 0) (g : ℕ → ℕ → ℕ → ℕ) (f : List ℕ → List ℕ) : Type 0 where
+  pub size : (l : List ℕ) → length (f l) ≡ length l
+  pub hit : (l : List ℕ) → length l ≡ s * t * s → (x y z : ℕ) → x < s → y < s → z < t → R x y z → getD (f l) (addr s t x y z) 0 ≡ g x y z
+  pub miss : (l : List ℕ) → length l ≡ s * t * s → (x y z : ℕ) → x < s → y < s → z < t → ¬ (R x y z) → getD (f l) (addr s t x y z) 0 ≡ getD l (addr s t x y z) 0
+
+-- the same change, said of another region of the same cells and of values alike there
+pub recast : (s t : ℕ) (R R′ : ℕ → ℕ → ℕ → Type 0) (g g′ : ℕ → ℕ → ℕ → ℕ) (f : List ℕ → List ℕ)
+    → ((x y z : ℕ) → x < s → y < s → z < t → R′ x y z → R x y z)
+    → ((x y z : ℕ) → x < s → y < s → z < t → R x y z → R′ x y z)
+    → ((x y z : ℕ) → x < s → y < s → z < t → R′ x y z → g x y z ≡ g′ x y z)
+    → Paints s t R g f → Paints s t R′ g′ f
+recast s t R R′ g g′ f into out same p =
+    record {
+      size = p .size;
+      hit = λ l e x y z hx hy hz r. p .hit l e x y z hx hy hz (into x y z hx hy hz r) ∙ same x y z hx hy hz r;
+      miss = λ l e x y z hx hy hz n. p .miss l e x y z hx hy hz (λ r. n (out x y z hx hy hz r));
+    }
+
+-- the same change, written otherwise
+pub alike : (s t : ℕ) (R : ℕ → ℕ → ℕ → Type 0) (g : ℕ → ℕ → ℕ → ℕ) (f f′ : List ℕ → List ℕ) → ((l : List ℕ) → f l ≡ f′ l) → Paints s t R g f → Paints s t R g f′
+alike s t R g f f′ e p =
+    record {
+      size = λ l. rw (← e l) (p .size l);
+      hit = λ l k x y z hx hy hz r. rw (← e l) (p .hit l k x y z hx hy hz r);
+      miss = λ l k x y z hx hy hz n. rw (← e l) (p .miss l k x y z hx hy hz n);
+    }
+
+abbrev pub Some : ℕ → (ℕ → ℕ → ℕ → ℕ → Type 0) → ℕ → ℕ → ℕ → Type 0
+Some n R x y z = (i : ℕ) × (i < n) × R i x y z
+
+abbrev pub Decided : (ℕ → ℕ → ℕ → ℕ → Type 0) → Type 0
+Decided R = (i x y z : ℕ) → Dec (R i x y z)
+
+times-one : (s t n : ℕ) (R : ℕ → ℕ → ℕ → ℕ → Type 0) (g : ℕ → ℕ → ℕ → ℕ) (f : ℕ → List ℕ → List ℕ)
+    → Decided R → Paints s t (Some n R) g (times f n) → Paints s t (R n) g (f n) → Paints s t (Some (suc n) R) g (λ l. f n (times f n l))
+times-one s t n R g f dec p q =
+    record {
+      size = λ l. q .size (times f n l) ∙ p .size l;
+      hit = λ l e x y z hx hy hz r. hit l e x y z hx hy hz r (dec n x y z);
+      miss = λ l e x y z hx hy hz k.
+          q .miss (times f n l) (p .size l ∙ e) x y z hx hy hz (λ r. k (n, omega arith, r))
+          ∙ p .miss l e x y z hx hy hz (λ r. k (r .0, omega (arith, r .1), r .2));
+    }
+  where
+    hit : (l : List ℕ) → length l ≡ s * t * s → (x y z : ℕ) → x < s → y < s → z < t → Some (suc n) R x y z → Dec (R n x y z) → getD (f n (times f n l)) (addr s t x y z) 0 ≡ g x y z
+    hit l e x y z hx hy hz r (yes k) = q .hit (times f n l) (p .size l ∙ e) x y z hx hy hz k
+    hit l e x y z hx hy hz r (no k) =
+        let d : r .0 ≢ n = λ j. k (subst (λ (i : ℕ). R i x y z) j (r .2)) in
+        q .miss (times f n l) (p .size l ∙ e) x y z hx hy hz k ∙ p .hit l e x y z hx hy hz (r .0, omega (arith, r .1, d), r .2)
+
+pub times-paints : (s t n : ℕ) (R : ℕ → ℕ → ℕ → ℕ → Type 0) (g : ℕ → ℕ → ℕ → ℕ) (f : ℕ → List ℕ → List ℕ)
+    → Decided R → ((i : ℕ) → i < n → Paints s t (R i) g (f i)) → Paints s t (Some n R) g (times f n)
+unfolding times
+times-paints s t zero R g f dec h =
+    record { size = λ l. refl; hit = λ l e x y z hx hy hz r. absurd (omega (arith, r .1)); miss = λ l e x y z hx hy hz k. refl }
+times-paints s t (suc n) R g f dec h =
+    times-one s t n R g f dec (times-paints s t n R g f dec (λ i k. h i (omega arith))) (h n (omega arith))

@@ -1,0 +1,78 @@
+-- What each private function does, step by step. Nobody has to believe these: the laws carry them to Reading and Calls.
+use Prim.Native.Nat.{ℕ, zero, suc, _+_, _-_, _*_, _/_, _%_, _^_}
+use mathlib.Core.Bool.{Bool, true}
+use mathlib.Core.List.{List}
+use lib.Dec.{leb, ltb, eqb}
+use lib.IntN.{ℤ, pos, negsuc}
+use lib.ListN.{set}
+use Rattle.basics.specs.Pick.{pick}
+use Rattle.nodes.specs.Words.{Words}
+use Rattle.tree.specs.Tree.{childOf}
+use Rattle.nodes.specs.Values.{valueAt}
+use Rattle.arena.specs.Tables.{Tables, cap, W}
+use Rattle.arena.specs.Calls.{fits, liveOrEmpty}
+use Rattle.reading.specs.declared.Looked.{Looked}
+use Rattle.reading.specs.Reading.{cellOf}
+use Rattle.reading.specs.Calls.{looked}
+
+-- EMPTY or a leaf
+unfoldable pub endsAt : ℕ → Bool
+endsAt a = pick (eqb a 0) true (leb (2 ^ 63) a)
+
+-- the value of an id, in 16 bits
+unfoldable pub val : Words → ℕ → ℕ
+val W a = valueAt W a % 2 ^ 16
+
+-- ## Lookup, of coordinates as numbers
+
+-- a coordinate below 0 becomes 2^32 - 1, which no cube has
+unfoldable pub coordOf : ℤ → ℕ
+coordOf (pos n) = n
+coordOf (negsuc n) = 2 ^ 32 - 1
+
+unfoldable pub lookNoAt : Tables → ℕ → ℕ → ℕ → ℕ → ℕ → ℕ
+lookNoAt t id d x y z =
+    pick (fits t)
+    (pick (leb d 6) (pick (ltb x (2 ^ d)) (pick (ltb y (2 ^ d)) (pick (ltb z (2 ^ d)) (pick (liveOrEmpty (cap t) (W t) id) 0 4) 3) 3) 3) 2)
+    1
+
+unfoldable pub lookAt : Tables → ℕ → ℕ → ℕ → ℕ → ℕ → Looked
+lookAt t id d x y z = pick (eqb (lookNoAt t id d x y z) 0) (looked 0 (cellOf (W t) d id x y z)) (looked (lookNoAt t id d x y z) 0)
+
+-- ## Expansion, on the list of the cube: cells lie side by side in a row, rows `row` apart, planes `plane` apart
+
+-- f 0, then f 1, .., then f (n - 1)
+unfoldable pub times : (ℕ → List ℕ → List ℕ) → ℕ → List ℕ → List ℕ
+times f zero l = l
+times f (suc i) l = f i (times f i l)
+
+-- n cells from `at`
+unfoldable pub fillRow : ℕ → ℕ → ℕ → List ℕ → List ℕ
+fillRow at n u l = times (λ x m. set m (at + x) u) n l
+
+-- w rows of n
+unfoldable pub fillPlane : ℕ → ℕ → ℕ → ℕ → ℕ → List ℕ → List ℕ
+fillPlane row at n w u l = times (λ z m. fillRow (at + z * row) n u m) w l
+
+-- n planes of w rows of n
+unfoldable pub fillBlock : ℕ → ℕ → ℕ → ℕ → ℕ → ℕ → List ℕ → List ℕ
+fillBlock row plane at n w u l = times (λ y m. fillPlane row (at + y * plane) n w u m) n l
+
+-- the rows in each plane of a block: as many as its side in a cube, one in a sheet
+unfoldable pub thick : ℕ → ℕ → ℕ
+thick n side = pick (eqb n 8) side 1
+
+-- how far part c of side h lies from the corner
+unfoldable pub offset : ℕ → ℕ → ℕ → ℕ → ℕ
+offset row plane h c = c % 2 * h + c / 2 % 2 * (h * plane) + c / 4 * (h * row)
+
+-- the n parts in turn, one level lower
+unfoldable pub grow : Words → ℕ → ℕ → ℕ → ℕ → ℕ → ℕ → ℕ → List ℕ → List ℕ
+grow W n row plane zero side a at l = set l at (val W a)
+grow W n row plane (suc k) side a at l =
+    pick (endsAt a) (fillBlock row plane at side (thick n side) (val W a) l)
+    (times (λ c m. grow W n row plane k (side / 2) (childOf W a c) (at + offset row plane (side / 2) c) m) n l)
+
+-- the first c parts of a branch, h their side and k the levels below them
+abbrev pub partsTo : Words → ℕ → ℕ → ℕ → ℕ → ℕ → ℕ → ℕ → ℕ → List ℕ → List ℕ
+partsTo W n row plane k h a at c l = times (λ i m. grow W n row plane k h (childOf W a i) (at + offset row plane h i) m) c l

@@ -1,0 +1,392 @@
+// Reading: the end that a cell's path leads to, lookup, and expansion into a lent cube.
+use arena::Arena;
+use arena::fit;
+use arena::is_live;
+use arena::slot_of;
+use ids::BlockId;
+use nodes::VALUE;
+use nodes::fact;
+use nodes::kid;
+use paths::IVec3;
+ghost use mathlib.Core.Path.{_≡_};
+ghost use Prim.Native.Nat.{_+_, _*_, _/_, _^_, _<_, _≤_};
+ghost use lib.Dec.{ltb, eqb};
+ghost use Rattle.nodes.specs.Words.{nodes, kidOf, factOf, wordOf};
+ghost use Rattle.paths.specs.Paths.{octant as octantOf};
+ghost use Rattle.arena.specs.Tables.{tables};
+ghost use Rattle.arena.specs.Calls.{liveOrEmpty};
+ghost use Rattle.reading.specs.Reading.{endOf};
+ghost use Rattle.reading.specs.Calls.{lookOf, expandNo, expanded, expandOf};
+ghost use Rattle.reading.specs.Models.{endsAt, val, coordOf, lookNoAt, lookAt, fillRow, fillPlane, fillBlock, offset as offsetOf, grow, partsTo};
+
+// The lowest id of a leaf: bit 63 is the leaf flag.
+const LEAF: u64 = 0x8000_0000_0000_0000;
+
+// Where a path ended: the id reached, and its level.
+pub struct End {
+    pub id: BlockId,
+    pub level: u32,
+}
+
+// The answer of lookup.
+pub struct Looked {
+    pub no: u32,
+    pub value: u16,
+}
+
+// ---- ids
+
+// Is the id EMPTY or a leaf?
+fn is_end(id: u64) -> bool
+    ensures { λ r. ⌜ r ≡ endsAt id ⌝ }
+{
+    if id < LEAF {
+        return id == BlockId::EMPTY.0;
+    }
+    true
+}
+
+// The stored value, in 16 bits; EMPTY has 0.
+fn value(facts: &[u64], id: u64) -> u16
+    ensures { λ r. ⌜ r ≡ val (factOf (now (facts .entry))) id ⌝ }
+{
+    if id == BlockId::EMPTY.0 {
+        return 0;
+    }
+    (fact(facts, slot_of(id), VALUE) % 0x1_0000) as u16
+}
+
+// ---- down a path
+
+// Of three numbers, bit b of x, plus twice that of y, plus four times that of z.
+fn octant(b: u32, x: u32, y: u32, z: u32) -> usize
+    requires { ⌜ b < 32 ⌝ }
+    ensures { λ r. ⌜ r ≡ octantOf b x y z ⌝ }
+{
+    ((x >> b) % 2 + 2 * ((y >> b) % 2) + 4 * ((z >> b) % 2)) as usize
+}
+
+// Down from id, as level 0, to the cell (x, y, z) of the depth: until EMPTY, a leaf, or level depth. INVALID of a depth above 6.
+pub fn descend(kids: &[u64], id: BlockId, depth: u32, x: u32, y: u32, z: u32) -> End
+    ensures { λ r. ⌜ r ≡ endOf (kidOf (now (kids .entry))) (id .0) depth x y z ⌝ }
+{
+    if 6 < depth {
+        return End {
+            id: BlockId::INVALID,
+            level: 0,
+        };
+    }
+    let mut at = id.0;
+    let mut left = depth;
+    while 0 < left {
+        if is_end(at) {
+            return End {
+                id: BlockId(at),
+                level: depth - left,
+            };
+        }
+        left -= 1;
+        at = kid(kids, slot_of(at), octant(left, x, y, z));
+    }
+    End {
+        id: BlockId(at),
+        level: depth,
+    }
+}
+
+// ---- refusals
+
+// Not refusal 4: EMPTY, or in all 64 bits the id of a node now in the arena.
+fn is_there(c: usize, facts: &[u64], id: u64) -> bool
+    ensures { λ r. ⌜ r ≡ liveOrEmpty c (factOf (now (facts .entry))) id ⌝ }
+{
+    if id == BlockId::EMPTY.0 {
+        return true;
+    }
+    is_live(c, facts, id)
+}
+
+// 2^d
+fn side_of(d: u32) -> usize
+    requires { ⌜ d ≤ 6 ⌝ }
+    ensures { λ r. ⌜ (r ≡ 2 ^ d) × (r ≤ 64) ⌝ }
+{
+    let one: usize = 1;
+    one << d
+}
+
+// A coordinate as a number; one below 0 becomes 2^32 - 1, which no cube has.
+fn coord(x: i32) -> u32
+    ensures { λ r. ⌜ r ≡ coordOf x ⌝ }
+{
+    if x < 0 {
+        return 0xFFFF_FFFF;
+    }
+    x as u32
+}
+
+fn is_inside(d: u32, x: u32) -> bool
+    requires { ⌜ d ≤ 6 ⌝ }
+    ensures { λ r. ⌜ r ≡ ltb x (2 ^ d) ⌝ }
+{
+    (x as usize) < side_of(d)
+}
+
+// ---- lookup
+
+// The lowest refusal that applies to a lookup, or 0.
+fn look_no(
+    arena: Arena,
+    kids: &[u64],
+    facts: &[u64],
+    find: &[u16],
+    id: u64,
+    d: u32,
+    x: u32,
+    y: u32,
+    z: u32,
+) -> u32
+    ensures { λ r. ⌜ r ≡ lookNoAt (tables arena (now (kids .entry)) (now (facts .entry)) (now (find .entry))) id d x y z ⌝ }
+{
+    if fit(arena.capacity, kids.len(), facts.len(), find.len()) {
+        if d <= 6 {
+            if is_inside(d, x) {
+                if is_inside(d, y) {
+                    if is_inside(d, z) {
+                        if is_there(arena.capacity, facts, id) {
+                            return 0;
+                        }
+                        return 4;
+                    }
+                    return 3;
+                }
+                return 3;
+            }
+            return 3;
+        }
+        return 2;
+    }
+    1
+}
+
+// Lookup of coordinates that are numbers.
+fn look_at(
+    arena: Arena,
+    kids: &[u64],
+    facts: &[u64],
+    find: &[u16],
+    id: BlockId,
+    d: u32,
+    x: u32,
+    y: u32,
+    z: u32,
+) -> Looked
+    ensures { λ r. ⌜ r ≡ lookAt (tables arena (now (kids .entry)) (now (facts .entry)) (now (find .entry))) (id .0) d x y z ⌝ }
+{
+    let no = look_no(arena, kids, facts, find, id.0, d, x, y, z);
+    if no != 0 {
+        return Looked { no: no, value: 0 };
+    }
+    let end = descend(kids, id, d, x, y, z);
+    Looked {
+        no: 0,
+        value: value(facts, end.id.0),
+    }
+}
+
+// The value at a cell of a cube of the depth under id, or a refusal: 1, 2, 3 or 4.
+pub fn get_at_depth(
+    arena: Arena,
+    kids: &[u64],
+    facts: &[u64],
+    find: &[u16],
+    id: BlockId,
+    depth: u32,
+    position: IVec3,
+) -> Looked
+    ensures { λ r. ⌜ r ≡ lookOf (tables arena (now (kids .entry)) (now (facts .entry)) (now (find .entry))) (id .0) depth position ⌝ }
+{
+    look_at(
+        arena,
+        kids,
+        facts,
+        find,
+        id,
+        depth,
+        coord(position.x),
+        coord(position.y),
+        coord(position.z),
+    )
+}
+
+// ---- expansion
+
+fn mul(a: usize, b: usize) -> usize
+    requires { ⌜ (a ≤ 4096) × (b ≤ 4096) ⌝ }
+    ensures { λ r. ⌜ (r ≡ a * b) × (r ≤ 16777216) ⌝ }
+{
+    a * b
+}
+
+// n cells from `at`.
+fn fill_row(cube: &mut [u16], at: usize, n: usize, v: u16)
+    requires { do ⌜ at + n ≤ (← ⟦cube.len()⟧) ⌝ }
+    ensures { λ _. ⌜ now (cube .exit) ≡ fillRow at n v (now (cube .entry)) ⌝ }
+{
+    let mut x: usize = 0;
+    while x < n {
+        cube[at + x] = v;
+        x += 1;
+    }
+}
+
+// n rows of n cells, `row` apart.
+fn fill_plane(cube: &mut [u16], at: usize, n: usize, row: usize, v: u16)
+    requires { ⌜ (n ≤ 64) × (row ≤ 64) ⌝ }
+    requires { do ⌜ at + n * row + n ≤ (← ⟦cube.len()⟧) + row ⌝ }
+    ensures { λ _. ⌜ now (cube .exit) ≡ fillPlane row at n n v (now (cube .entry)) ⌝ }
+{
+    let mut z: usize = 0;
+    while z < n {
+        fill_row(cube, at + mul(z, row), n, v);
+        z += 1;
+    }
+}
+
+// n planes of n rows of n cells, `plane` apart.
+fn fill_block(cube: &mut [u16], at: usize, n: usize, row: usize, plane: usize, v: u16)
+    requires { ⌜ (n ≤ 64) × (row ≤ 64) × (plane ≤ 4096) ⌝ }
+    requires { do ⌜ at + n * plane + n * row + n ≤ (← ⟦cube.len()⟧) + plane + row ⌝ }
+    ensures { λ _. ⌜ now (cube .exit) ≡ fillBlock row plane at n n v (now (cube .entry)) ⌝ }
+{
+    let mut y: usize = 0;
+    while y < n {
+        fill_plane(cube, at + mul(y, plane), n, row, v);
+        y += 1;
+    }
+}
+
+// v where the bit is 1, else 0.
+fn upto(bit: usize, v: usize) -> usize
+    requires { ⌜ bit < 2 ⌝ }
+    ensures { λ r. ⌜ (r ≡ bit * v) × (r ≤ v) ⌝ }
+{
+    if bit == 0 { 0 } else { v }
+}
+
+// How far octant c of side h lies from the corner.
+fn offset(c: usize, h: usize, row: usize, plane: usize) -> usize
+    requires { ⌜ (c < 8) × (h ≤ 64) × (row ≤ 64) × (plane ≤ 4096) ⌝ }
+    ensures { λ r. ⌜ (r ≡ offsetOf row plane h c) × (r ≤ h * plane + h * row + h) ⌝ }
+{
+    upto(c % 2, h) + upto(c / 2 % 2, mul(h, plane)) + upto(c / 4, mul(h, row))
+}
+
+// One octant of the lent cube: its corner at `at`, `left` levels above the cells.
+fn fill_octant(
+    kids: &[u64],
+    facts: &[u64],
+    cube: &mut [u16],
+    id: u64,
+    at: usize,
+    left: u32,
+    side: usize,
+    row: usize,
+    plane: usize,
+)
+    requires { ⌜ (side ≡ 2 ^ left) × (side ≤ 64) × (row ≤ 64) × (plane ≤ 4096) ⌝ }
+    requires { do ⌜ at + side * plane + side * row + side ≤ (← ⟦cube.len()⟧) + plane + row ⌝ }
+    ensures { λ _. ⌜ now (cube .exit) ≡ grow (wordOf (nodes (now (kids .entry)) (now (facts .entry)))) 8 row plane left side id at (now (cube .entry)) ⌝ }
+{
+    if left == 0 {
+        cube[at] = value(facts, id);
+        return;
+    }
+    if is_end(id) {
+        fill_block(cube, at, side, row, plane, value(facts, id));
+        return;
+    }
+    fill_octants(kids, facts, cube, id, at, left - 1, side / 2, row, plane);
+}
+
+// The eight octants of a branch, each of side h, in turn.
+fn fill_octants(
+    kids: &[u64],
+    facts: &[u64],
+    cube: &mut [u16],
+    id: u64,
+    at: usize,
+    left: u32,
+    h: usize,
+    row: usize,
+    plane: usize,
+)
+    requires { ⌜ (h ≡ 2 ^ left) × (h ≤ 32) × (row ≤ 64) × (plane ≤ 4096) ⌝ }
+    requires { do ⌜ at + 2 * h * plane + 2 * h * row + 2 * h ≤ (← ⟦cube.len()⟧) + plane + row ⌝ }
+    ensures { λ _. ⌜ now (cube .exit) ≡ partsTo (wordOf (nodes (now (kids .entry)) (now (facts .entry)))) 8 row plane left h id at 8 (now (cube .entry)) ⌝ }
+{
+    let s = slot_of(id);
+    let mut c: usize = 0;
+    while c < 8 {
+        let e = at + offset(c, h, row, plane);
+        fill_octant(kids, facts, cube, kid(kids, s, c), e, left, h, row, plane);
+        c += 1;
+    }
+}
+
+// Is n 8^d?
+fn is_cube(d: u32, n: usize) -> bool
+    requires { ⌜ d ≤ 6 ⌝ }
+    ensures { λ r. ⌜ r ≡ eqb n (8 ^ d) ⌝ }
+{
+    let s = side_of(d);
+    n == mul(mul(s, s), s)
+}
+
+// The lowest refusal that applies to an expansion, or 0.
+fn expand_no(
+    arena: Arena,
+    kids: &[u64],
+    facts: &[u64],
+    find: &[u16],
+    id: u64,
+    d: u32,
+    n: usize,
+) -> u32
+    ensures { λ r. ⌜ r ≡ expandNo (tables arena (now (kids .entry)) (now (facts .entry)) (now (find .entry))) id d n ⌝ }
+{
+    if fit(arena.capacity, kids.len(), facts.len(), find.len()) {
+        if d <= 6 {
+            if is_there(arena.capacity, facts, id) {
+                if is_cube(d, n) {
+                    return 0;
+                }
+                return 9;
+            }
+            return 4;
+        }
+        return 2;
+    }
+    1
+}
+
+// Writes the cells of the cube of the depth under id, or refuses: 1, 2, 4 or 9.
+pub fn to_vec(
+    arena: Arena,
+    kids: &[u64],
+    facts: &[u64],
+    find: &[u16],
+    id: BlockId,
+    depth: u32,
+    cube: &mut [u16],
+) -> u32
+    ensures { λ r. ⌜ expanded r (now (cube .exit)) ≡ expandOf (tables arena (now (kids .entry)) (now (facts .entry)) (now (find .entry))) (id .0) depth (now (cube .entry)) ⌝ }
+{
+    let no = expand_no(arena, kids, facts, find, id.0, depth, cube.len());
+    if no != 0 {
+        return no;
+    }
+    let s = side_of(depth);
+    fill_octant(kids, facts, cube, id.0, 0, depth, s, s, mul(s, s));
+    0
+}

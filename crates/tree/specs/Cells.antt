@@ -1,0 +1,21 @@
+-- Cells by coordinates, and the paths that lead to them.
+use mathlib.Core.List.{List, [], _∷_}
+use Prim.Native.Nat.{ℕ, zero, suc, _+_, _*_}
+use Rattle.basics.specs.Bits.{bit}
+use Rattle.paths.specs.Paths.{octant}
+
+-- the child number at bit b in a flat sheet, as `octant` in a cube
+unfoldable pub quadrant : ℕ → ℕ → ℕ → ℕ
+quadrant b x y = bit b x + 2 * bit b y
+
+-- the path f (d - 1), f (d - 2), .., f 0 from the root down: level k takes the child number of bit d - 1 - k
+unfoldable pub pathBy : (ℕ → ℕ) → ℕ → List ℕ
+pathBy f zero = []
+pathBy f (suc d) = f d ∷ pathBy f d
+
+-- the path of the cell (x, y, z) at depth d, and of (x, y) in a sheet
+abbrev pub cubePath : ℕ → ℕ → ℕ → ℕ → List ℕ
+cubePath d x y z = pathBy (λ b. octant b x y z) d
+
+abbrev pub sheetPath : ℕ → ℕ → ℕ → List ℕ
+sheetPath d x y = pathBy (λ b. quadrant b x y) d

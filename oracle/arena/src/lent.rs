@@ -1,0 +1,168 @@
+//! The port's arena on tables that stand between guard words.
+use crate::call::{Answered, Call};
+use port::arena::{self, Arena, Tables};
+use reference::document01::EMPTY;
+use reference::tables::Tables as View;
+
+/// How many guard words stand on each side of a table.
+const GUARD: usize = 16;
+
+/// Words between guard words.
+#[derive(Clone)]
+struct Guarded<T> {
+    words: Vec<T>,
+    guard: T,
+}
+
+impl<T: Copy + PartialEq> Guarded<T> {
+    fn new(inside: &[T], guard: T) -> Self {
+        let side = [guard; GUARD];
+        Self {
+            words: [&side[..], inside, &side[..]].concat(),
+            guard,
+        }
+    }
+
+    fn inside(&self) -> &[T] {
+        &self.words[GUARD..self.words.len() - GUARD]
+    }
+
+    fn inside_mut(&mut self) -> &mut [T] {
+        let end = self.words.len() - GUARD;
+        &mut self.words[GUARD..end]
+    }
+
+    fn is_intact(&self) -> bool {
+        let side = [self.guard; GUARD];
+        self.words[..GUARD] == side && self.words[self.words.len() - GUARD..] == side
+    }
+}
+
+/// The state and the three tables of an arena of the port.
+#[derive(Clone)]
+pub struct Lent {
+    pub arena: Arena,
+    kids: Guarded<u64>,
+    facts: Guarded<u64>,
+    find: Guarded<u16>,
+}
+
+impl Lent {
+    /// Tables of these contents.
+    pub fn new(arena: Arena, kids: &[u64], facts: &[u64], find: &[u16]) -> Self {
+        Self {
+            arena,
+            kids: Guarded::new(kids, 0xA5A5_5A5A_C3C3_3C3C),
+            facts: Guarded::new(facts, 0x5A5A_A5A5_3C3C_C3C3),
+            find: Guarded::new(find, 0xA5C3),
+        }
+    }
+
+    /// A fresh arena, made by the port on tables full of ones.
+    pub fn fresh(capacity: usize) -> Self {
+        let arena = Arena {
+            capacity,
+            next: 0,
+            top: 0,
+            live: 0,
+        };
+        let mut lent = Self::new(
+            arena,
+            &vec![u64::MAX; 8 * capacity],
+            &vec![u64::MAX; 7 * capacity],
+            &vec![u16::MAX; 3 * capacity],
+        );
+        assert_eq!(lent.make_fresh(capacity), 0);
+        lent
+    }
+
+    pub fn kids(&self) -> &[u64] {
+        self.kids.inside()
+    }
+
+    pub fn facts(&self) -> &[u64] {
+        self.facts.inside()
+    }
+
+    pub fn find(&self) -> &[u16] {
+        self.find.inside()
+    }
+
+    pub fn tables(&mut self) -> Tables<'_> {
+        Tables {
+            kids: self.kids.inside_mut(),
+            facts: self.facts.inside_mut(),
+            find: self.find.inside_mut(),
+        }
+    }
+
+    /// State and tables as document 01's reading takes them.
+    pub fn view(&self) -> View<'_> {
+        View {
+            capacity: self.arena.capacity,
+            next: self.arena.next,
+            top: self.arena.top,
+            live: self.arena.live,
+            kids: self.kids(),
+            facts: self.facts(),
+            find: self.find(),
+        }
+    }
+
+    /// Is every guard word as it was?
+    pub fn is_intact(&self) -> bool {
+        self.kids.is_intact() && self.facts.is_intact() && self.find.is_intact()
+    }
+
+    /// Have the two the same state and tables?
+    pub fn is_same(&self, other: &Self) -> bool {
+        self.arena == other.arena
+            && self.kids.words == other.kids.words
+            && self.facts.words == other.facts.words
+            && self.find.words == other.find.words
+    }
+
+    /// A fresh arena over these tables: the number of the refusal, or 0.
+    pub fn make_fresh(&mut self, capacity: usize) -> u32 {
+        let answer = arena::fresh(capacity, &mut self.tables());
+        self.arena = answer.arena;
+        answer.no
+    }
+
+    pub fn call(&mut self, call: &Call<u64>) -> Answered {
+        let state = self.arena;
+        let mut tables = self.tables();
+        let (answered, state) = match *call {
+            Call::Leaf(value) => {
+                let made = arena::intern_leaf(state, &mut tables, value);
+                (Answered::made(made.no, made.id), made.arena)
+            }
+            Call::Branch(children) => {
+                let made = arena::intern_branch(state, &mut tables, children);
+                (Answered::made(made.no, made.id), made.arena)
+            }
+            Call::Hold(id) => {
+                let answer = arena::hold(state, &mut tables, id);
+                (Answered::made(answer.no, EMPTY), answer.arena)
+            }
+            Call::Release(id) => {
+                let answer = arena::release(state, &mut tables, id);
+                (Answered::made(answer.no, EMPTY), answer.arena)
+            }
+            Call::Counts(id) => {
+                let counted = arena::counts(state, &mut tables, id);
+                (
+                    Answered {
+                        no: counted.no,
+                        id: EMPTY,
+                        holds: counted.holds,
+                        places: counted.places,
+                    },
+                    state,
+                )
+            }
+        };
+        self.arena = state;
+        answered
+    }
+}

@@ -1,0 +1,164 @@
+//! The arena's calls, as crates/arena_capi exports them, on tables that the caller lends.
+
+/// An arena's state, which goes by value beside its tables.
+#[repr(C)]
+#[derive(Clone, Copy, Debug, PartialEq, Eq)]
+pub struct Arena {
+    pub capacity: usize,
+    pub next: usize,
+    pub top: usize,
+    pub live: usize,
+}
+
+/// The answer of a call that makes a node.
+#[repr(C)]
+#[derive(Clone, Copy, Debug, PartialEq, Eq)]
+pub struct Made {
+    pub no: u32,
+    pub id: u64,
+    pub arena: Arena,
+}
+
+/// The answer of a call that answers no id.
+#[repr(C)]
+#[derive(Clone, Copy, Debug, PartialEq, Eq)]
+pub struct Answer {
+    pub no: u32,
+    pub arena: Arena,
+}
+
+#[repr(C)]
+#[derive(Clone, Copy, Debug, PartialEq, Eq)]
+pub struct Counted {
+    pub no: u32,
+    pub holds: u64,
+    pub places: u64,
+}
+
+#[repr(C)]
+struct Children {
+    ids: [u64; 8],
+}
+
+/// The three lent tables.
+pub struct Tables<'a> {
+    pub kids: &'a mut [u64],
+    pub facts: &'a mut [u64],
+    pub find: &'a mut [u16],
+}
+
+// A slice goes as its address and its length.
+unsafe extern "C" {
+    fn fenpiling_fresh(
+        capacity: usize,
+        kids: *mut u64,
+        kids_len: usize,
+        facts: *mut u64,
+        facts_len: usize,
+        find: *mut u16,
+        find_len: usize,
+    ) -> Answer;
+    fn fenpiling_intern_leaf(
+        arena: Arena,
+        kids: *mut u64,
+        kids_len: usize,
+        facts: *mut u64,
+        facts_len: usize,
+        find: *mut u16,
+        find_len: usize,
+        value: u16,
+    ) -> Made;
+    fn fenpiling_intern_branch(
+        arena: Arena,
+        kids: *mut u64,
+        kids_len: usize,
+        facts: *mut u64,
+        facts_len: usize,
+        find: *mut u16,
+        find_len: usize,
+        children: Children,
+    ) -> Made;
+    fn fenpiling_hold(
+        arena: Arena,
+        kids: *mut u64,
+        kids_len: usize,
+        facts: *mut u64,
+        facts_len: usize,
+        find: *mut u16,
+        find_len: usize,
+        id: u64,
+    ) -> Answer;
+    fn fenpiling_release(
+        arena: Arena,
+        kids: *mut u64,
+        kids_len: usize,
+        facts: *mut u64,
+        facts_len: usize,
+        find: *mut u16,
+        find_len: usize,
+        id: u64,
+    ) -> Answer;
+    fn fenpiling_counts(
+        arena: Arena,
+        kids: *const u64,
+        kids_len: usize,
+        facts: *const u64,
+        facts_len: usize,
+        find: *const u16,
+        find_len: usize,
+        id: u64,
+    ) -> Counted;
+}
+
+/// Calls an exported function with the tables as it takes them.
+macro_rules! call {
+    ($function:ident($first:expr, $tables:ident $(, $last:expr)?)) => {
+        // SAFETY: crates/arena_capi defines the function with these types, and proves that it is safe on any tables.
+        unsafe {
+            $function(
+                $first,
+                $tables.kids.as_mut_ptr(),
+                $tables.kids.len(),
+                $tables.facts.as_mut_ptr(),
+                $tables.facts.len(),
+                $tables.find.as_mut_ptr(),
+                $tables.find.len(),
+                $($last)?
+            )
+        }
+    };
+}
+
+#[inline]
+pub fn fresh(capacity: usize, tables: &mut Tables) -> Answer {
+    call!(fenpiling_fresh(capacity, tables))
+}
+
+#[inline]
+pub fn intern_leaf(arena: Arena, tables: &mut Tables, value: u16) -> Made {
+    call!(fenpiling_intern_leaf(arena, tables, value))
+}
+
+#[inline]
+pub fn intern_branch(arena: Arena, tables: &mut Tables, children: [u64; 8]) -> Made {
+    call!(fenpiling_intern_branch(
+        arena,
+        tables,
+        Children { ids: children }
+    ))
+}
+
+#[inline]
+pub fn hold(arena: Arena, tables: &mut Tables, id: u64) -> Answer {
+    call!(fenpiling_hold(arena, tables, id))
+}
+
+#[inline]
+pub fn release(arena: Arena, tables: &mut Tables, id: u64) -> Answer {
+    call!(fenpiling_release(arena, tables, id))
+}
+
+#[inline]
+pub fn counts(arena: Arena, tables: &mut Tables, id: u64) -> Counted {
+    call!(fenpiling_counts(arena, tables, id))
+}

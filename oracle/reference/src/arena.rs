@@ -1,0 +1,333 @@
+//! The arena as document 01 has it, written from that paper alone: contents looked up in maps, counts kept apart, and every refusal. A switch turns
+//! only the order in which one release frees nodes.
+use crate::document01::{EMPTY, INVALID, index, is_leaf, new_branch, new_leaf};
+use std::collections::{HashMap, VecDeque};
+
+/// A caller's holds on one node are at most this many.
+pub const MOST_HOLDS: u32 = 1_000_000;
+/// A branch is at most this tall.
+pub const TALLEST: u8 = 6;
+/// A generation that would reach this is 0 again.
+pub const GENERATIONS: u16 = 0x7FFE;
+
+pub const LEAST_CAPACITY: usize = 2;
+pub const MOST_CAPACITY: usize = 65_536;
+
+/// In which order one release frees the nodes that die by it.
+#[derive(Clone, Copy, Debug, PartialEq, Eq)]
+pub enum Order {
+    /// Document 01: a child that reaches zero is freed, with all below it, before the next child is taken.
+    DepthFirst,
+    /// The original: the children that reach zero wait in a queue.
+    BreadthFirst,
+}
+
+/// What document 01 knows of one slot. A slot without a node has id EMPTY and is cleared but for its generation.
+#[derive(Clone, Debug, Default, PartialEq, Eq)]
+pub struct Slot {
+    pub id: u64,
+    pub generation: u16,
+    pub value: u16,
+    pub height: u8,
+    pub holds: u32,
+    pub places: u32,
+    pub children: [u64; 8],
+}
+
+#[derive(Clone)]
+pub struct Arena {
+    order: Order,
+    slots: Vec<Slot>,
+    /// The freed slots, the last one freed at the end.
+    freed: Vec<u32>,
+    next: u32,
+    leaves: HashMap<u16, u32>,
+    branches: HashMap<[u64; 8], u32>,
+    touched: Vec<u32>,
+}
+
+impl Arena {
+    /// A fresh arena, or the number of the refusal.
+    pub fn fresh(capacity: usize, order: Order) -> Result<Self, u32> {
+        if !(LEAST_CAPACITY..=MOST_CAPACITY).contains(&capacity) {
+            return Err(1);
+        }
+        Ok(Self {
+            order,
+            slots: vec![Slot::default(); capacity],
+            freed: vec![],
+            next: 1,
+            leaves: HashMap::new(),
+            branches: HashMap::new(),
+            touched: vec![],
+        })
+    }
+
+    pub fn capacity(&self) -> usize {
+        self.slots.len()
+    }
+
+    pub fn slot(&self, slot: usize) -> &Slot {
+        &self.slots[slot]
+    }
+
+    /// The freed slots, the last one freed at the end.
+    pub fn freed(&self) -> &[u32] {
+        &self.freed
+    }
+
+    /// The lowest slot never given out.
+    pub fn next(&self) -> usize {
+        self.next as usize
+    }
+
+    pub fn live(&self) -> usize {
+        self.next() - 1 - self.freed.len()
+    }
+
+    pub fn is_full(&self) -> bool {
+        self.live() == self.capacity() - 1
+    }
+
+    /// The slots of which the last call changed something.
+    pub fn touched(&self) -> &[u32] {
+        &self.touched
+    }
+
+    /// An id is live exactly if it is, in all 64 bits, the id of a node now in the arena.
+    pub fn is_live(&self, id: u64) -> bool {
+        id != EMPTY && (self.slots.get(index(id) as usize)).is_some_and(|slot| slot.id == id)
+    }
+
+    fn is_empty_or_live(&self, id: u64) -> bool {
+        id == EMPTY || self.is_live(id)
+    }
+
+    /// The node of a live id.
+    pub fn node(&self, id: u64) -> &Slot {
+        &self.slots[index(id) as usize]
+    }
+
+    fn node_mut(&mut self, id: u64) -> &mut Slot {
+        self.touched.push(index(id));
+        &mut self.slots[index(id) as usize]
+    }
+
+    pub fn height(&self, id: u64) -> u8 {
+        if id == EMPTY { 0 } else { self.node(id).height }
+    }
+
+    fn value(&self, id: u64) -> u16 {
+        if id == EMPTY { 0 } else { self.node(id).value }
+    }
+
+    /// The id of the live branch with these children.
+    pub fn branch_of(&self, children: &[u64; 8]) -> Option<u64> {
+        (self.branches.get(children)).map(|slot| self.slots[*slot as usize].id)
+    }
+
+    /// Fresh slot: the last one freed, else the lowest never used.
+    fn give_out(&mut self) -> u32 {
+        let slot = self.freed.pop().unwrap_or(self.next);
+        if slot == self.next {
+            self.next += 1;
+        }
+        self.touched.push(slot);
+        slot
+    }
+
+    /// One more hold on a node that is there.
+    fn hit(&mut self, slot: u32) -> (u32, u64) {
+        let id = self.slots[slot as usize].id;
+        self.node_mut(id).holds += 1;
+        (0, id)
+    }
+
+    pub fn intern_leaf(&mut self, value: u16) -> (u32, u64) {
+        self.touched.clear();
+        if value == 0 {
+            return (6, INVALID);
+        }
+        if let Some(&slot) = self.leaves.get(&value) {
+            if self.slots[slot as usize].holds >= MOST_HOLDS {
+                return (10, INVALID);
+            }
+            return self.hit(slot);
+        }
+        if self.is_full() {
+            return (11, INVALID);
+        }
+        let slot = self.give_out();
+        let generation = self.slots[slot as usize].generation;
+        let (_, id) = new_leaf(slot, generation);
+        self.slots[slot as usize] = Slot {
+            id,
+            generation,
+            value,
+            height: 0,
+            holds: 1,
+            places: 0,
+            children: [EMPTY; 8],
+        };
+        self.leaves.insert(value, slot);
+        (0, id)
+    }
+
+    /// The number of the refusal of interning a branch, or 0; the slot that has these children.
+    fn branch_refusal(&self, children: &[u64; 8]) -> (u32, Option<u32>) {
+        if children.iter().any(|id| !self.is_empty_or_live(*id)) {
+            return (4, None);
+        }
+        let places_of = |id: u64| children.iter().filter(|child| **child == id).count();
+        let lacks_holds = |id: u64| id != EMPTY && (self.node(id).holds as usize) < places_of(id);
+        if children.iter().any(|id| lacks_holds(*id)) {
+            return (5, None);
+        }
+        if *children == [EMPTY; 8] {
+            return (7, None);
+        }
+        if children.iter().any(|id| self.height(*id) >= TALLEST) {
+            return (8, None);
+        }
+        match self.branches.get(children) {
+            Some(&slot) if self.slots[slot as usize].holds >= MOST_HOLDS => (10, None),
+            None if self.is_full() => (11, None),
+            hit => (0, hit.copied()),
+        }
+    }
+
+    pub fn intern_branch(&mut self, children: [u64; 8]) -> (u32, u64) {
+        self.touched.clear();
+        let (refusal, hit) = self.branch_refusal(&children);
+        if refusal != 0 {
+            return (refusal, INVALID);
+        }
+        let given = children.iter().filter(|id| **id != EMPTY);
+        for &id in given.clone() {
+            self.node_mut(id).holds -= 1;
+        }
+        if let Some(slot) = hit {
+            return self.hit(slot);
+        }
+        for &id in given {
+            self.node_mut(id).places += 1;
+        }
+        let bits =
+            |is: fn(u64) -> bool| -> u8 { (0..8).map(|i| u8::from(is(children[i])) << i).sum() };
+        let (types, mask) = (bits(is_leaf), bits(|id| id != EMPTY));
+        let sum: u32 = children.iter().map(|id| u32::from(self.value(*id))).sum();
+        let tallest = children.iter().map(|id| self.height(*id)).max();
+        let slot = self.give_out();
+        let generation = self.slots[slot as usize].generation;
+        let (_, id) = new_branch(slot, generation, types, mask);
+        self.slots[slot as usize] = Slot {
+            id,
+            generation,
+            value: (sum / 8) as u16,
+            height: tallest.unwrap() + 1,
+            holds: 1,
+            places: 0,
+            children,
+        };
+        self.branches.insert(children, slot);
+        (0, id)
+    }
+
+    pub fn hold(&mut self, id: u64) -> u32 {
+        self.touched.clear();
+        if !self.is_empty_or_live(id) {
+            return 4;
+        }
+        if id == EMPTY {
+            return 0;
+        }
+        if self.node(id).holds >= MOST_HOLDS {
+            return 10;
+        }
+        self.node_mut(id).holds += 1;
+        0
+    }
+
+    /// The number of the refusal, holds and places.
+    pub fn counts(&mut self, id: u64) -> (u32, u64, u64) {
+        self.touched.clear();
+        if !self.is_empty_or_live(id) {
+            return (4, 0, 0);
+        }
+        if id == EMPTY {
+            return (0, 0, 0);
+        }
+        let node = self.node(id);
+        (0, node.holds.into(), node.places.into())
+    }
+
+    pub fn release(&mut self, id: u64) -> u32 {
+        self.touched.clear();
+        if !self.is_empty_or_live(id) {
+            return 4;
+        }
+        if id == EMPTY {
+            return 0;
+        }
+        if self.node(id).holds == 0 {
+            return 5;
+        }
+        self.node_mut(id).holds -= 1;
+        if self.is_unused(id) {
+            match self.order {
+                Order::DepthFirst => self.free_depth_first(id),
+                Order::BreadthFirst => self.free_breadth_first(id),
+            }
+        }
+        0
+    }
+
+    fn is_unused(&self, id: u64) -> bool {
+        self.node(id).holds == 0 && self.node(id).places == 0
+    }
+
+    /// Clears the slot of a node that nobody uses, and answers the children that it had.
+    fn recycle(&mut self, id: u64) -> [u64; 8] {
+        let slot = index(id);
+        let node = std::mem::take(self.node_mut(id));
+        if is_leaf(id) {
+            self.leaves.remove(&node.value);
+        } else {
+            self.branches.remove(&node.children);
+        }
+        self.slots[slot as usize].generation = match node.generation + 1 {
+            GENERATIONS => 0,
+            generation => generation,
+        };
+        self.freed.push(slot);
+        node.children
+    }
+
+    /// The child's place ends. Is it unused then?
+    fn leave(&mut self, child: u64) -> bool {
+        if child == EMPTY {
+            return false;
+        }
+        self.node_mut(child).places -= 1;
+        self.is_unused(child)
+    }
+
+    fn free_depth_first(&mut self, id: u64) {
+        for child in self.recycle(id) {
+            if self.leave(child) {
+                self.free_depth_first(child);
+            }
+        }
+    }
+
+    fn free_breadth_first(&mut self, id: u64) {
+        let mut waiting = VecDeque::from([id]);
+        while let Some(id) = waiting.pop_front() {
+            for child in self.recycle(id) {
+                if self.leave(child) {
+                    waiting.push_back(child);
+                }
+            }
+        }
+    }
+}
