@@ -38,7 +38,7 @@ ghost use Rattle.arena.specs.Tables.{tables};
 const NONE: [u64; 8] = [0, 0, 0, 0, 0, 0, 0, 0];
 
 // The id of a leaf in slot s, whose own word is `o`.
-pub fn leaf_id(s: usize, o: u64) -> u64
+fn leaf_id(s: usize, o: u64) -> u64
     ensures { λ r. ⌜ r ≡ newLeaf (s % 2 ^ 32) (generationOf o) ⌝ }
 {
     let id = BlockId::new_leaf((s % 0x1_0000_0000) as u32, BlockId(o).generation());
@@ -53,7 +53,7 @@ fn has_room(a: Arena) -> bool
 }
 
 // Fresh slot: the last one freed, else the lowest never used.
-pub fn fresh_slot(a: Arena) -> usize
+fn fresh_slot(a: Arena) -> usize
     ensures { λ r. ⌜ r ≡ freshSlot a ⌝ }
 {
     if a.top == 0 {
@@ -63,7 +63,7 @@ pub fn fresh_slot(a: Arena) -> usize
 }
 
 // The state once the fresh slot is given out.
-pub fn give(a: Arena, facts: &[u64]) -> Arena
+fn give(a: Arena, facts: &[u64]) -> Arena
     ensures { λ r. ⌜ r ≡ givenOut a (factOf (now (facts .entry))) ⌝ }
 {
     if a.top == 0 {
@@ -278,7 +278,7 @@ fn kids_no(a: Arena, kids: &[u64], facts: &[u64], find: &[u16], ks: [u64; 8]) ->
 }
 
 // The stored value of an id; 0 of EMPTY.
-pub fn value_at(facts: &[u64], id: u64) -> u64
+fn value_at(facts: &[u64], id: u64) -> u64
     ensures { λ r. ⌜ r ≡ valueAt (factOf (now (facts .entry))) id ⌝ }
 {
     if id == 0 {
@@ -288,7 +288,7 @@ pub fn value_at(facts: &[u64], id: u64) -> u64
 }
 
 // The height of an id; 0 of EMPTY.
-pub fn height_at(facts: &[u64], id: u64) -> u64
+fn height_at(facts: &[u64], id: u64) -> u64
     ensures { λ r. ⌜ r ≡ heightAt (factOf (now (facts .entry))) id ⌝ }
 {
     if id == 0 {
@@ -375,7 +375,7 @@ fn types_of(ks: [u64; 8]) -> u8
 }
 
 // The id of a branch in slot s, whose own word is `o`.
-pub fn branch_id(ks: [u64; 8], s: usize, o: u64) -> u64
+fn branch_id(ks: [u64; 8], s: usize, o: u64) -> u64
     ensures { λ r. ⌜ r ≡ newBranch (s % 2 ^ 32) (generationOf o) (kidTypes ks) (kidMask ks) ⌝ }
 {
     let id = BlockId::new_branch(

@@ -79,7 +79,7 @@ unfolding coordOf inside
 coord-inside d (pos n) h = refl
 coord-inside d (negsuc n) h = le-ltb (2 ^ 32 - 1) (2 ^ d) (omega (arith, side-small d h))
 
-pub coord-is : (d : ℕ) (x : ℤ) → inside d x ≡ true → coordOf x ≡ whole x
+coord-is : (d : ℕ) (x : ℤ) → inside d x ≡ true → coordOf x ≡ whole x
 unfolding coordOf inside whole
 coord-is d (pos n) h = refl
 coord-is d (negsuc n) h = let q : _≡_ {A = ℕ} 0 1 = cc in absurd (omega arith)
@@ -133,7 +133,7 @@ module _ (a : Arena) (ks fs es : List ℕ) (id d : ℕ) where
       rung-yes _ _ _ _ (eq-via k _ 0 e h) (λ i. looked 0 (m i))
 
   -- the number is the same, of coordinates and of what the code makes of them ..
-  pub look-no-same : (p : IVec3) → lookNoAt (tables a ks fs es) id d (coordOf (p .x)) (coordOf (p .y)) (coordOf (p .z)) ≡ lookNo (tables a ks fs es) id d p
+  look-no-same : (p : IVec3) → lookNoAt (tables a ks fs es) id d (coordOf (p .x)) (coordOf (p .y)) (coordOf (p .z)) ≡ lookNo (tables a ks fs es) id d p
   unfolding lookNoAt lookNo
   look-no-same p = go (decLe d 6)
     where
@@ -142,7 +142,7 @@ module _ (a : Arena) (ks fs es : List ℕ) (id d : ℕ) where
       go (no h) = rw (lt-leb d 6 (omega (arith, h)))
 
   -- .. and where none is refused so are the coordinates
-  pub look-inside : (p : IVec3) → lookNo (tables a ks fs es) id d p ≡ 0 → (inside d (p .x) ≡ true) × (inside d (p .y) ≡ true) × (inside d (p .z) ≡ true)
+  look-inside : (p : IVec3) → lookNo (tables a ks fs es) id d p ≡ 0 → (inside d (p .x) ≡ true) × (inside d (p .y) ≡ true) × (inside d (p .z) ≡ true)
   unfolding lookNo
   look-inside p e =
       let four : ℕ = pick (liveOrEmpty (a .capacity) (wordOf (nodes ks fs)) id) 0 4 in

@@ -116,7 +116,7 @@ fn side_of(d: u32) -> usize
 }
 
 // A coordinate as a number; one below 0 becomes 2^32 - 1, which no cube has.
-pub fn coord(x: i32) -> u32
+fn coord(x: i32) -> u32
     ensures { λ r. ⌜ r ≡ coordOf x ⌝ }
 {
     if x < 0 {
@@ -135,7 +135,7 @@ fn is_inside(d: u32, x: u32) -> bool
 // ---- lookup
 
 // The lowest refusal that applies to a lookup, or 0.
-pub fn look_no(
+fn look_no(
     arena: Arena,
     kids: &[u64],
     facts: &[u64],
