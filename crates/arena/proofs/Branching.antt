@@ -37,11 +37,11 @@ use Rattle.arena.proofs.Make.{fresh-free, made-inv, made-content, made-
 use Rattle.arena.proofs.Outs.{said-path, tables-path}
 use Rattle.arena.proofs.Scan.{find-hit, find-miss}
 
-sum-wraps : (U : Words) (ks : List ℕ) (k : ℕ) → ((i : ℕ) → i < k → valueAt U (getD ks i 0) ≤ 65535) → wrapSum U ks k ≡ sumTo k (λ i. valueAt U (getD ks i 0))
+pub sum-wraps : (U : Words) (ks : List ℕ) (k : ℕ) → ((i : ℕ) → i < k → valueAt U (getD ks i 0) ≤ 65535) → wrapSum U ks k ≡ sumTo k (λ i. valueAt U (getD ks i 0))
 unfolding wrapSum
 sum-wraps U ks k h = sumTo-ext k (λ i. valueAt U (getD ks i 0) % 65536) (λ i. valueAt U (getD ks i 0)) (λ i l. let s = h i l in omega arith)
 
-value-bound : (n : ℕ) (f : ℕ → ℕ) → 1 ≤ n → ((i : ℕ) → i < n → f i ≤ 65535) → sumTo n f / n ≤ 65535
+pub value-bound : (n : ℕ) (f : ℕ → ℕ) → 1 ≤ n → ((i : ℕ) → i < n → f i ≤ 65535) → sumTo n f / n ≤ 65535
 value-bound n f pos h =
     let r = sumTo-mono n f (λ i. 65535) h in
     let c = sumTo-const n 65535 in
@@ -70,7 +70,7 @@ hit-held : (t : Tables) (ks : List ℕ) (s : ℕ) → fullOf (W t) s ≡ false �
 unfolding branchHitBy heldBy heldAt
 hit-held t ks s f e = rw (f, e)
 
-full-few : (t : Tables) (s : ℕ) → fullOf (W t) s ≡ false → W t s holds < 1000000
+pub full-few : (t : Tables) (s : ℕ) → fullOf (W t) s ≡ false → W t s holds < 1000000
 unfolding fullOf
 full-few t s f = leb-false 1000000 (W t s holds) f
 
@@ -78,11 +78,11 @@ few-full : (t : Tables) (s : ℕ) → W t s holds < 1000000 → fullOf (W t) s �
 unfolding fullOf
 few-full t s h = lt-leb 1000000 (W t s holds) h
 
-more-few : (x : ℕ) → x < 1000000 → moreOf x ≡ x + 1
+pub more-few : (x : ℕ) → x < 1000000 → moreOf x ≡ x + 1
 unfolding moreOf
 more-few x h = omega arith
 
-occ-in : (ks : List ℕ) (y : ℕ) → 1 ≤ occ y ks → (i : ℕ) × (i < length ks) × (getD ks i 0 ≡ y)
+pub occ-in : (ks : List ℕ) (y : ℕ) → 1 ≤ occ y ks → (i : ℕ) × (i < length ks) × (getD ks i 0 ≡ y)
 occ-in [] y o = absurd (omega (arith, occ-nil y))
 occ-in (k ∷ ks) y o = cases (ℕ-discrete y k)
     (λ q. (0, omega arith, sym q))
@@ -359,7 +359,7 @@ module _ (n tallest : ℕ) (t : Tables) (m : n ≤ 8) (pos : 1 ≤ n) (w : WellF
 
 -- ---- the two theorems
 
-height-top : (n : ℕ) (t : Tables) (ks : List ℕ) → heightFor n (W t) ks ≡ topFor (W t) ks n + 1
+pub height-top : (n : ℕ) (t : Tables) (ks : List ℕ) → heightFor n (W t) ks ≡ topFor (W t) ks n + 1
 unfolding heightFor topFor
 height-top n t ks = omega arith
 

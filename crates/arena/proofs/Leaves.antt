@@ -32,7 +32,7 @@ use Rattle.arena.proofs.Outs.{said-path, tables-path, arena-path}
 use Rattle.arena.proofs.Rows.{empties-none, empties-length, empties-at}
 use Rattle.arena.proofs.Scan.{find-hit, find-miss}
 
-empties-id : (s g : ℕ) → idOf empties s g ≡ leafId s g
+pub empties-id : (s g : ℕ) → idOf empties s g ≡ leafId s g
 unfolding empties noneOf allOf idOf
 empties-id s g = refl
 
@@ -117,14 +117,14 @@ unfolding hitBy
 hit-is-held t s f = rw f
 
 module _ (n tallest : ℕ) (t : Tables) (m : n ≤ 8) (w : WellFormed n tallest t) (v : ℕ) (some : v ≢ 0) where
-  leaf-in : (s : ℕ) → s < cap t → leafIn t v s ≡ true → LiveSlot t s × LeafNode (W t) s × (W t s value ≡ v)
+  pub leaf-in : (s : ℕ) → s < cap t → leafIn t v s ≡ true → LiveSlot t s × LeafNode (W t) s × (W t s value ≡ v)
   unfolding leafIn
   leaf-in s l h =
       let b = both (isLeaf (W t s own)) (eqb (W t s value) v) h in
       let live : floor ≤ W t s own = flag-floor (W t s own) (b .0) in
       ((l, live), node-leaf m l (w .sized .most) (w .nodes s (l, live)) (b .0), eqb-true (W t s value) v (b .1))
 
-  leaf-content : (s : ℕ) → s < cap t → leafIn t v s ≡ true → contentIs (W t) empties v s ≡ true
+  pub leaf-content : (s : ℕ) → s < cap t → leafIn t v s ≡ true → contentIs (W t) empties v s ≡ true
   leaf-content s l h =
       let p = leaf-in s l h in
       content-true (W t) empties v s empties-length (λ i j. p .1 .bare i j ∙ sym (empties-at i j)) (p .2)
@@ -142,14 +142,14 @@ module _ (n tallest : ℕ) (t : Tables) (m : n ≤ 8) (w : WellFormed n tallest 
       (λ b. absurd (let k = b .some in let j = k .1 in k .2 (c .0 (k .0) (omega arith) ∙ empties-at (k .0) (omega arith))))
       (w .nodes s l .kind)
 
-  no-leaf : leafSlot t v ≡ 0 → (x : ℕ) → 0 < x → LiveSlot t x → contentIs (W t) empties v x ≡ false
+  pub no-leaf : leafSlot t v ≡ 0 → (x : ℕ) → 0 < x → LiveSlot t x → contentIs (W t) empties v x ≡ false
   unfolding leafSlot
   no-leaf z x p l = split (contentIs (W t) empties v x)
       (λ h. absurd (true≢false (sym (content-leaf x l h) ∙ find-miss (leafIn t v) (cap t) z x (l .0) (omega arith))))
       (λ h. h)
 
   -- the slot of the leaf
-  leaf-slot : leafSlot t v ≢ 0 → (leafSlot t v < cap t) × (leafIn t v (leafSlot t v) ≡ true)
+  pub leaf-slot : leafSlot t v ≢ 0 → (leafSlot t v < cap t) × (leafIn t v (leafSlot t v) ≡ true)
   unfolding leafSlot
   leaf-slot d = let r = find-hit (leafIn t v) (cap t) d in (r .1, r .0)
 

@@ -132,15 +132,25 @@ fn hold_no(a: Arena, kids: &[u64], facts: &[u64], find: &[u16], id: u64) -> u32
 fn hold_raw(a: Arena, kids: &[u64], facts: &mut [u64], find: &[u16], id: u64) -> Answer
     ensures { λ r. ⌜ answered r (now (kids .entry)) (now (facts .exit)) (now (find .entry)) ≡ holdOf (tables a (now (kids .entry)) (now (facts .entry)) (now (find .entry))) id ⌝ }
 {
+    // The state as it is, number by number: a copy of the whole would wait for the caller's stores.
+    let same = Arena {
+        capacity: a.capacity,
+        next: a.next,
+        top: a.top,
+        live: a.live,
+    };
     let no = hold_no(a, kids, facts, find, id);
     if no != 0 {
-        return Answer { no: no, arena: a };
+        return Answer {
+            no: no,
+            arena: same,
+        };
     }
     if id == 0 {
-        return Answer { no: 0, arena: a };
+        return Answer { no: 0, arena: same };
     }
     grant(facts, slot_of(id));
-    Answer { no: 0, arena: a }
+    Answer { no: 0, arena: same }
 }
 
 // Hold: the caller gets one hold more. EMPTY: nothing.

@@ -3,13 +3,13 @@ use mathlib.Core.Path.{_≡_, refl, sym, ap, ap₂, _∙_, subst}
 use mathlib.Core.Logic.{_≢_}
 use mathlib.Core.Bool.{Bool, true, false, true≢false}
 use mathlib.Core.List.{List, [], _∷_}
-use Prim.Native.Nat.{ℕ, zero, suc, _+_, _-_, _*_, _/_, _%_, _≤_, _<_}
-use native.Mathlib.Nat.{mod-lt}
-use native.Mathlib.Decide.{ℕ-discrete}
+use Prim.Native.Nat.{ℕ, zero, suc, _+_, _-_, _*_, _%_, _^_, _≤_, _<_}
+use native.Mathlib.Nat.{div-lt-iff-lt-mul, mul-comm, mul-lt-mul-of-pos-right}
+use native.Mathlib.Decide.{ℕ-discrete, decLt}
 use native.Mathlib.Omega.{arith}
 use lib.Dec.{eqb}
 use lib.ListN.{length, getD}
-use borrow.Author.Tests.{eq-eqb, ne-eqb, eqb-true}
+use borrow.Author.Tests.{eq-eqb, ne-eqb, eqb-true, le-leb, lt-leb}
 use Rattle.basics.specs.Pick.{pick}
 use Rattle.nodes.specs.Tally.{tabFrom, kidsOf}
 use Rattle.nodes.specs.Words.{Nodes, kidOf, wordOf, Words, value, own, height}
@@ -18,6 +18,13 @@ use Rattle.nodes.proofs.Counts.{kids-same}
 use Rattle.nodes.proofs.Sums.{cases}
 use Rattle.finding.specs.Cells.{stops, probeN, probe, cell}
 use Rattle.finding.specs.Content.{agree, contentIs, hashOf, homeIn, homeFor, homeAt}
+
+-- an element of a table
+pub tab-at : (k i : ℕ) (f : ℕ → ℕ) (j : ℕ) → j < k → getD (tabFrom k i f) j 0 ≡ f (i + j)
+unfolding tabFrom
+tab-at zero i f j h = absurd (omega arith)
+tab-at (suc k) i f zero h = let e : i + 0 ≡ i = omega arith in ap f (sym e)
+tab-at (suc k) i f (suc j) h = let e : suc i + j ≡ i + suc j = omega arith in tab-at k (suc i) f j (omega arith) ∙ ap f e
 
 -- a list is the table of its elements
 pub tab-list : (ks : List ℕ) (i : ℕ) (f : ℕ → ℕ) → ((j : ℕ) → j < length ks → f (i + j) ≡ getD ks j 0) → tabFrom (length ks) i f ≡ ks
@@ -87,7 +94,16 @@ home-same cap W W′ s e =
 
 pub home-below : (cap h : ℕ) → 0 < cap → homeIn cap h < 2 * cap
 unfolding homeIn
-home-below cap h l = rw (ne-eqb cap 0 (omega arith)) (let p : h / 2 % cap < cap = mod-lt (h / 2) l in omega arith)
+home-below cap h l =
+    cases (decLt 65536 cap)
+    (λ (g : 65536 < cap). rw (lt-leb cap 65536 g) (omega arith))
+    (λ g. rw (le-leb cap 65536 (omega arith)) (div-lt-iff-lt-mul {k = 2 ^ 32} {x = x * (2 * cap)} {y = 2 * cap} (omega arith) .1 part))
+  where
+    x : ℕ
+    x = h % 2 ^ 32 * 0x9E3779B1 % 2 ^ 32
+
+    part : x * (2 * cap) < 2 * cap * 2 ^ 32
+    part = let p : x * (2 * cap) < 2 ^ 32 * (2 * cap) = mul-lt-mul-of-pos-right {m = x} {n = 2 ^ 32} {k = 2 * cap} (omega arith) (omega arith) in omega (arith, mul-comm (2 ^ 32) (2 * cap))
 
 pub home-for-below : (cap : ℕ) (ks : List ℕ) (v : ℕ) → 0 < cap → homeFor cap ks v < 2 * cap
 unfolding homeFor

@@ -3,7 +3,8 @@
 use mathlib.Core.Bool.{Bool, true, false}
 use mathlib.Core.List.{List, [], _∷_}
 use Prim.Native.Nat.{ℕ, _+_, _*_, _/_, _%_, _^_}
-use lib.Dec.{eqb}
+use lib.Dec.{eqb, leb}
+use lib.ListN.{getD}
 use Rattle.basics.specs.Pick.{pick}
 use Rattle.nodes.specs.Words.{Words, value}
 use Rattle.nodes.specs.Tally.{kidsOf}
@@ -32,15 +33,18 @@ mixOf h k =
     let sixteen = wrap (eight + eight) in
     wrap (wrap (wrap (sixteen + sixteen) + four) + wrap (h + k))
 
+-- two sums apart, of the value with the first four and of the other four, and then one sum of both
 unfoldable pub hashOf : List ℕ → ℕ → ℕ
-hashOf [] h = h
-hashOf (k ∷ ks) h = hashOf ks (mixOf h k)
+hashOf ks v =
+    let low = mixOf (mixOf (mixOf (mixOf v (getD ks 0 0)) (getD ks 1 0)) (getD ks 2 0)) (getD ks 3 0) in
+    let high = mixOf (mixOf (mixOf (getD ks 4 0) (getD ks 5 0)) (getD ks 6 0)) (getD ks 7 0) in
+    mixOf low (mixOf high high)
 
 -- ## Homes: a content's first cell to look at, one of twice as many as there are slots
 
--- h modulo 2 cap
+-- the low half of h, spread over 2^32 by an odd factor; its part of 2^32 is the home's part of 2 cap
 unfoldable pub homeIn : ℕ → ℕ → ℕ
-homeIn cap h = pick (eqb cap 0) 0 (2 * (h / 2 % cap) + h % 2)
+homeIn cap h = pick (leb cap 65536) (h % 2 ^ 32 * 0x9E3779B1 % 2 ^ 32 * (2 * cap) / 2 ^ 32) 0
 
 unfoldable pub homeFor : ℕ → List ℕ → ℕ → ℕ
 homeFor cap ks v = homeIn cap (hashOf ks v)

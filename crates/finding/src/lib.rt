@@ -2,7 +2,6 @@
 use nodes::VALUE;
 use nodes::children;
 use nodes::fact;
-use nodes::kid;
 use std::num::wrapping_add_u64;
 ghost use mathlib.Core.Path.{_≡_};
 ghost use Prim.Native.Nat.{_+_, _*_, _-_, _/_, _%_, _<_, _≤_};
@@ -39,27 +38,24 @@ fn mix(h: u64, k: u64) -> u64
     add(most, add(h, k))
 }
 
-// The hash of a content, the value and the eight child ids.
+// The hash of a content, the value and the eight child ids. Two sums that don't wait for each other, then one of both.
 fn hash(ks: [u64; 8], v: u64) -> u64
     ensures { λ r. ⌜ r ≡ hashOf ks v ⌝ }
 {
-    let mut h = v;
-    let mut i: usize = 0;
-    while i < 8 {
-        h = mix(h, ks[i]);
-        i += 1;
-    }
-    h
+    let low = mix(mix(mix(mix(v, ks[0]), ks[1]), ks[2]), ks[3]);
+    let high = mix(mix(mix(ks[4], ks[5]), ks[6]), ks[7]);
+    mix(low, mix(high, high))
 }
 
-// A hash modulo twice the capacity.
+// A hash's home, below twice the capacity.
 fn home_in(capacity: usize, h: u64) -> usize
     ensures { λ r. ⌜ r ≡ homeIn capacity h ⌝ }
 {
-    if capacity == 0 {
-        return 0;
+    if capacity <= 65536 {
+        let spread = (h % 0x1_0000_0000) * 0x9E37_79B1 % 0x1_0000_0000;
+        return spread as usize * (2 * capacity) / 0x1_0000_0000;
     }
-    2 * ((h / 2) as usize % capacity) + (h % 2) as usize
+    0
 }
 
 // The first cell to look at for a content.
@@ -110,9 +106,10 @@ pub fn put_cell(find: &mut [u16], at: usize, s: usize)
 fn agrees(kids: &[u64], s: usize, ks: [u64; 8]) -> bool
     ensures { λ r. ⌜ r ≡ agree (kidOf (now (kids .entry))) s 0 ks ⌝ }
 {
+    let own = children(kids, s);
     let mut j: usize = 0;
     while j < 8 {
-        if kid(kids, s, j) != ks[j] {
+        if own[j] != ks[j] {
             return false;
         }
         j += 1;

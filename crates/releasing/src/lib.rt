@@ -16,23 +16,25 @@ use nodes::fact;
 use nodes::put_fact;
 use nodes::write_slot;
 ghost use mathlib.Core.Path.{_≡_};
-ghost use Prim.Native.Nat.{ℕ, _*_, _-_, _^_, _≤_};
-ghost use lib.ListN.{drop};
+ghost use Prim.Native.Nat.{ℕ, _+_, _*_, _-_, _^_, _≤_};
+ghost use lib.Dec.{eqb};
+ghost use Rattle.basics.specs.Pick.{pick};
 ghost use Rattle.ids.specs.Ids.{generationOf};
 ghost use Rattle.nodes.specs.Words.{own as ownWord, places as placesWord, nodes as nodesOf, factOf, factPut, written, slot};
 ghost use Rattle.arena.specs.Calls.{answered, Fair, empties, deadFacts, recycled, each, releaseNo, releaseOf, enough};
-ghost use Rattle.arena.specs.Models.{stepOf, step, dropPlace, releaseBy, releaseAny};
+ghost use Rattle.arena.specs.Models.{dropPlace, releaseBy, releaseAny};
 ghost use Rattle.arena.specs.Node.{nextGeneration};
 ghost use Rattle.arena.specs.Tables.{tables};
+ghost use Rattle.releasing.specs.Drop.{stateOf, staysOf, lastOf, takenOf, dropSlot};
 
 // Eight EMPTY children.
 const NONE: [u64; 8] = [0, 0, 0, 0, 0, 0, 0, 0];
 
-// What one place taken from a node comes to: the state, and the ids that are then owed, those of `below` from `from` on.
-struct Taken {
-    arena: Arena,
-    from: usize,
-    below: [u64; 8],
+// An arena's state but for its capacity: three numbers go to a function in registers.
+struct Slots {
+    next: usize,
+    top: usize,
+    live: usize,
 }
 
 // The own word of a recycled slot: the generation one higher, or 0 where that would reach 0x7FFE.
@@ -55,13 +57,19 @@ fn clear_slot(kids: &mut [u64], facts: &mut [u64], s: usize, top: usize)
 }
 
 // Clears slot s and puts it on top of the freed ones; the finding table no longer names it.
-fn recycle(a: Arena, kids: &mut [u64], facts: &mut [u64], find: &mut [u16], s: usize) -> Arena
-    ensures { λ r. ⌜ tables r (now (kids .exit)) (now (facts .exit)) (now (find .exit)) ≡ recycled (tables a (now (kids .entry)) (now (facts .entry)) (now (find .entry))) s ⌝ }
+fn recycle(
+    capacity: usize,
+    a: Slots,
+    kids: &mut [u64],
+    facts: &mut [u64],
+    find: &mut [u16],
+    s: usize,
+) -> Slots
+    ensures { λ r. ⌜ tables (stateOf capacity (r .next) (r .top) (r .live)) (now (kids .exit)) (now (facts .exit)) (now (find .exit)) ≡ recycled (tables (stateOf capacity (a .next) (a .top) (a .live)) (now (kids .entry)) (now (facts .entry)) (now (find .entry))) s ⌝ }
 {
-    remove_slot(find, kids, facts, a.capacity, s);
+    remove_slot(find, kids, facts, capacity, s);
     clear_slot(kids, facts, s, a.top);
-    Arena {
-        capacity: a.capacity,
+    Slots {
         next: a.next,
         top: s,
         live: less(a.live as u64) as usize,
@@ -76,87 +84,99 @@ fn unplace(facts: &mut [u64], s: usize)
     put_fact(facts, s, PLACES, less(p));
 }
 
-// Takes one place from the node of `id`. If that was the last of its counts, recycles it; its children are then owed.
-fn take_place(a: Arena, kids: &mut [u64], facts: &mut [u64], find: &mut [u16], id: u64) -> Taken
-    ensures { λ r. ⌜ stepOf (tables (r .arena) (now (kids .exit)) (now (facts .exit)) (now (find .exit))) (drop (r .from) (r .below)) ≡ step (tables a (now (kids .entry)) (now (facts .entry)) (now (find .entry))) id ⌝ }
+// Has the node in slot s a hold, or a place besides the one that is owed?
+fn stays(facts: &[u64], s: usize) -> bool
+    ensures { λ r. ⌜ r ≡ staysOf (factOf (now (facts .entry))) s ⌝ }
 {
-    if id == 0 {
-        return Taken {
-            arena: a,
-            from: 8,
-            below: NONE,
-        };
-    }
-    let s = slot_of(id);
     if fact(facts, s, HOLDS) == 0 {
-        if fact(facts, s, PLACES) <= 1 {
-            let below = children(kids, s);
-            let b = recycle(a, kids, facts, find, s);
-            return Taken {
-                arena: b,
-                from: 0,
-                below: below,
-            };
-        }
-        unplace(facts, s);
-        return Taken {
-            arena: a,
-            from: 8,
-            below: NONE,
-        };
+        return 1 < fact(facts, s, PLACES);
     }
-    unplace(facts, s);
-    Taken {
-        arena: a,
-        from: 8,
-        below: NONE,
-    }
+    true
 }
 
-// Takes one place from the node of `id`; the last one recycles it and drops its children in turn.
-fn drop_place(
-    a: Arena,
+// Takes one place from the node of `id` if it then stays, and answers whether it goes instead. EMPTY: nothing.
+fn is_last(facts: &mut [u64], id: u64) -> bool
+    ensures { λ r. ⌜ (r ≡ lastOf (factOf (now (facts .entry))) id) × (now (facts .exit) ≡ takenOf (now (facts .entry)) id) ⌝ }
+{
+    if id == 0 {
+        return false;
+    }
+    let s = slot_of(id);
+    if stays(facts, s) {
+        unplace(facts, s);
+        return false;
+    }
+    true
+}
+
+// Recycles slot s, and drops its children in turn.
+fn drop_slot(
+    capacity: usize,
+    a: Slots,
     kids: &mut [u64],
     facts: &mut [u64],
     find: &mut [u16],
-    id: u64,
+    s: usize,
     left: u64,
-) -> Arena
-    ensures { λ r. ⌜ tables r (now (kids .exit)) (now (facts .exit)) (now (find .exit)) ≡ dropPlace left (tables a (now (kids .entry)) (now (facts .entry)) (now (find .entry))) id ⌝ }
+) -> Slots
+    ensures { λ r. ⌜ tables (stateOf capacity (r .next) (r .top) (r .live)) (now (kids .exit)) (now (facts .exit)) (now (find .exit)) ≡ dropSlot left (tables (stateOf capacity (a .next) (a .top) (a .live)) (now (kids .entry)) (now (facts .entry)) (now (find .entry))) s ⌝ }
 {
+    let below = children(kids, s);
+    let b = recycle(capacity, a, kids, facts, find, s);
     if left == 0 {
-        return a;
+        return b;
     }
-    let t = take_place(a, kids, facts, find, id);
-    let below = t.below;
-    drop_all(t.arena, kids, facts, find, below, t.from, left - 1)
+    drop_all(capacity, b, kids, facts, find, below, left - 1)
 }
 
-// Drops the ids of `below` from place i on, each completely before the next.
+// Takes one place from each of the eight ids, and recycles what is left without any: each completely before the next.
 fn drop_all(
-    a: Arena,
+    capacity: usize,
+    a: Slots,
     kids: &mut [u64],
     facts: &mut [u64],
     find: &mut [u16],
     below: [u64; 8],
-    i: usize,
     left: u64,
-) -> Arena
-    ensures { λ r. ⌜ tables r (now (kids .exit)) (now (facts .exit)) (now (find .exit)) ≡ each (dropPlace left) (tables a (now (kids .entry)) (now (facts .entry)) (now (find .entry))) (drop i below) ⌝ }
+) -> Slots
+    ensures { λ r. ⌜ tables (stateOf capacity (r .next) (r .top) (r .live)) (now (kids .exit)) (now (facts .exit)) (now (find .exit)) ≡ each (dropPlace (left + 1)) (tables (stateOf capacity (a .next) (a .top) (a .live)) (now (kids .entry)) (now (facts .entry)) (now (find .entry))) below ⌝ }
 {
-    if i >= 8 {
-        return a;
+    let mut b = a;
+    let mut i: usize = 0;
+    while i < 8 {
+        let id = below[i];
+        i += 1;
+        if is_last(facts, id) {
+            b = drop_slot(capacity, b, kids, facts, find, slot_of(id), left);
+        }
     }
-    let b = drop_place(a, kids, facts, find, below[i], left);
-    drop_all(b, kids, facts, find, below, i + 1, left)
+    b
 }
 
-// Takes one hold from the node of `id`. Seven levels are enough: no node is taller than 6.
+// Takes one hold from the node of `id`; EMPTY: nothing. Seven levels are enough: no node is taller than 6.
 fn release_at(a: Arena, kids: &mut [u64], facts: &mut [u64], find: &mut [u16], id: u64) -> Arena
-    ensures { λ r. ⌜ tables r (now (kids .exit)) (now (facts .exit)) (now (find .exit)) ≡ releaseBy (tables a (now (kids .entry)) (now (facts .entry)) (now (find .entry))) id ⌝ }
+    ensures { λ r. ⌜ tables r (now (kids .exit)) (now (facts .exit)) (now (find .exit)) ≡ pick (eqb id 0) (tables a (now (kids .entry)) (now (facts .entry)) (now (find .entry))) (releaseBy (tables a (now (kids .entry)) (now (facts .entry)) (now (find .entry))) id) ⌝ }
 {
-    settle(facts, slot_of(id));
-    drop_place(a, kids, facts, find, id, 7)
+    if id == 0 {
+        return a;
+    }
+    let s = slot_of(id);
+    settle(facts, s);
+    if is_last(facts, id) {
+        let slots = Slots {
+            next: a.next,
+            top: a.top,
+            live: a.live,
+        };
+        let b = drop_slot(a.capacity, slots, kids, facts, find, s, 6);
+        return Arena {
+            capacity: a.capacity,
+            next: b.next,
+            top: b.top,
+            live: b.live,
+        };
+    }
+    a
 }
 
 // Refusals 1, 4 and 5.
@@ -185,9 +205,6 @@ fn release_any(a: Arena, kids: &mut [u64], facts: &mut [u64], find: &mut [u16], 
     let no = release_no(a, kids, facts, find, id);
     if no != 0 {
         return Answer { no: no, arena: a };
-    }
-    if id == 0 {
-        return Answer { no: 0, arena: a };
     }
     let b = release_at(a, kids, facts, find, id);
     Answer { no: 0, arena: b }

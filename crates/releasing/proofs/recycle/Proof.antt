@@ -7,16 +7,16 @@ use Rattle.finding.specs.Cells.{remove}
 use Rattle.finding.specs.Content.{homeAt}
 use Rattle.arena.specs.Calls.{deadFacts, empties, recycled}
 use Rattle.arena.specs.Tables.{Tables, tables}
-use Rattle.arena.specs.declared.Arena.{Arena}
 use Rattle.arena.proofs.Outs.{arena-path, tables-path}
+use Rattle.releasing.specs.Drop.{stateOf}
 use Rattle.releasing.proofs.recycle.Statement.{statement}
 use Rattle.releasing.proofs.recycle.Tie as tie
 
-done : (a : Arena) (k f e k′ f′ e′ : List ℕ) (s l : ℕ) → e′ ≡ remove (homeAt (a .capacity) (wordOf (nodes k f))) e s
-    → nodes k′ f′ ≡ written (nodes k f) s empties (deadFacts (factOf f s own) (a .top)) → l ≡ a .live - 1
-    → _≡_ {A = Tables} (tables (record { capacity = a .capacity; next = a .next; top = s; live = l }) k′ f′ e′) (recycled (tables a k f e) s)
+done : (c n t v : ℕ) (k f e k′ f′ e′ : List ℕ) (s l : ℕ) → e′ ≡ remove (homeAt c (wordOf (nodes k f))) e s
+    → nodes k′ f′ ≡ written (nodes k f) s empties (deadFacts (factOf f s own) t) → l ≡ v - 1
+    → _≡_ {A = Tables} (tables (stateOf c n s l) k′ f′ e′) (recycled (tables (stateOf c n t v) k f e) s)
 unfolding recycled wordOf
-done a k f e k′ f′ e′ s l ee em el = tables-path _ _ _ _ _ _ (arena-path _ _ _ _ _ _ _ _ refl refl refl el) em ee
+done c n t v k f e k′ f′ e′ s l ee em el = tables-path _ _ _ _ _ _ (arena-path _ _ _ _ _ _ _ _ refl refl refl el) em ee
 
 pub recycle-spec : {M : Type 1} → statement M
 recycle-spec =

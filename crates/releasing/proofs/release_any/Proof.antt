@@ -2,7 +2,9 @@ use borrow.Author.Needs.{needs}
 use mathlib.Core.Path.{_≡_, refl, sym, ap, _∙_}
 use mathlib.Core.List.{List}
 use Prim.Native.Nat.{ℕ}
+use lib.Dec.{eqb}
 use borrow.Author.Tests.{eq-eqb, ne-eqb}
+use Rattle.basics.specs.Pick.{pick}
 use Rattle.arena.specs.Calls.{did, releaseNo}
 use Rattle.arena.specs.Models.{releaseAny, releaseBy}
 use Rattle.arena.specs.Tables.{tables}
@@ -16,19 +18,15 @@ module _ (a : Arena) (k f e : List ℕ) (id x : ℕ) (ex : x ≡ releaseNo (tabl
   unfolding releaseAny
   refusal d = rw (ne-eqb (releaseNo (tables a k f e) id) 0 (λ y. d (ex ∙ y))) (said-path _ _ _ _ _ _ ex refl refl)
 
-  nothing : x ≡ 0 → id ≡ 0 → did 0 (tables a k f e) ≡ releaseAny (tables a k f e) id
+  freed : (b : Arena) (k′ f′ e′ : List ℕ) → x ≡ 0 → tables b k′ f′ e′ ≡ pick (eqb id 0) (tables a k f e) (releaseBy (tables a k f e) id)
+      → did 0 (tables b k′ f′ e′) ≡ releaseAny (tables a k f e) id
   unfolding releaseAny
-  nothing z n = rw (eq-eqb (releaseNo (tables a k f e) id) 0 (sym ex ∙ z), eq-eqb id 0 n)
+  freed b k′ f′ e′ z h = rw (eq-eqb (releaseNo (tables a k f e) id) 0 (sym ex ∙ z)) (ap (did 0) h)
 
-  freed : (b : Arena) (k′ f′ e′ : List ℕ) → x ≡ 0 → (id ≡ 0 → ⊥) → tables b k′ f′ e′ ≡ releaseBy (tables a k f e) id → did 0 (tables b k′ f′ e′) ≡ releaseAny (tables a k f e) id
-  unfolding releaseAny
-  freed b k′ f′ e′ z d h = rw (eq-eqb (releaseNo (tables a k f e) id) 0 (sym ex ∙ z), ne-eqb id 0 d) (ap (did 0) h)
-
-ruleset mine = (refusal, nothing, freed)
+ruleset mine = (refusal, freed)
 
 pub release-any-spec : {M : Type 1} → statement M
 release-any-spec =
     tie.close
-    (tie.spec (λ c κs. search needs) (λ c. search needs) (λ c. search needs) (λ c. search needs) (λ c. search mine)
-    (λ c. search needs) (λ c. search needs) (λ c. search needs) (λ c. search mine) (λ c κs. search needs) (λ c. search needs)
-    (λ c. search needs) (λ c. search needs) (λ c. search mine))
+    (tie.spec (λ c κs. search needs) (λ c. search needs) (λ c. search needs) (λ c. search needs) (λ c. search mine) (λ c κs. search needs)
+    (λ c. search needs) (λ c. search needs) (λ c. search needs) (λ c. search mine))
