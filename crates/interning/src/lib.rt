@@ -11,76 +11,34 @@ use arena::slot_of;
 use finding::put_cell;
 use finding::search;
 use ids::BlockId;
-use nodes::HEIGHT;
+use making::branch_id;
+use making::fresh_slot;
+use making::give;
+use making::leaf_id;
+use making::top_of;
+use making::value_of;
 use nodes::HOLDS;
-use nodes::LINK;
 use nodes::OWN;
-use nodes::VALUE;
 use nodes::fact;
 use nodes::put_fact;
 use nodes::write_slot;
-use std::num::wrapping_add_u64;
 ghost use mathlib.Core.Path.{_≡_};
-ghost use mathlib.Core.Bool.{not};
 ghost use mathlib.Core.List.{List};
-ghost use Prim.Native.Nat.{ℕ, _%_, _^_, _<_, _≤_, max};
-ghost use lib.Dec.{eqb};
-ghost use Rattle.ids.specs.Ids.{generationOf, isLeaf, newLeaf, newBranch};
-ghost use Rattle.nodes.specs.Tally.{oneIf, occ};
-ghost use Rattle.nodes.specs.Words.{nodes as nodesOf, factOf, slot};
-ghost use Rattle.arena.specs.Calls.{made, Fair, liveOrEmpty, enoughFor, roomOf, freshSlot, each, allLive, enough, noneOf, unheldKid, unheld, internLeafOf, internBranchOf, rawIds};
-ghost use Rattle.arena.specs.Models.{givenOut, hitBy, leafMissBy, leafAt, leafBy, internLeafBy, settledKid, settles, wrapSum, topFor, branchMissBy, branchHitBy, branchAt, branchBy, branchLow, kidsNo, internBranchBy};
-ghost use Rattle.arena.specs.Node.{kidMask, kidTypes};
-ghost use Rattle.nodes.specs.Values.{valueAt, heightAt};
+ghost use Prim.Native.Nat.{ℕ, _≤_};
+ghost use Rattle.nodes.specs.Tally.{occ};
+ghost use Rattle.nodes.specs.Words.{nodes as nodesOf, factOf};
+ghost use Rattle.arena.specs.Calls.{made, Fair, liveOrEmpty, enoughFor, roomOf, allLive, enough, noneOf, unheldKid, unheld, internLeafOf, internBranchOf, rawIds};
+ghost use Rattle.arena.specs.Models.{hitBy, leafMissBy, leafAt, leafBy, internLeafBy, settledKid, settles, branchMissBy, branchHitBy, branchAt, branchBy, branchLow, kidsNo, internBranchBy};
 ghost use Rattle.arena.specs.Tables.{tables};
 
 // Eight EMPTY children.
 const NONE: [u64; 8] = [0, 0, 0, 0, 0, 0, 0, 0];
-
-// The id of a leaf in slot s, whose own word is `o`.
-fn leaf_id(s: usize, o: u64) -> u64
-    ensures { λ r. ⌜ r ≡ newLeaf (s % 2 ^ 32) (generationOf o) ⌝ }
-{
-    let id = BlockId::new_leaf((s % 0x1_0000_0000) as u32, BlockId(o).generation());
-    id.0
-}
 
 // Not refusal 11: is there a free slot?
 fn has_room(a: Arena) -> bool
     ensures { λ r. ⌜ r ≡ roomOf a ⌝ }
 {
     (a.live as u64) < less(a.capacity as u64)
-}
-
-// Fresh slot: the last one freed, else the lowest never used.
-fn fresh_slot(a: Arena) -> usize
-    ensures { λ r. ⌜ r ≡ freshSlot a ⌝ }
-{
-    if a.top == 0 {
-        return a.next;
-    }
-    a.top
-}
-
-// The state once the fresh slot is given out.
-fn give(a: Arena, facts: &[u64]) -> Arena
-    ensures { λ r. ⌜ r ≡ givenOut a (factOf (now (facts .entry))) ⌝ }
-{
-    if a.top == 0 {
-        return Arena {
-            capacity: a.capacity,
-            next: wrapping_add_u64(a.next as u64, 1) as usize,
-            top: 0,
-            live: wrapping_add_u64(a.live as u64, 1) as usize,
-        };
-    }
-    let top = fact(facts, a.top, LINK) as usize;
-    Arena {
-        capacity: a.capacity,
-        next: a.next,
-        top: top,
-        live: wrapping_add_u64(a.live as u64, 1) as usize,
-    }
 }
 
 // One hold more on the node in slot s, which is there already.
@@ -277,116 +235,6 @@ fn kids_no(a: Arena, kids: &[u64], facts: &[u64], find: &[u16], ks: [u64; 8]) ->
     1
 }
 
-// The stored value of an id; 0 of EMPTY.
-fn value_at(facts: &[u64], id: u64) -> u64
-    ensures { λ r. ⌜ r ≡ valueAt (factOf (now (facts .entry))) id ⌝ }
-{
-    if id == 0 {
-        return 0;
-    }
-    fact(facts, slot_of(id), VALUE)
-}
-
-// The height of an id; 0 of EMPTY.
-fn height_at(facts: &[u64], id: u64) -> u64
-    ensures { λ r. ⌜ r ≡ heightAt (factOf (now (facts .entry))) id ⌝ }
-{
-    if id == 0 {
-        return 0;
-    }
-    fact(facts, slot_of(id), HEIGHT)
-}
-
-// The sum of the first n children's stored values.
-fn sum_of(facts: &[u64], ks: [u64; 8], n: usize) -> u64
-    requires { ⌜ n ≤ 8 ⌝ }
-    ensures { λ r. ⌜ r ≡ wrapSum (factOf (now (facts .entry))) ks n ⌝ }
-{
-    let mut sum: u64 = 0;
-    let mut i: usize = 0;
-    while i < n {
-        sum += value_at(facts, ks[i]) % 65536;
-        i += 1;
-    }
-    sum
-}
-
-// The larger of two.
-fn larger(x: u64, y: u64) -> u64
-    ensures { λ r. ⌜ r ≡ max x y ⌝ }
-{
-    if x < y { y } else { x }
-}
-
-// The height of the tallest of the first n children.
-fn top_of(facts: &[u64], ks: [u64; 8], n: usize) -> u64
-    requires { ⌜ n ≤ 8 ⌝ }
-    ensures { λ r. ⌜ r ≡ topFor (factOf (now (facts .entry))) ks n ⌝ }
-{
-    let mut top: u64 = 0;
-    let mut i: usize = 0;
-    while i < n {
-        top = larger(top, height_at(facts, ks[i]));
-        i += 1;
-    }
-    top
-}
-
-// 1 if the child isn't EMPTY.
-fn kid_bit(k: u64) -> u8
-    ensures { λ r. ⌜ (r ≡ oneIf (not (eqb k 0))) × (r ≤ 1) ⌝ }
-{
-    if k == 0 { 0 } else { 1 }
-}
-
-// 1 if the child is a leaf.
-fn leaf_bit(k: u64) -> u8
-    ensures { λ r. ⌜ (r ≡ oneIf (isLeaf k)) × (r ≤ 1) ⌝ }
-{
-    if BlockId(k).is_leaf() { 1 } else { 0 }
-}
-
-// Mask bit i is 1 exactly if child i isn't EMPTY.
-fn mask_of(ks: [u64; 8]) -> u8
-    ensures { λ r. ⌜ r ≡ kidMask ks ⌝ }
-{
-    kid_bit(ks[0])
-        + 2 * kid_bit(ks[1])
-        + 4 * kid_bit(ks[2])
-        + 8 * kid_bit(ks[3])
-        + 16 * kid_bit(ks[4])
-        + 32 * kid_bit(ks[5])
-        + 64 * kid_bit(ks[6])
-        + 128 * kid_bit(ks[7])
-}
-
-// Types bit i exactly if child i is a leaf.
-fn types_of(ks: [u64; 8]) -> u8
-    ensures { λ r. ⌜ r ≡ kidTypes ks ⌝ }
-{
-    leaf_bit(ks[0])
-        + 2 * leaf_bit(ks[1])
-        + 4 * leaf_bit(ks[2])
-        + 8 * leaf_bit(ks[3])
-        + 16 * leaf_bit(ks[4])
-        + 32 * leaf_bit(ks[5])
-        + 64 * leaf_bit(ks[6])
-        + 128 * leaf_bit(ks[7])
-}
-
-// The id of a branch in slot s, whose own word is `o`.
-fn branch_id(ks: [u64; 8], s: usize, o: u64) -> u64
-    ensures { λ r. ⌜ r ≡ newBranch (s % 2 ^ 32) (generationOf o) (kidTypes ks) (kidMask ks) ⌝ }
-{
-    let id = BlockId::new_branch(
-        (s % 0x1_0000_0000) as u32,
-        BlockId(o).generation(),
-        types_of(ks),
-        mask_of(ks),
-    );
-    id.0
-}
-
 // A hold on the node of k becomes a place; EMPTY: nothing.
 fn settle_kid(facts: &mut [u64], k: u64)
     ensures { λ _. ⌜ ((j : List ℕ) → nodesOf j (now (facts .exit)) ≡ settledKid (nodesOf j (now (facts .entry))) k) ⌝ }
@@ -504,40 +352,30 @@ fn branch_at(
     branch_hit(a, facts, ks, s)
 }
 
-// The branch of n children, whose tallest is `top` high.
+// The branch of these children, whose tallest is `top` high.
 fn branch(
     a: Arena,
     kids: &mut [u64],
     facts: &mut [u64],
     find: &mut [u16],
     ks: [u64; 8],
-    n: usize,
     top: u64,
 ) -> Made
-    requires { ⌜ (1 ≤ n) × (n ≤ 8) × (top < 1000) ⌝ }
-    ensures { λ r. ⌜ made r (now (kids .exit)) (now (facts .exit)) (now (find .exit)) ≡ branchBy n (tables a (now (kids .entry)) (now (facts .entry)) (now (find .entry))) ks top ⌝ }
+    requires { ⌜ top ≤ 6 ⌝ }
+    ensures { λ r. ⌜ made r (now (kids .exit)) (now (facts .exit)) (now (find .exit)) ≡ branchBy 8 (tables a (now (kids .entry)) (now (facts .entry)) (now (find .entry))) ks top ⌝ }
 {
-    let v = sum_of(facts, ks, n) / n as u64;
+    let v = value_of(facts, ks);
     let f = search(find, kids, facts, a.capacity, ks, v);
     branch_at(a, kids, facts, find, ks, v, top + 1, f.slot, f.cell)
 }
 
-// The branch of n children unless it is taller than `tallest`: refusal 8.
-fn branch_low(
-    a: Arena,
-    kids: &mut [u64],
-    facts: &mut [u64],
-    find: &mut [u16],
-    ks: [u64; 8],
-    n: usize,
-    tallest: u64,
-) -> Made
-    requires { ⌜ (1 ≤ n) × (n ≤ 8) × (tallest ≤ 1000) ⌝ }
-    ensures { λ r. ⌜ made r (now (kids .exit)) (now (facts .exit)) (now (find .exit)) ≡ branchLow n tallest (tables a (now (kids .entry)) (now (facts .entry)) (now (find .entry))) ks ⌝ }
+// The branch of these children unless it is taller than 6: refusal 8.
+fn branch_low(a: Arena, kids: &mut [u64], facts: &mut [u64], find: &mut [u16], ks: [u64; 8]) -> Made
+    ensures { λ r. ⌜ made r (now (kids .exit)) (now (facts .exit)) (now (find .exit)) ≡ branchLow 8 6 (tables a (now (kids .entry)) (now (facts .entry)) (now (find .entry))) ks ⌝ }
 {
-    let top = top_of(facts, ks, n);
-    if top < tallest {
-        return branch(a, kids, facts, find, ks, n, top);
+    let top = top_of(facts, ks);
+    if top < 6 {
+        return branch(a, kids, facts, find, ks, top);
     }
     Made {
         no: 8,
@@ -546,18 +384,9 @@ fn branch_low(
     }
 }
 
-// Intern branch on any tables, of n children, no taller than `tallest`.
-fn branch_any(
-    a: Arena,
-    kids: &mut [u64],
-    facts: &mut [u64],
-    find: &mut [u16],
-    ks: [u64; 8],
-    n: usize,
-    tallest: u64,
-) -> Made
-    requires { ⌜ (1 ≤ n) × (n ≤ 8) × (tallest ≤ 1000) ⌝ }
-    ensures { λ r. ⌜ made r (now (kids .exit)) (now (facts .exit)) (now (find .exit)) ≡ internBranchBy n tallest (tables a (now (kids .entry)) (now (facts .entry)) (now (find .entry))) ks ⌝ }
+// Intern branch on any tables.
+fn branch_any(a: Arena, kids: &mut [u64], facts: &mut [u64], find: &mut [u16], ks: [u64; 8]) -> Made
+    ensures { λ r. ⌜ made r (now (kids .exit)) (now (facts .exit)) (now (find .exit)) ≡ internBranchBy 8 6 (tables a (now (kids .entry)) (now (facts .entry)) (now (find .entry))) ks ⌝ }
 {
     let no = kids_no(a, kids, facts, find, ks);
     if no != 0 {
@@ -567,7 +396,7 @@ fn branch_any(
             arena: a,
         };
     }
-    branch_low(a, kids, facts, find, ks, n, tallest)
+    branch_low(a, kids, facts, find, ks)
 }
 
 // The raw numbers of eight ids.
@@ -610,5 +439,5 @@ pub fn intern_branch(
 ) -> Made
     ensures { λ r. ⌜ (Fair 8 6 (tables arena (now (kids .entry)) (now (facts .entry)) (now (find .entry))) → made r (now (kids .exit)) (now (facts .exit)) (now (find .exit)) ≡ internBranchOf 8 6 (tables arena (now (kids .entry)) (now (facts .entry)) (now (find .entry))) (rawIds children)) ⌝ }
 {
-    branch_any(arena, kids, facts, find, raw_ids(children), 8, 6)
+    branch_any(arena, kids, facts, find, raw_ids(children))
 }

@@ -11,12 +11,12 @@ use Rattle.arena.proofs.Outs.{said-path}
 use Rattle.interning.proofs.branch_any.Statement.{statement}
 use Rattle.interning.proofs.branch_any.Tie as tie
 
-module _ (a : Arena) (k f e ks : List ℕ) (n tallest x : ℕ) (ex : x ≡ kidsNo (tables a k f e) ks) where
-  refusal : (x ≡ 0 → ⊥) → refused x (tables a k f e) ≡ internBranchBy n tallest (tables a k f e) ks
+module _ (a : Arena) (k f e ks : List ℕ) (x : ℕ) (ex : x ≡ kidsNo (tables a k f e) ks) where
+  refusal : (x ≡ 0 → ⊥) → refused x (tables a k f e) ≡ internBranchBy 8 6 (tables a k f e) ks
   unfolding internBranchBy
   refusal d = rw (ne-eqb (kidsNo (tables a k f e) ks) 0 (λ y. d (ex ∙ y))) (said-path _ _ _ _ _ _ ex refl refl)
 
-  fine : (w : Out) → x ≡ 0 → w ≡ branchLow n tallest (tables a k f e) ks → w ≡ internBranchBy n tallest (tables a k f e) ks
+  fine : (w : Out) → x ≡ 0 → w ≡ branchLow 8 6 (tables a k f e) ks → w ≡ internBranchBy 8 6 (tables a k f e) ks
   unfolding internBranchBy
   fine w z h = rw (eq-eqb (kidsNo (tables a k f e) ks) 0 (sym ex ∙ z)) h
 
