@@ -18,7 +18,7 @@ use Rattle.paths.specs.declared.IVec3.{IVec3}
 use Rattle.paths.specs.declared.ChildIndex.{ChildIndex}
 use Rattle.paths.specs.declared.Decoded.{Decoded}
 use Rattle.paths.specs.Paths.{low10, interleave, pathOf, gather, place, decodedOf, inside, octant, whole, childNo, childAt, childIndexOf}
-use Rattle.paths.proofs.Bits.{bit-lt}
+use Rattle.paths.proofs.Bits.{bit-lt, bit-past}
 use Rattle.paths.proofs.Coords.{back}
 use Rattle.paths.proofs.Laws.{low10-lt, path-joined, gather-lt, child-accepted}
 
@@ -117,6 +117,18 @@ seen d x t b h e q = ap (inside d) (sym (same x h)) ∙ sym e ∙ q
 
 pub ruleset ladder = (no-depth, no-level, off-x, off-y, off-z, in-all, seen)
 
+-- ## The octant
+
+-- The code's answer below bit 32, and from there on: no number of 32 bits has one.
+pub octant-sum : (b x y z : ℕ) → (x / 2 ^ b % 2 + 2 * (y / 2 ^ b % 2) + 4 * (z / 2 ^ b % 2) ≡ octant b x y z) × (x / 2 ^ b % 2 + 2 * (y / 2 ^ b % 2) + 4 * (z / 2 ^ b % 2) < 8)
+unfolding octant
+octant-sum b x y z = (refl, omega (arith, bit-lt b x, bit-lt b y, bit-lt b z))
+
+pub octant-past : (b x y z : ℕ) → 32 ≤ b → Fits w32 x → Fits w32 y → Fits w32 z → (0 ≡ octant b x y z) × (0 < 8)
+unfolding octant
+octant-past b x y z h fx fy fz =
+    (omega (arith, bit-past 32 b x (fx .fits) h, bit-past 32 b y (fy .fits) h, bit-past 32 b z (fz .fits) h), omega arith)
+
 -- ## The child number
 
 module _ (p : IVec3) (k d r : ℕ) (e : r ≡ childNo p k d) where
@@ -131,9 +143,6 @@ module _ (p : IVec3) (k d r : ℕ) (e : r ≡ childNo p k d) where
 
     pub level : k ≤ d - 1
     level = omega (arith, child-accepted p k d (sym e ∙ h))
-
-    pub shallow : d - 1 - k < 32
-    shallow = omega (arith, child-accepted p k d (sym e ∙ h))
 
     pub given : (i x y z : ℕ) → mag (p .x) < 2 ^ 31 → mag (p .y) < 2 ^ 31 → mag (p .z) < 2 ^ 31
         → x ≡ whole (back (p .x)) → y ≡ whole (back (p .y)) → z ≡ whole (back (p .z))

@@ -13,7 +13,7 @@ use lib.Signed.{ltZ, nonNeg, mag}
 use mir.Syntax.{w32}
 use mir.Val.{SFits, Fits, toZ, ofZ}
 use mir.ValLaws.{toZ-ofZ}
-use Rattle.paths.specs.Paths.{low10, inside, whole}
+use Rattle.paths.specs.Paths.{low10, inside, whole, coordOf}
 
 -- A coordinate as its 32 bits are read back.
 abbrev pub back : ℤ → ℤ
@@ -72,6 +72,10 @@ module _ (x : ℤ) (f : SFits w32 x) where
     unfolding whole
     whole-below = sym (ap whole is-below)
 
+    pub coord-below : 2 ^ 32 - 1 ≡ coordOf x
+    unfolding coordOf
+    coord-below = sym (ap coordOf is-below)
+
     pub inside-below : (d : ℕ) → false ≡ inside d x
     unfolding inside
     inside-below d = sym (ap (inside d) is-below)
@@ -94,6 +98,10 @@ module _ (x : ℤ) (f : SFits w32 x) where
     pub whole-plain : (m : ℕ) → m ≡ mag (back x) → m ≡ whole x
     unfolding whole
     whole-plain m e = rw (e, back-is) (sym (ap whole is-plain))
+
+    pub coord-plain : (m : ℕ) → m ≡ mag (back x) → m ≡ coordOf x
+    unfolding coordOf
+    coord-plain m e = rw (e, back-is) (sym (ap coordOf is-plain))
 
     pub inside-plain : (d m : ℕ) → d ≤ 6 → m ≡ mag (back x) → ltb m (1 * 2 ^ d % 2 ^ 32) ≡ inside d x
     unfolding inside

@@ -57,6 +57,11 @@ unfoldable pub whole : ℤ → ℕ
 whole (pos n) = n
 whole (negsuc n) = 0
 
+-- A coordinate as a number; one below 0 becomes 2^32 - 1, which no cube has.
+unfoldable pub coordOf : ℤ → ℕ
+coordOf (pos n) = n
+coordOf (negsuc n) = 2 ^ 32 - 1
+
 -- the lowest number that applies
 unfoldable pub childNo : IVec3 → ℕ → ℕ → ℕ
 childNo p k d =

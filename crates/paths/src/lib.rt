@@ -2,7 +2,7 @@
 ghost use mathlib.Core.Path.{_≡_};
 ghost use Prim.Native.Nat.{_^_, _<_, _≤_};
 ghost use lib.Signed.{mag};
-ghost use Rattle.paths.specs.Paths.{low10, interleave, pathOf, gather as gatherOf, decodedOf, inside, whole as wholeOf, octant as octantOf, childNo, childIndexOf};
+ghost use Rattle.paths.specs.Paths.{low10, interleave, pathOf, gather as gatherOf, decodedOf, inside, whole as wholeOf, coordOf, octant as octantOf, childNo, childIndexOf};
 
 const MASK_10_BITS: u32 = 0x3FF;
 
@@ -15,6 +15,7 @@ const MASK_3: u32 = 0x30C30C3;
 const MASK_4: u32 = 0x9249249;
 
 // The place of a cell.
+#[repr(C)]
 pub struct IVec3 {
     pub x: i32,
     pub y: i32,
@@ -119,6 +120,16 @@ fn whole(x: i32) -> u32
     magnitude(x)
 }
 
+// A coordinate as a number; one below 0 becomes 2^32 - 1, which no cube has.
+pub fn coord(x: i32) -> u32
+    ensures { λ r. ⌜ r ≡ coordOf x ⌝ }
+{
+    if x < 0 {
+        return 0xFFFF_FFFF;
+    }
+    magnitude(x)
+}
+
 // A coordinate is neither below 0 nor at least 2^d.
 fn is_inside(d: u32, x: i32) -> bool
     requires { ⌜ d ≤ 6 ⌝ }
@@ -131,12 +142,14 @@ fn is_inside(d: u32, x: i32) -> bool
     magnitude(x) < (one << d)
 }
 
-// Of three numbers, bit b of x, plus twice that of y, plus four times that of z.
-fn octant(b: u32, x: u32, y: u32, z: u32) -> usize
-    requires { ⌜ b < 32 ⌝ }
-    ensures { λ r. ⌜ r ≡ octantOf b x y z ⌝ }
+// Of three numbers, bit b of x, plus twice that of y, plus four times that of z. From 32 on no bit is 1.
+pub fn octant(b: u32, x: u32, y: u32, z: u32) -> usize
+    ensures { λ r. ⌜ (r ≡ octantOf b x y z) × (r < 8) ⌝ }
 {
-    ((x >> b) % 2 + 2 * ((y >> b) % 2) + 4 * ((z >> b) % 2)) as usize
+    if b < 32 {
+        return ((x >> b) % 2 + 2 * ((y >> b) % 2) + 4 * ((z >> b) % 2)) as usize;
+    }
+    0
 }
 
 // The lowest refusal that applies to a child number, or 0.

@@ -53,7 +53,7 @@ module _ (s t : ℕ) where
   set-paints x₀ y₀ z₀ a u hx hy hz e =
       record {
         size = λ l. length-set l a u;
-        hit = λ l k x y z _ _ _ r. hit l k x y z (r .0) (r .1) (r .2);
+        hit = λ l k x y z _ _ _ r o. hit l k x y z (r .0) (r .1) (r .2);
         miss = λ l k x y z kx ky kz n.
             getD-set-other l a (addr s t x y z) u 0
             (λ q. n (same x y z (addr-one s t x y z x₀ y₀ z₀ kx kz hx hz (q ∙ e))));
@@ -77,6 +77,7 @@ module _ (s t : ℕ) where
       (λ x y z _ _ _ r. refl)
       (times-paints s t n (λ i. One (x₀ + i) y₀ z₀) (all u) (λ i m. set m (a + i) u)
       (λ i x y z. three? (ℕ-discrete x (x₀ + i)) (ℕ-discrete y y₀) (ℕ-discrete z z₀))
+      (λ i j x y z h _ r q. omega (arith, h, r .0, q .0))
       (λ i k. set-paints (x₀ + i) y₀ z₀ (a + i) u (omega arith) hy hz (omega arith)))
 
   pub plane-paints : (n w x₀ y₀ z₀ a u : ℕ) → x₀ + n ≤ s → y₀ < s → z₀ + w ≤ t → a ≡ addr s t x₀ y₀ z₀ → Paints s t (Plane n w x₀ y₀ z₀) (all u) (fillPlane s a n w u)
@@ -88,6 +89,7 @@ module _ (s t : ℕ) where
       (λ x y z _ _ _ r. refl)
       (times-paints s t w (λ i. Row n x₀ y₀ (z₀ + i)) (all u) (λ i m. fillRow (a + i * s) n u m)
       (λ i x y z. three? (within? x₀ n x) (ℕ-discrete y y₀) (ℕ-discrete z (z₀ + i)))
+      (λ i j x y z h _ r q. omega (arith, h, r .2, q .2))
       (λ i k. row-paints n x₀ y₀ (z₀ + i) (a + i * s) u hx hy (omega arith) (omega arith)))
 
   pub block-paints : (n w x₀ y₀ z₀ a u : ℕ) → x₀ + n ≤ s → y₀ + n ≤ s → z₀ + w ≤ t → a ≡ addr s t x₀ y₀ z₀ → Paints s t (Block n w x₀ y₀ z₀) (all u) (fillBlock s (t * s) a n w u)
@@ -99,4 +101,5 @@ module _ (s t : ℕ) where
       (λ x y z _ _ _ r. refl)
       (times-paints s t n (λ i. Plane n w x₀ (y₀ + i) z₀) (all u) (λ i m. fillPlane s (a + i * (t * s)) n w u m)
       (λ i x y z. three? (within? x₀ n x) (ℕ-discrete y (y₀ + i)) (within? z₀ w z))
+      (λ i j x y z h _ r q. omega (arith, h, r .1, q .1))
       (λ i k. plane-paints n w x₀ (y₀ + i) z₀ (a + i * (t * s)) u hx (omega arith) hz (omega arith)))

@@ -3,24 +3,23 @@ use Prim.Native.Nat.{ℕ, _+_, _-_, _*_, _%_, _^_, _≤_, _<_}
 use native.Mathlib.Nat.{mod-eq-of-lt, one-mul, mul-le-mul}
 use native.Mathlib.Decide.{ℕ-discrete, decLe}
 use native.Mathlib.Omega.{arith}
-use mathlib.Core.Path.{_≡_, _∙_, refl, sym, ap, subst}
+use mathlib.Core.Path.{_≡_, _∙_, refl, sym, ap}
 use mathlib.Core.Bool.{Bool, true, false}
 use mathlib.Core.List.{List}
 use borrow.Author.Tests.{le-ltb, le-leb, lt-leb, ne-eqb, leb-true, eqb-true}
-use lib.Dec.{T, ltb, leb, eqb, ltb→lt}
-use lib.IntN.{ℤ, pos, negsuc, natAbs}
+use lib.Dec.{ltb, leb, eqb}
+use lib.IntN.{ℤ, pos, negsuc}
 use lib.ListN.{length}
 use lib.Pow.{pow-mono}
-use lib.Signed.{ltZ, nonNeg, mag}
+use lib.Signed.{mag}
 use mir.Syntax.{w32}
-use mir.Val.{SFits, Fits}
 use mir.ValLaws.{toZ-ofZ}
 use Rattle.basics.specs.Pick.{pick}
 use Rattle.basics.proofs.Rungs.{pick-yes, rung-yes, rung-no, via-yes, via-no, rungs, eq-via, ne-via, past-yes}
 use Rattle.nodes.specs.Words.{Words, nodes, own, kidOf, factOf, wordOf, slot, floor}
 use Rattle.nodes.proofs.Access.{word-fact}
 use Rattle.paths.specs.declared.IVec3.{IVec3}
-use Rattle.paths.specs.Paths.{inside, whole}
+use Rattle.paths.specs.Paths.{coordOf, inside, whole}
 use Rattle.paths.proofs.Coords.{back}
 use Rattle.nodes.specs.Values.{valueAt}
 use Rattle.tree.specs.Cells.{cubePath}
@@ -31,9 +30,9 @@ use Rattle.reading.specs.declared.End.{End}
 use Rattle.reading.specs.declared.Looked.{Looked}
 use Rattle.reading.specs.Reading.{descent, endOf, cellOf, cubeOf}
 use Rattle.reading.specs.Calls.{lookNo, looked, lookOf, expandNo, expanded, expandOf}
-use Rattle.reading.specs.Models.{val, coordOf, lookNoAt, lookAt, grow}
+use Rattle.reading.specs.Models.{val, lookNoAt, lookAt, endsAt, fillRow, grow, cubeFrom}
 use Rattle.reading.proofs.Ends.{look-descent, end-kids, val-facts}
-use Rattle.reading.proofs.Cube.{pow-eight, grown}
+use Rattle.reading.proofs.Cube.{pow-eight, cube-from}
 
 -- ---- sides
 
@@ -56,30 +55,14 @@ cube-test d n s p q e h k =
 pub inside-test : (d x s : ℕ) → s ≡ 2 ^ d → ltb x s ≡ ltb x (2 ^ d)
 inside-test d x s k = ap (ltb x) k
 
--- ---- a coordinate, from its bits read back
-
-pub coord-below : (x z : ℤ) → z ≡ x → ltZ z (pos 0) ≡ true → 2 ^ 32 - 1 ≡ coordOf x
-unfolding coordOf
-coord-below x (pos n) e h = let k : n < 0 = ltb→lt n 0 (subst T (sym h) tt) in absurd (omega arith)
-coord-below x (negsuc n) e h = subst (λ (y : ℤ). 2 ^ 32 - 1 ≡ coordOf y) e refl
-
-pub coord-whole : (x z : ℤ) → z ≡ x → ltZ z (pos 0) ≡ false → natAbs z ≡ coordOf x
-unfolding coordOf
-coord-whole x (pos n) e h = subst (λ (y : ℤ). n ≡ coordOf y) e refl
-coord-whole x (negsuc n) e h = let k : _≡_ {A = ℕ} 0 1 = cc in absurd (omega arith)
-
-pub coord-cast : (x z : ℤ) → z ≡ x → SFits w32 x → ltZ z (pos 0) ≡ false → T (nonNeg z) × Fits w32 (natAbs z)
-coord-cast x (pos n) e h k =
-    let s : SFits w32 (pos n) = subst (SFits w32) (sym e) h in
-    (tt, record { fits = omega (arith, s .sfits) })
-coord-cast x (negsuc n) e h k = let q : _≡_ {A = ℕ} 0 1 = cc in absurd (omega arith)
+-- ---- a coordinate as a number
 
 coord-inside : (d : ℕ) (x : ℤ) → d ≤ 6 → ltb (coordOf x) (2 ^ d) ≡ inside d x
 unfolding coordOf inside
 coord-inside d (pos n) h = refl
 coord-inside d (negsuc n) h = le-ltb (2 ^ 32 - 1) (2 ^ d) (omega (arith, side-small d h))
 
-coord-is : (d : ℕ) (x : ℤ) → inside d x ≡ true → coordOf x ≡ whole x
+pub coord-is : (d : ℕ) (x : ℤ) → inside d x ≡ true → coordOf x ≡ whole x
 unfolding coordOf inside whole
 coord-is d (pos n) h = refl
 coord-is d (negsuc n) h = let q : _≡_ {A = ℕ} 0 1 = cc in absurd (omega arith)
@@ -133,7 +116,7 @@ module _ (a : Arena) (ks fs es : List ℕ) (id d : ℕ) where
       rung-yes _ _ _ _ (eq-via k _ 0 e h) (λ i. looked 0 (m i))
 
   -- the number is the same, of coordinates and of what the code makes of them ..
-  look-no-same : (p : IVec3) → lookNoAt (tables a ks fs es) id d (coordOf (p .x)) (coordOf (p .y)) (coordOf (p .z)) ≡ lookNo (tables a ks fs es) id d p
+  pub look-no-same : (p : IVec3) → lookNoAt (tables a ks fs es) id d (coordOf (p .x)) (coordOf (p .y)) (coordOf (p .z)) ≡ lookNo (tables a ks fs es) id d p
   unfolding lookNoAt lookNo
   look-no-same p = go (decLe d 6)
     where
@@ -142,7 +125,7 @@ module _ (a : Arena) (ks fs es : List ℕ) (id d : ℕ) where
       go (no h) = rw (lt-leb d 6 (omega (arith, h)))
 
   -- .. and where none is refused so are the coordinates
-  look-inside : (p : IVec3) → lookNo (tables a ks fs es) id d p ≡ 0 → (inside d (p .x) ≡ true) × (inside d (p .y) ≡ true) × (inside d (p .z) ≡ true)
+  pub look-inside : (p : IVec3) → lookNo (tables a ks fs es) id d p ≡ 0 → (inside d (p .x) ≡ true) × (inside d (p .y) ≡ true) × (inside d (p .z) ≡ true)
   unfolding lookNo
   look-inside p e =
       let four : ℕ = pick (liveOrEmpty (a .capacity) (wordOf (nodes ks fs)) id) 0 4 in
@@ -194,10 +177,9 @@ module _ (a : Arena) (ks fs es : List ℕ) (id d : ℕ) where
       let r : (eqb n (8 ^ d) ≡ true) × (_≡_ {A = ℕ} 0 0) = past-yes {A = ℕ} (eqb n (8 ^ d)) 0 9 0 (omega arith) (q .1) in
       eqb-true _ _ (r .0)
 
-  pub expand-fits : (n k s p : ℕ) → k ≡ expandNo (tables a ks fs es) id d n → k ≡ 0 → s ≡ 2 ^ d → p ≡ s * s → 0 + s * p + s * s + s ≤ n + p + s
-  expand-fits n k s p e h es ep =
+  pub expand-fits : (n k s : ℕ) → k ≡ expandNo (tables a ks fs es) id d n → k ≡ 0 → s ≡ 2 ^ d → 0 + s * (s * s) + s * s + s ≤ n + s * s + s
+  expand-fits n k s e h es =
       let q : n ≡ s * s * s = expand-long n k e h ∙ pow-eight d ∙ ap (λ (i : ℕ). i * i * i) (sym es) in
-      let r : s * p ≡ s * (s * s) = ap (λ (i : ℕ). s * i) ep in
       omega arith
 
   pub expand-refused : (l : List ℕ) (k : ℕ) → k ≡ expandNo (tables a ks fs es) id d (length l) → (k ≡ 0 → ⊥)
@@ -205,11 +187,27 @@ module _ (a : Arena) (ks fs es : List ℕ) (id d : ℕ) where
   unfolding expandOf
   expand-refused l k e h = rung-no _ _ _ _ (ne-via k _ 0 e h) (λ i. expanded (e i) l)
 
-  pub expand-done : (l m : List ℕ) (k s p : ℕ) → k ≡ expandNo (tables a ks fs es) id d (length l) → k ≡ 0 → s ≡ 2 ^ d → p ≡ s * s
-      → m ≡ grow (wordOf (nodes ks fs)) 8 s p d s id 0 l → expanded 0 m ≡ expandOf (tables a ks fs es) id d l
+  pub expand-done : (l m : List ℕ) (k s : ℕ) → k ≡ expandNo (tables a ks fs es) id d (length l) → k ≡ 0 → s ≡ 2 ^ d
+      → m ≡ cubeFrom (wordOf (nodes ks fs)) s d id l → expanded 0 m ≡ expandOf (tables a ks fs es) id d l
   unfolding expandOf
-  expand-done l m k s p e h es ep q =
+  expand-done l m k s e h es q =
       let M = wordOf (nodes ks fs) in
-      let j : grow M 8 s p d s id 0 l ≡ grow M 8 (2 ^ d) (2 ^ d * 2 ^ d) d (2 ^ d) id 0 l = rw (ep, es) in
-      let r : m ≡ cubeOf M d id = q ∙ j ∙ grown M d id l (expand-long (length l) k e h) in
+      let r : m ≡ cubeOf M d id = q ∙ cube-from M d id s l (expand-long (length l) k e h) es in
       rung-yes _ _ _ _ (eq-via k _ 0 e h) (λ i. expanded 0 (r i))
+
+-- ---- the whole cube
+
+pub from-end : (ks fs : List ℕ) (s d a u : ℕ) (t : Bool) (l m : List ℕ) → t ≡ endsAt a → t ≡ true → u ≡ val (factOf fs) a → m ≡ fillRow 0 (length l) u l
+    → m ≡ cubeFrom (wordOf (nodes ks fs)) s d a l
+unfolding cubeFrom
+from-end ks fs s d a u t l m e i q j =
+    let r : endsAt a ≡ true = sym e ∙ i in
+    rw r (j ∙ ap (λ (n : ℕ). fillRow 0 (length l) n l) (q ∙ val-facts ks fs a))
+
+pub from-parts : (ks fs : List ℕ) (s p d a : ℕ) (t : Bool) (l o m : List ℕ) → t ≡ endsAt a → t ≡ false → o ≡ fillRow 0 (length l) 0 l → p ≡ s * s
+    → m ≡ grow (wordOf (nodes ks fs)) 8 s p d s a 0 o → m ≡ cubeFrom (wordOf (nodes ks fs)) s d a l
+unfolding cubeFrom
+from-parts ks fs s p d a t l o m e i q k j = let r : endsAt a ≡ false = sym e ∙ i in rw r (j ∙ cc (k, q))
+
+pub from-fits : (s p c c₀ : ℕ) → 0 + s * (s * s) + s * s + s ≤ c₀ + s * s + s → p ≡ s * s → c ≡ c₀ → 0 + s * p + s * s + s ≤ c + p + s
+from-fits s p c c₀ h e q = rw e (omega arith)

@@ -81,6 +81,11 @@ look-descent W k (c ∷ p) a = go (kind a) (look-descent W (k + 1) p (childOf W 
     go (leaf h) ih = look-leaf W c p a h ∙ ap (λ (e : End). valueAt W (e .id .0)) (sym (descent-stop W k c p a (ends-leaf a h)))
     go (branch h) ih = look-branch W c p a h ∙ ih ∙ ap (λ (e : End). valueAt W (e .id .0)) (sym (descent-on W k c p a (ends-not a h)))
 
+-- and of an end it is its own value
+pub look-ends : (W : Words) (p : List ℕ) (a : ℕ) → endsAt a ≡ true → look W p a ≡ valueAt W a
+look-ends W [] a e = look-end W a
+look-ends W (c ∷ p) a e = look-descent W 0 (c ∷ p) a ∙ ap (λ (t : End). valueAt W (t .id .0)) (descent-stop W 0 c p a e)
+
 -- ---- what the accessors give: children by `kids`, values by `facts`
 
 pub val-empty : (W : Words) (a : ℕ) → a ≡ 0 → 0 ≡ val W a

@@ -11,14 +11,14 @@ use borrow.Author.Tests.{eq-eqb, ne-eqb}
 use lib.Pow.{pow-pos}
 use lib.ListN.{set}
 use Rattle.nodes.specs.Words.{Words}
-use Rattle.tree.specs.Tree.{Branch, Kind, empty, leaf, branch, kind, childOf, look}
+use Rattle.tree.specs.Tree.{Leaf, Branch, Kind, empty, leaf, branch, kind, childOf, look}
 use Rattle.nodes.specs.Values.{valueAt}
 use Rattle.tree.specs.Cells.{pathBy, cubePath}
 use Rattle.paths.specs.Paths.{octant}
-use Rattle.tree.proofs.Canon.{look-empty, look-leaf, look-branch, look-end, value-empty}
+use Rattle.tree.proofs.Canon.{look-empty, look-leaf, look-branch, look-end}
 use Rattle.reading.specs.Reading.{cellOf}
 use Rattle.reading.specs.Models.{times, val, endsAt, fillBlock, thick, offset, grow}
-use Rattle.reading.proofs.Ends.{ends-empty, ends-leaf, ends-not}
+use Rattle.reading.proofs.Ends.{ends-leaf, ends-not}
 use Rattle.reading.proofs.Paint.{addr, Paints, recast, alike, Some, times-paints}
 use Rattle.reading.proofs.Blocks.{Within, three?, One, Block, all, set-paints, block-paints}
 
@@ -52,6 +52,9 @@ oct-back u w t xb yb zb c h eu ew et =
     let d : t % 2 ≡ c / 4 = omega arith in
     let q : c % 2 + 2 * (c / 2 % 2) + 4 * (c / 4) ≡ c = omega arith in
     omega arith
+
+leaf-some : (a : ℕ) → Leaf a → a ≡ 0 → ⊥
+leaf-some a h e = omega arith
 
 thick-cube : (n p : ℕ) → n ≡ 8 → thick n p ≡ p
 unfolding thick
@@ -181,28 +184,49 @@ module _ (W : Words) (n s t : ℕ) where
       (λ x y z _ _ _ r. refl)
       (times-paints s t n (Oct k xb yb zb) (cellOf W (suc k) a) _
       (λ c x y z. three? (ℕ-discrete (x / 2 ^ k) (2 * xb + c % 2)) (ℕ-discrete (y / 2 ^ k) (2 * yb + c / 2 % 2)) (ℕ-discrete (z / 2 ^ k) (2 * zb + c / 4)))
+      apart
       (λ c hc. oct-paints k ih xb yb zb a at c hx hy hz e b hc))
     where
+      apart : (i j x y z : ℕ) → i < j → j < n → Oct k xb yb zb i x y z → Oct k xb yb zb j x y z → ⊥
+      apart i j x y z h hj r q =
+          let m : n ≤ 8 = deep-low n t (suc k) zb hz in
+          let p : i ≡ j =
+          sym (oct-back (x / 2 ^ k) (y / 2 ^ k) (z / 2 ^ k) xb yb zb i (omega arith) (r .0) (r .1) (r .2))
+          ∙ oct-back (x / 2 ^ k) (y / 2 ^ k) (z / 2 ^ k) xb yb zb j (omega arith) (q .0) (q .1) (q .2) in
+          omega arith
+
       into : (x y z : ℕ) → z < t → x / 2 ^ k / 2 ≡ xb → y / 2 ^ k / 2 ≡ yb → z / 2 ^ k / 2 ≡ zb → Some n (Oct k xb yb zb) x y z
       into x y z lz ex ey ez = (octant k x y z, deep-oct n t k zb x y z hz lz, (omega arith, omega arith, omega arith))
 
-  grow-end : (k side a at : ℕ) (l : List ℕ) → endsAt a ≡ true → fillBlock s (t * s) at side (thick n side) (val W a) l ≡ grow W n s (t * s) (suc k) side a at l
+  grow-none : (k side a at : ℕ) (l : List ℕ) → a ≡ 0 → l ≡ grow W n s (t * s) (suc k) side a at l
   unfolding grow
-  grow-end k side a at l e = rw e
+  grow-none k side a at l e = rw (eq-eqb a 0 e)
 
-  grow-on : (k side a at : ℕ) (l : List ℕ) → endsAt a ≡ false
+  grow-end : (k side a at : ℕ) (l : List ℕ) → (a ≡ 0 → ⊥) → endsAt a ≡ true → fillBlock s (t * s) at side (thick n side) (val W a) l ≡ grow W n s (t * s) (suc k) side a at l
+  unfolding grow
+  grow-end k side a at l h e = rw (ne-eqb a 0 h, e)
+
+  grow-on : (k side a at : ℕ) (l : List ℕ) → (a ≡ 0 → ⊥) → endsAt a ≡ false
       → times (λ c m. grow W n s (t * s) k (side / 2) (childOf W a c) (at + offset s (t * s) (side / 2) c) m) n l ≡ grow W n s (t * s) (suc k) side a at l
   unfolding grow
-  grow-on k side a at l e = rw e
+  grow-on k side a at l h e = rw (ne-eqb a 0 h, e)
 
   grow-suc : (k : ℕ) → Grows k → Grows (suc k)
   unfolding pathBy
   grow-suc k ih xb yb zb a at hx hy hz e = go (kind a)
     where
+      none : a ≡ 0 → Paints s t (At (suc k) xb yb zb) (cellOf W (suc k) a) (λ l. l)
+      none h =
+          record {
+            size = λ l. refl;
+            hit = λ l _ x y z _ _ _ _ o. o ∙ sym (ap (λ (i : ℕ). i % 2 ^ 16) (look-empty W _ _ a h));
+            miss = λ l _ x y z _ _ _ _. refl;
+          }
+
       go : Kind a → Paints s t (At (suc k) xb yb zb) (cellOf W (suc k) a) (grow W n s (t * s) (suc k) (2 ^ suc k) a at)
-      go (empty h) = alike s t _ _ _ _ (λ l. grow-end k (2 ^ suc k) a at l (ends-empty a h)) (end-paints k xb yb zb a at hx hy hz e (λ x y z. look-empty W _ _ a h ∙ sym (value-empty W a h)))
-      go (leaf h) = alike s t _ _ _ _ (λ l. grow-end k (2 ^ suc k) a at l (ends-leaf a h)) (end-paints k xb yb zb a at hx hy hz e (λ x y z. look-leaf W _ _ a h))
-      go (branch h) = alike s t _ _ _ _ (λ l. grow-on k (2 ^ suc k) a at l (ends-not a h)) (branch-paints k ih xb yb zb a at hx hy hz e h)
+      go (empty h) = alike s t _ _ _ _ (λ l. grow-none k (2 ^ suc k) a at l h) (none h)
+      go (leaf h) = alike s t _ _ _ _ (λ l. grow-end k (2 ^ suc k) a at l (leaf-some a h) (ends-leaf a h)) (end-paints k xb yb zb a at hx hy hz e (λ x y z. look-leaf W _ _ a h))
+      go (branch h) = alike s t _ _ _ _ (λ l. grow-on k (2 ^ suc k) a at l (h .0) (ends-not a h)) (branch-paints k ih xb yb zb a at hx hy hz e h)
 
   pub grow-paints : (k : ℕ) → Grows k
   grow-paints zero = grow-zero

@@ -3,8 +3,7 @@ use Prim.Native.Nat.{ℕ, zero, suc, _+_, _-_, _*_, _/_, _%_, _^_}
 use mathlib.Core.Bool.{Bool, true}
 use mathlib.Core.List.{List}
 use lib.Dec.{leb, ltb, eqb}
-use lib.IntN.{ℤ, pos, negsuc}
-use lib.ListN.{set}
+use lib.ListN.{length, set}
 use Rattle.basics.specs.Pick.{pick}
 use Rattle.nodes.specs.Words.{Words}
 use Rattle.tree.specs.Tree.{childOf}
@@ -24,11 +23,6 @@ unfoldable pub val : Words → ℕ → ℕ
 val W a = valueAt W a % 2 ^ 16
 
 -- ## Lookup, of coordinates as numbers
-
--- a coordinate below 0 becomes 2^32 - 1, which no cube has
-unfoldable pub coordOf : ℤ → ℕ
-coordOf (pos n) = n
-coordOf (negsuc n) = 2 ^ 32 - 1
 
 unfoldable pub lookNoAt : Tables → ℕ → ℕ → ℕ → ℕ → ℕ → ℕ
 lookNoAt t id d x y z =
@@ -66,13 +60,27 @@ thick n side = pick (eqb n 8) side 1
 unfoldable pub offset : ℕ → ℕ → ℕ → ℕ → ℕ
 offset row plane h c = c % 2 * h + c / 2 % 2 * (h * plane) + c / 4 * (h * row)
 
--- the n parts in turn, one level lower
+-- the n parts in turn, one level lower, of cells that are 0: EMPTY leaves them so
 unfoldable pub grow : Words → ℕ → ℕ → ℕ → ℕ → ℕ → ℕ → ℕ → List ℕ → List ℕ
 grow W n row plane zero side a at l = set l at (val W a)
 grow W n row plane (suc k) side a at l =
-    pick (endsAt a) (fillBlock row plane at side (thick n side) (val W a) l)
-    (times (λ c m. grow W n row plane k (side / 2) (childOf W a c) (at + offset row plane (side / 2) c) m) n l)
+    pick (eqb a 0) l
+    (pick (endsAt a) (fillBlock row plane at side (thick n side) (val W a) l)
+    (times (λ c m. grow W n row plane k (side / 2) (childOf W a c) (at + offset row plane (side / 2) c) m) n l))
 
 -- the first c parts of a branch, h their side and k the levels below them
 abbrev pub partsTo : Words → ℕ → ℕ → ℕ → ℕ → ℕ → ℕ → ℕ → ℕ → List ℕ → List ℕ
 partsTo W n row plane k h a at c l = times (λ i m. grow W n row plane k h (childOf W a i) (at + offset row plane h i) m) c l
+
+-- the value of part c
+unfoldable pub partVal : Words → ℕ → ℕ → ℕ
+partVal W a c = val W (childOf W a c)
+
+-- the parts c and c + 1, side by side
+unfoldable pub pairOf : Words → ℕ → ℕ → ℕ → List ℕ → List ℕ
+pairOf W a c at l = set (set l at (partVal W a c)) (at + 1) (partVal W a (c + 1))
+
+-- the whole cube of side s: one value where the root is an end, else 0 and then its octants
+unfoldable pub cubeFrom : Words → ℕ → ℕ → ℕ → List ℕ → List ℕ
+cubeFrom W s d a l =
+    pick (endsAt a) (fillRow 0 (length l) (val W a) l) (grow W 8 s (s * s) d s a 0 (fillRow 0 (length l) 0 l))

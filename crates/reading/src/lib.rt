@@ -8,16 +8,17 @@ use nodes::VALUE;
 use nodes::fact;
 use nodes::kid;
 use paths::IVec3;
+use paths::coord;
+use paths::octant;
 ghost use mathlib.Core.Path.{_≡_};
 ghost use Prim.Native.Nat.{_+_, _*_, _/_, _^_, _<_, _≤_};
 ghost use lib.Dec.{ltb, eqb};
 ghost use Rattle.nodes.specs.Words.{nodes, kidOf, factOf, wordOf};
-ghost use Rattle.paths.specs.Paths.{octant as octantOf};
 ghost use Rattle.arena.specs.Tables.{tables};
 ghost use Rattle.arena.specs.Calls.{liveOrEmpty};
 ghost use Rattle.reading.specs.Reading.{endOf};
 ghost use Rattle.reading.specs.Calls.{lookOf, expandNo, expanded, expandOf};
-ghost use Rattle.reading.specs.Models.{endsAt, val, coordOf, lookNoAt, lookAt, fillRow, fillPlane, fillBlock, offset as offsetOf, grow, partsTo};
+ghost use Rattle.reading.specs.Models.{endsAt, val, partVal, lookNoAt, lookAt, fillRow, fillPlane, fillBlock, offset as offsetOf, grow, partsTo, pairOf, cubeFrom};
 
 // The lowest id of a leaf: bit 63 is the leaf flag.
 const LEAF: u64 = 0x8000_0000_0000_0000;
@@ -29,6 +30,7 @@ pub struct End {
 }
 
 // The answer of lookup.
+#[repr(C)]
 pub struct Looked {
     pub no: u32,
     pub value: u16,
@@ -50,21 +52,14 @@ fn is_end(id: u64) -> bool
 fn value(facts: &[u64], id: u64) -> u16
     ensures { λ r. ⌜ r ≡ val (factOf (now (facts .entry))) id ⌝ }
 {
+    let stored = (fact(facts, slot_of(id), VALUE) % 0x1_0000) as u16;
     if id == BlockId::EMPTY.0 {
         return 0;
     }
-    (fact(facts, slot_of(id), VALUE) % 0x1_0000) as u16
+    stored
 }
 
 // ---- down a path
-
-// Of three numbers, bit b of x, plus twice that of y, plus four times that of z.
-fn octant(b: u32, x: u32, y: u32, z: u32) -> usize
-    requires { ⌜ b < 32 ⌝ }
-    ensures { λ r. ⌜ r ≡ octantOf b x y z ⌝ }
-{
-    ((x >> b) % 2 + 2 * ((y >> b) % 2) + 4 * ((z >> b) % 2)) as usize
-}
 
 // Down from id, as level 0, to the cell (x, y, z) of the depth: until EMPTY, a leaf, or level depth. INVALID of a depth above 6.
 pub fn descend(kids: &[u64], id: BlockId, depth: u32, x: u32, y: u32, z: u32) -> End
@@ -115,16 +110,6 @@ fn side_of(d: u32) -> usize
     one << d
 }
 
-// A coordinate as a number; one below 0 becomes 2^32 - 1, which no cube has.
-fn coord(x: i32) -> u32
-    ensures { λ r. ⌜ r ≡ coordOf x ⌝ }
-{
-    if x < 0 {
-        return 0xFFFF_FFFF;
-    }
-    x as u32
-}
-
 fn is_inside(d: u32, x: u32) -> bool
     requires { ⌜ d ≤ 6 ⌝ }
     ensures { λ r. ⌜ r ≡ ltb x (2 ^ d) ⌝ }
@@ -135,7 +120,7 @@ fn is_inside(d: u32, x: u32) -> bool
 // ---- lookup
 
 // The lowest refusal that applies to a lookup, or 0.
-fn look_no(
+pub fn look_no(
     arena: Arena,
     kids: &[u64],
     facts: &[u64],
@@ -282,7 +267,44 @@ fn offset(c: usize, h: usize, row: usize, plane: usize) -> usize
     upto(c % 2, h) + upto(c / 2 % 2, mul(h, plane)) + upto(c / 4, mul(h, row))
 }
 
-// One octant of the lent cube: its corner at `at`, `left` levels above the cells.
+// The stored value of child c.
+fn part_value(kids: &[u64], facts: &[u64], id: u64, c: usize) -> u16
+    requires { ⌜ c < 8 ⌝ }
+    ensures { λ r. ⌜ r ≡ partVal (wordOf (nodes (now (kids .entry)) (now (facts .entry)))) id c ⌝ }
+{
+    value(facts, kid(kids, slot_of(id), c))
+}
+
+// The children c and c + 1, side by side.
+fn fill_pair(kids: &[u64], facts: &[u64], cube: &mut [u16], id: u64, c: usize, at: usize)
+    requires { ⌜ c < 7 ⌝ }
+    requires { do ⌜ at + 2 ≤ (← ⟦cube.len()⟧) ⌝ }
+    ensures { λ _. ⌜ now (cube .exit) ≡ pairOf (wordOf (nodes (now (kids .entry)) (now (facts .entry)))) id c at (now (cube .entry)) ⌝ }
+{
+    cube[at] = part_value(kids, facts, id, c);
+    cube[at + 1] = part_value(kids, facts, id, c + 1);
+}
+
+// The eight octants of a branch that are single cells, in turn.
+fn fill_cells(
+    kids: &[u64],
+    facts: &[u64],
+    cube: &mut [u16],
+    id: u64,
+    at: usize,
+    row: usize,
+    plane: usize,
+)
+    requires { do ⌜ at + plane + row + 2 ≤ (← ⟦cube.len()⟧) ⌝ }
+    ensures { λ _. ⌜ now (cube .exit) ≡ partsTo (wordOf (nodes (now (kids .entry)) (now (facts .entry)))) 8 row plane 0 1 id at 8 (now (cube .entry)) ⌝ }
+{
+    fill_pair(kids, facts, cube, id, 0, at);
+    fill_pair(kids, facts, cube, id, 2, at + plane);
+    fill_pair(kids, facts, cube, id, 4, at + row);
+    fill_pair(kids, facts, cube, id, 6, at + plane + row);
+}
+
+// One octant of the lent cube, all 0 before: its corner at `at`, `left` levels above the cells.
 fn fill_octant(
     kids: &[u64],
     facts: &[u64],
@@ -302,8 +324,15 @@ fn fill_octant(
         cube[at] = value(facts, id);
         return;
     }
+    if id == BlockId::EMPTY.0 {
+        return;
+    }
     if is_end(id) {
         fill_block(cube, at, side, row, plane, value(facts, id));
+        return;
+    }
+    if left == 1 {
+        fill_cells(kids, facts, cube, id, at, row, plane);
         return;
     }
     fill_octants(kids, facts, cube, id, at, left - 1, side / 2, row, plane);
@@ -332,6 +361,21 @@ fn fill_octants(
         fill_octant(kids, facts, cube, kid(kids, s, c), e, left, h, row, plane);
         c += 1;
     }
+}
+
+// The whole cube of side s: one value where the root is an end, else 0 and then the root's octants.
+fn fill_cube(kids: &[u64], facts: &[u64], cube: &mut [u16], id: u64, depth: u32, s: usize)
+    requires { ⌜ (s ≡ 2 ^ depth) × (s ≤ 64) ⌝ }
+    requires { do ⌜ 0 + s * (s * s) + s * s + s ≤ (← ⟦cube.len()⟧) + s * s + s ⌝ }
+    ensures { λ _. ⌜ now (cube .exit) ≡ cubeFrom (wordOf (nodes (now (kids .entry)) (now (facts .entry)))) s depth id (now (cube .entry)) ⌝ }
+{
+    let n = cube.len();
+    if is_end(id) {
+        fill_row(cube, 0, n, value(facts, id));
+        return;
+    }
+    fill_row(cube, 0, n, 0);
+    fill_octant(kids, facts, cube, id, 0, depth, s, s, mul(s, s));
 }
 
 // Is n 8^d?
@@ -386,7 +430,6 @@ pub fn to_vec(
     if no != 0 {
         return no;
     }
-    let s = side_of(depth);
-    fill_octant(kids, facts, cube, id.0, 0, depth, s, s, mul(s, s));
+    fill_cube(kids, facts, cube, id.0, depth, side_of(depth));
     0
 }

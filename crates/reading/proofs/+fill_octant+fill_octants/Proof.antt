@@ -8,7 +8,7 @@ use Rattle.nodes.specs.Words.{nodes, wordOf, slot}
 use Rattle.nodes.proofs.kid.Reads as kid-reads
 use Rattle.arena.proofs.slot_of.Reads as slot-of-reads
 use Rattle.reading.specs.Models.{partsTo}
-use Rattle.reading.proofs.Parts.{parts-none, parts-step, parts-all, parts-done, cell-done, end-done, half-pow, cell-fits, parts-fits, part-fits}
+use Rattle.reading.proofs.Parts.{parts-none, parts-step, parts-all, parts-done, cell-done, none-done, end-done, half-pow, cell-fits, cells-done, cells-fit, parts-fits, part-fits}
 use Rattle.reading.proofs.fill_octant.Reads as fill-octant
 use Rattle.reading.proofs.fill_octant.Kinds as fill-octant-kinds
 use Rattle.reading.proofs.+fill_octant+fill_octants.Lts-fill_octant as fill-octant-lts
@@ -16,6 +16,7 @@ use Rattle.reading.proofs.fill_octants.Reads as fill-octants
 use Rattle.reading.proofs.fill_octants.Kinds as fill-octants-kinds
 use Rattle.reading.proofs.+fill_octant+fill_octants.Lts-fill_octants as fill-octants-lts
 use Rattle.reading.proofs.fill_block.Reads as fill-block-reads
+use Rattle.reading.proofs.fill_cells.Reads as fill-cells-reads
 use Rattle.reading.proofs.is_end.Reads as is-end-reads
 use Rattle.reading.proofs.offset.Reads as offset-reads
 use Rattle.reading.proofs.value.Reads as value-reads
@@ -56,6 +57,8 @@ pub +fill-octant+fill-octants-spec : {M : Type 1} → statement M
   is-end-reads.Learnt,
   fill-block-reads.Asked,
   fill-block-reads.Learnt,
+  fill-cells-reads.Asked,
+  fill-cells-reads.Learnt,
   all-below t,
   fill-octants.Post,
 )
@@ -66,11 +69,15 @@ pub +fill-octant+fill-octants-spec : {M : Type 1} → statement M
     (λ c. search cell-fits)
     (λ c. search needs)
     (λ c. search cell-done)
+    (λ c. search none-done)
     (λ c κs. search needs)
     (λ c κs. search needs)
     (λ c κs. search needs)
     (λ c. search needs)
     (λ c. search end-done)
+    (λ c κs. search cells-fit)
+    (λ c. search needs)
+    (λ c. search cells-done)
     (λ c. search needs)
     (λ c κs. (search needs, ((search half-pow, search needs, search needs, search needs), search parts-fits)))
     (λ c. search needs)

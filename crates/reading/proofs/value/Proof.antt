@@ -6,4 +6,4 @@ use Rattle.reading.proofs.value.Tie as tie
 pub value-spec : {M : Type 1} → statement M
 value-spec =
     tie.close
-    (tie.spec (λ c. search val-empty) (λ c κs. search needs) (λ c κs. search needs) (λ c. search needs) (λ c. search val-word))
+    (tie.spec (λ c κs. search needs) (λ c κs. search needs) (λ c. search needs) (λ c. search val-empty) (λ c. search val-word))
