@@ -1,0 +1,104 @@
+-- The ledger with the edit: over any sequence of calls since the fresh arena the holds on every node are those granted less those returned or used.
+use mathlib.Core.Path.{_≡_, refl, sym, ap, _∙_, subst}
+use mathlib.Core.Logic.{_≢_, _⊎_, inl, inr}
+use mathlib.Core.List.{List}
+use Prim.Native.Nat.{ℕ, _+_, _≤_, _<_}
+use native.Mathlib.Decide.{ℕ-discrete, decLt}
+use native.Mathlib.Omega.{arith}
+use Rattle.nodes.specs.Tally.{Live}
+use Rattle.nodes.specs.Words.{own, holds, slot, floor}
+use Rattle.nodes.proofs.Counts.{live-nonzero, live-inj}
+use Rattle.nodes.proofs.Sums.{cases}
+use Rattle.paths.specs.declared.IVec3.{IVec3}
+use Rattle.tree.specs.Tree.{LiveOr0}
+use Rattle.arena.specs.Tables.{Tables, cap, W, LiveSlot, WellFormed}
+use Rattle.arena.specs.Calls.{Out, freshOf}
+use Rattle.ledger.specs.Ledger as ledger
+use Rattle.ledger.specs.Ledger.{on, ifAccepted, holdsOn}
+use Rattle.ledger.specs.Fates.{Lives}
+use Rattle.ledger.proofs.Effects.{by-life, holds-live, holds-dead, on-zero, on-same, on-diff, accepted, unaccepted}
+use Rattle.ledger.proofs.Found.{slot-own, slot-lives}
+use Rattle.ledger.proofs.Balance.{fresh-bare, call-effect, history-well}
+use Rattle.edit.specs.Edit.{editNo, editOf}
+use Rattle.edit.specs.Promises.{Right, Call, arena, voxel, Handed, outcome, grants, takesOf, History, begin, next}
+use Rattle.edit.proofs.Edits.{edit-right, edit-refused, edit-number}
+use Rattle.edit.proofs.Cubes.{call-keeps}
+
+-- ## One edit: one hold on the answer if it was accepted, none on EMPTY, and no other
+
+module _ (t : Tables) (w : WellFormed 8 6 t) (u : Tables) (r : ℕ) {root d : ℕ} {cell : List ℕ} {v : ℕ} (e : Right t root d cell v u r) where
+  there : LiveOr0 (cap u) (W u) r
+  there = subst (λ (k : ℕ). LiveOr0 k (W u) r) (sym (e .size)) (e .edited .there)
+
+  -- what was live is live
+  later : (y : ℕ) → Lives t y → Lives u y
+  later y l = subst (λ (k : ℕ). Live k (W u) y) (sym (e .size)) (e .edited .grows y l .still)
+
+  -- a node that is new had no hold in its slot
+  none-before : (y : ℕ) → Lives u y → (Lives t y → ⊥) → W t (slot y) holds ≡ 0
+  none-before y l d =
+      let z = e .size in
+      let low = l .low in
+      let in-t : slot y < cap t = omega arith in
+      cases (decLt (W t (slot y) own) floor)
+      (λ q. w .cleared (slot y) in-t q .words holds (omega arith) (omega arith) (omega arith))
+      (λ q.
+      let s : LiveSlot t (slot y) = (in-t, omega arith) in
+      let x = slot-lives 8 6 t (omega arith) w (slot y) s in
+      let same : W t (slot y) own ≡ y = live-inj (later (W t (slot y) own) x) l (slot-own 8 6 t (omega arith) w (slot y) s) in
+      absurd (d (subst (λ (k : ℕ). Lives t k) same x)))
+
+  apart : LiveOr0 (cap u) (W u) r → (y : ℕ) → Lives u y → y ≢ r → (r ≡ 0) ⊎ (slot y ≢ slot r)
+  apart (inl z) y l q = inl z
+  apart (inr m) y l q = inr (λ k. q (live-inj l m k))
+
+  word : (y : ℕ) → Lives u y → W u (slot y) holds ≡ W t (slot y) holds + on y r
+  word y l = cases (ℕ-discrete y r)
+      (λ q.
+      let k : r ≢ 0 = (λ z. live-nonzero l (q ∙ z)) in
+      let one : W u (slot y) holds ≡ W t (slot y) holds + 1 = subst (λ (x : ℕ). W u (slot x) holds ≡ W t (slot x) holds + 1) (sym q) (e .effect .granted-one k) in
+      omega (arith, on-same y r k q))
+      (λ q.
+      let z = e .size in
+      let low = l .low in
+      omega (arith, on-diff y r q, e .effect .no-other (slot y) (omega arith) (apart there y l q)))
+
+  absent : LiveOr0 (cap u) (W u) r → (y : ℕ) → (Lives u y → ⊥) → on y r ≡ 0
+  absent (inl z) y d = on-zero y r z
+  absent (inr m) y d = on-diff y r (λ q. d (subst (λ (x : ℕ). Lives u x) (sym q) m))
+
+  right-balance : (y : ℕ) → holdsOn u y ≡ holdsOn t y + on y r
+  right-balance y =
+      by-life u y
+      (λ l. by-life t y
+      (λ k. omega (arith, holds-live u y l, holds-live t y k, word y l))
+      (λ k. omega (arith, holds-live u y l, holds-dead t y k, none-before y l k, word y l)))
+      (λ d. omega (arith, holds-dead u y d, holds-dead t y (λ l. d (later y l)), absent there y d))
+
+pub edit-balance : (t : Tables) → WellFormed 8 6 t → (b e : ℕ) (p : IVec3) (v : ℕ) → v ≤ 65535 → (y : ℕ)
+    → holdsOn (editOf t b e p v .after) y ≡ holdsOn t y + ifAccepted (editOf t b e p v) (on y (editOf t b e p v .id))
+edit-balance t w b e p v h y =
+    let o = editOf t b e p v in
+    let n = edit-number t w b e p v h in
+    cases (ℕ-discrete (editNo t b e p v) 0)
+    (λ z. omega (arith, right-balance t w (o .after) (o .id) (edit-right t w b e p v h z) y, accepted o (on y (o .id)) (n ∙ z)))
+    (λ z.
+    let same : holdsOn (o .after) y ≡ holdsOn t y = ap (λ (x : Out). holdsOn (x .after) y) (edit-refused t w b e p v h z) in
+    omega (arith, unaccepted o (on y (o .id)) (λ q. z (sym n ∙ q))))
+
+-- ## Any sequence of calls
+
+-- they are well formed
+pub reached-well : {t : Tables} {granted taken : ℕ → ℕ} → History t granted taken → WellFormed 8 6 t
+reached-well (begin c k f e z) = history-well 8 6 (omega arith) (omega arith) (omega arith) (ledger.start c k f e z)
+reached-well (next {t = t} h c a) = call-keeps t 0 c (reached-well h) a (inl refl) .well
+
+call-balance : (t : Tables) → WellFormed 8 6 t → (c : Call) → Handed c → (y : ℕ)
+    → holdsOn (outcome t c .after) y + takesOf (outcome t c) c y ≡ holdsOn t y + grants (outcome t c) c y
+call-balance t w (arena c) h y = call-effect 8 6 (omega arith) (omega arith) (omega arith) t w c h .balance y
+call-balance t w (voxel b e p v) h y = let z = edit-balance t w b e p v h y in omega arith
+
+-- Holds equal those granted less those returned or used, counted over the calls since the fresh arena, edits among them.
+pub holds-ledger : {t : Tables} {granted taken : ℕ → ℕ} → History t granted taken → (y : ℕ) → granted y ≡ taken y + holdsOn t y
+holds-ledger (begin c k f e z) y = omega (arith, holds-dead (freshOf c k f e .after) y (fresh-bare 8 6 c k f e (reached-well (begin c k f e z)) y))
+holds-ledger (next {t = t} h c a) y = let r = holds-ledger h y in omega (arith, call-balance t (reached-well h) c a y)

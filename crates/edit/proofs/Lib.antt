@@ -1,0 +1,13 @@
+pub mod Plans
+pub mod Growing
+pub mod Wholes
+pub mod Fresh
+pub mod Planning
+pub mod Upward
+pub mod Mirror
+pub mod Law
+pub mod Edits
+pub mod Expanding
+pub mod Theorems
+pub mod Cubes
+pub mod Holds

@@ -1,0 +1,414 @@
+-- The code's way is the definition's, on well-formed tables.
+use mathlib.Core.Path.{_≡_, refl, sym, ap, ap₂, _∙_, subst}
+use mathlib.Core.Logic.{_≢_, _⊎_, inl, inr, ⊎-elim}
+use mathlib.Core.Bool.{true, false, true≢false}
+use mathlib.Core.List.{List, [], _∷_, _++_}
+use Prim.Native.Nat.{ℕ, zero, suc, _+_, _-_, _/_, _%_, _^_, _≤_, _<_}
+use native.Mathlib.Decide.{ℕ-discrete}
+use native.Mathlib.Omega.{arith}
+use lib.Dec.{eqb, ltb}
+use lib.ListN.{length, getD, set, length-set}
+use borrow.Author.Tests.{eq-eqb, ne-eqb, lt-ltb}
+use Rattle.basics.specs.Pick.{pick}
+use Rattle.ids.specs.Ids.{isLeaf, generationOf}
+use Rattle.nodes.specs.Words.{Words, own, value, places, slot, wordOf, factOf, putOf}
+use Rattle.nodes.specs.Tally.{tabFrom, occ, Live}
+use Rattle.nodes.proofs.Counts.{total-append, total-bound}
+use Rattle.nodes.proofs.Sums.{cases, split, sumTo-ext, tabFrom-ext, tabFrom-length, occ-nil, occ-cons, occ-here, occ-there}
+use Rattle.finding.specs.Content.{contentIs}
+use Rattle.finding.proofs.Contents.{content-true, content-words, tab-list}
+use Rattle.tree.specs.Tree as tree
+use Rattle.tree.specs.Tree.{LiveOr0, WellMade, Cell, here, down}
+use Rattle.tree.specs.Anew.{part, replace}
+use Rattle.tree.specs.Lacks.{Need, have, lack, Plan}
+use Rattle.tree.proofs.Making.{part-there, part-low, replace-same, replace-other}
+use Rattle.arena.specs.Node.{valueFor, heightFor}
+use Rattle.nodes.specs.Values.{heightAt, valueAt}
+use Rattle.arena.specs.Tables.{Tables, tablesOf, cap, W, LiveSlot, WellFormed}
+use Rattle.arena.specs.Calls.{Out, said, allOf, each, empties, freshSlot, leafSlot, branchIn, branchSlot}
+use Rattle.arena.specs.Models.{moreOf, cellFor, writtenAt, writtenNodes, topFor, valueBy}
+use Rattle.arena.proofs.Ids.{new-leaf, new-branch, value-zero, value-node}
+use Rattle.arena.proofs.Branches.{occ-at}
+use Rattle.arena.proofs.Inv.{Inv, Content, wf-inv, wf-content}
+use Rattle.arena.proofs.Leaves.{search-hit, search-miss, no-leaf, leaf-in, leaf-slot, leaf-content, not-ground}
+use Rattle.arena.proofs.Branching.{sum-wraps, more-few, height-top}
+use Rattle.arena.proofs.Make.{fresh-free}
+use Rattle.arena.proofs.Outs.{said-path, tables-path}
+use Rattle.arena.proofs.Rows.{empties-length}
+use Rattle.arena.proofs.Scan.{find-hit}
+use Rattle.reading.proofs.Meaning.{wf-made}
+use Rattle.reading.proofs.Laws.{well-small}
+use Rattle.edit.specs.Edit.{wordsOf, oneLeaf, needOf, cellNeed, upNeed, planOf, owed, lowOf, freshNode, leafAnew, branchAnew, makeOf}
+use Rattle.edit.specs.Models.{planned, eightParts, foundBy, leafKids, slotPlan, cellPlan, needPlan, upPlan, planBy, owe, oweAll, owedBy, freshBy, leafAnewBy, branchAnewBy, upBy, makeBy}
+use Rattle.edit.specs.declared.Plan as planning
+use Rattle.edit.proofs.Plans.{tab-get}
+use Rattle.edit.proofs.Growing.{Alone, given-inv, cell-inv, owed-grown, each-nil, each-cons, grown-live}
+use Rattle.edit.proofs.Planning.{branch-words, all-yes, slot-lone, words-length, words-at, Cell-came, cell-none, cell-leaf, cell-lack, cell-came, plan-is, parts-there}
+use Rattle.edit.proofs.Upward.{Low, Done, low-have, low-lack, placed, lone-v, lowers, eight, others-live, set-at, set-other, lack-inj, have-lack, over, make-done}
+
+-- ---- the eight words of a node's parts, one replaced
+
+words-set : (U : Words) (a c s : ℕ) → c < 8 → set (eightParts U a) c s ≡ wordsOf 8 (replace (part U a) c s)
+unfolding eightParts wordsOf
+words-set U a c s l =
+    let e : length (set (tabFrom 8 0 (part U a)) c s) ≡ 8 = length-set (tabFrom 8 0 (part U a)) c s ∙ tabFrom-length 8 0 (part U a) in
+    sym (subst (λ (k : ℕ). tabFrom k 0 (λ i. pick (ltb i 8) (replace (part U a) c s i) 0) ≡ set (tabFrom 8 0 (part U a)) c s) e
+    (tab-list (set (tabFrom 8 0 (part U a)) c s) 0 (λ i. pick (ltb i 8) (replace (part U a) c s i) 0) (λ j h. at j (omega arith))))
+  where
+    at : (j : ℕ) → j < 8 → pick (ltb (0 + j) 8) (replace (part U a) c s (0 + j)) 0 ≡ getD (set (tabFrom 8 0 (part U a)) c s) j 0
+    at j h =
+        let z : 0 + j ≡ j = omega arith in
+        let n = tabFrom-length 8 0 (part U a) in
+        rw (z, lt-ltb j 8 h) (cases (ℕ-discrete j c)
+        (λ (q : j ≡ c). replace-same (part U a) c s j q ∙ sym (ap (λ (i : ℕ). getD (set (tabFrom 8 0 (part U a)) c s) i 0) q ∙ set-at (tabFrom 8 0 (part U a)) c s (omega arith)))
+        (λ q. replace-other (part U a) c s j q ∙ sym (set-other (tabFrom 8 0 (part U a)) c s j q ∙ tab-get 8 0 (part U a) j h ∙ ap (part U a) z)))
+
+words-tab : (f : ℕ → ℕ) → wordsOf 8 f ≡ tabFrom 8 0 f
+unfolding wordsOf
+words-tab f = tabFrom-ext 8 0 (λ i. pick (ltb i 8) (f i) 0) f (λ j p q. let l : j < 8 = omega arith in rw (lt-ltb j 8 l))
+
+leaf-kids : (f : ℕ → ℕ) → leafKids (wordsOf 8 f) ≡ oneLeaf 8 f
+unfolding leafKids oneLeaf
+leaf-kids f =
+    ap₂ (λ (k : ℕ) (l : List ℕ). pick (isLeaf k) (allOf (eqb k) l) false) (words-at 8 f 0 (omega arith) (omega arith)) (words-tab f)
+
+set-twice : (ks : List ℕ) (c x y : ℕ) → set (set ks c x) c y ≡ set ks c y
+set-twice [] c x y = refl
+set-twice (k ∷ ks) zero x y = refl
+set-twice (k ∷ ks) (suc c) x y = ap (λ (l : List ℕ). k ∷ l) (set-twice ks c x y)
+
+scanned : (t : Tables) (ks : List ℕ) → branchSlot t ks ≢ 0 → (branchIn t ks (branchSlot t ks) ≡ true) × (branchSlot t ks < cap t)
+unfolding branchSlot
+scanned t ks d = find-hit (branchIn t ks) (cap t) d
+
+-- ---- the dry run
+
+-- the code's plan says the same: what is there, or how many are to be made, at most B
+pub data Agree (B : ℕ) : planning.Plan → Need → Type 0 where
+  agree-have : {r : ℕ} → Agree B (planned 0 r) (have r)
+  agree-lack : {k s : ℕ} → 1 ≤ k → k ≤ B → Agree B (planned k s) (lack k)
+
+module _ (tallest : ℕ) (t : Tables) (w : WellFormed 8 tallest t) where
+  abbrev m : 8 ≤ 8
+  m = omega arith
+
+  abbrev pos : 1 ≤ 8
+  pos = omega arith
+
+  value-low : (y : ℕ) → valueAt (W t) y ≤ 65535
+  unfolding valueAt
+  value-low y = split (eqb y 0) (λ e. rw e (omega arith)) (λ e. rw e (let z = well-small 8 tallest t w (slot y) in omega arith))
+
+  value-by : (ks : List ℕ) → valueBy 8 (W t) ks ≡ valueFor 8 (W t) ks
+  unfolding valueBy valueFor
+  value-by ks = ap (λ (z : ℕ). z / 8) (sum-wraps (W t) ks 8 (λ i l. value-low (getD ks i 0)))
+
+  -- the search finds what the scan finds
+  find-leaf : (x : ℕ) → x ≢ 0 → foundBy t empties x ≡ leafSlot t x
+  unfolding foundBy
+  find-leaf x d = cases (ℕ-discrete (leafSlot t x) 0)
+      (λ z. search-miss 8 tallest t w empties x empties-length (no-leaf 8 tallest t m w x d z) ∙ sym z)
+      (λ z.
+      let q = leaf-slot 8 tallest t m w x d z in
+      search-hit 8 tallest t w empties x empties-length (leafSlot t x) (leaf-in 8 tallest t m w x d (leafSlot t x) (q .0) (q .1) .0) (leaf-content 8 tallest t m w x d (leafSlot t x) (q .0) (q .1)))
+
+  module _ (f : ℕ → ℕ) (e : allOf (eqb 0) (tabFrom 8 0 f) ≡ false) where
+    -- a live slot with those children has their value
+    slot-value : (s : ℕ) → LiveSlot t s → ((j : ℕ) → j < 8 → W t s j ≡ getD (wordsOf 8 f) j 0) → W t s value ≡ valueFor 8 (W t) (wordsOf 8 f)
+    unfolding valueFor
+    slot-value s l h = ⊎-elim
+        (λ b. absurd (true≢false (sym (all-yes 0 8 0 f (λ j p q. sym (words-at 8 f j (omega arith) (omega arith)) ∙ sym (h j (omega arith)) ∙ b .bare j (omega arith))) ∙ e)))
+        (λ b. b .averaged ∙ ap (λ (z : ℕ). z / 8) (sumTo-ext 8 (λ i. valueAt (W t) (W t s i)) (λ i. valueAt (W t) (getD (wordsOf 8 f) i 0)) (λ i k. ap (valueAt (W t)) (h i k))))
+        (w .nodes s l .kind)
+
+    find-branch : foundBy t (wordsOf 8 f) (valueBy 8 (W t) (wordsOf 8 f)) ≡ branchSlot t (wordsOf 8 f)
+    unfolding foundBy
+    find-branch = rw (value-by (wordsOf 8 f)) (cases (ℕ-discrete (branchSlot t (wordsOf 8 f)) 0)
+        (λ z. search-miss 8 tallest t w (wordsOf 8 f) (valueFor 8 (W t) (wordsOf 8 f)) (words-length 8 f) (none z) ∙ sym z)
+        (λ z. hit z))
+      where
+        none : branchSlot t (wordsOf 8 f) ≡ 0 → (s : ℕ) → 0 < s → LiveSlot t s → contentIs (W t) (wordsOf 8 f) (valueFor 8 (W t) (wordsOf 8 f)) s ≡ false
+        none z s p l = split (contentIs (W t) (wordsOf 8 f) (valueFor 8 (W t) (wordsOf 8 f)) s)
+            (λ q. absurd (slot-lone t (wordsOf 8 f) (words-length 8 f) z s l (omega arith) (content-words (W t) (wordsOf 8 f) (valueFor 8 (W t) (wordsOf 8 f)) s (words-length 8 f) q .0)))
+            (λ q. q)
+
+        hit : branchSlot t (wordsOf 8 f) ≢ 0 → getD (t .find) (cellFor t (wordsOf 8 f) (valueFor 8 (W t) (wordsOf 8 f))) 0 ≡ branchSlot t (wordsOf 8 f)
+        hit z =
+            let r = scanned t (wordsOf 8 f) z in
+            let n = words-length 8 f in
+            let b = branch-words t (wordsOf 8 f) (branchSlot t (wordsOf 8 f)) (r .0) in
+            let l : LiveSlot t (branchSlot t (wordsOf 8 f)) = (r .1, b .0) in
+            let k : (j : ℕ) → j < 8 → W t (branchSlot t (wordsOf 8 f)) j ≡ getD (wordsOf 8 f) j 0 =
+            (λ j h. let q : 0 + j ≡ j = omega arith in rw q at (b .1 j (omega arith))) in
+            search-hit 8 tallest t w (wordsOf 8 f) (valueFor 8 (W t) (wordsOf 8 f)) n (branchSlot t (wordsOf 8 f)) l
+            (content-true (W t) (wordsOf 8 f) (valueFor 8 (W t) (wordsOf 8 f)) (branchSlot t (wordsOf 8 f)) n k (slot-value (branchSlot t (wordsOf 8 f)) l k))
+
+  -- what eight parts come to, by the code
+  need-by : (f : ℕ → ℕ) (s : ℕ) → ((r : ℕ) × (needOf 8 t f ≡ have r) × (needPlan t (wordsOf 8 f) s ≡ planned 0 r))
+      ⊎ ((needOf 8 t f ≡ lack 1) × (needPlan t (wordsOf 8 f) s ≡ planned 1 s))
+  unfolding needOf needPlan slotPlan
+  need-by f s = split (allOf (eqb 0) (tabFrom 8 0 f))
+      (λ e. inl (0, rw e, rw (all-words ∙ e)))
+      (λ e. split (oneLeaf 8 f)
+      (λ q. inl (f 0, rw (e, q), rw (all-words ∙ e, leaf-kids f ∙ q) (ap (planned 0) (words-at 8 f 0 (omega arith) (omega arith)))))
+      (λ q. cases (ℕ-discrete (branchSlot t (wordsOf 8 f)) 0)
+      (λ z. inr (rw (e, q, eq-eqb (branchSlot t (wordsOf 8 f)) 0 z), rw (all-words ∙ e, leaf-kids f ∙ q, find-branch f e, eq-eqb (branchSlot t (wordsOf 8 f)) 0 z)))
+      (λ z. inl (W t (branchSlot t (wordsOf 8 f)) own, rw (e, q, ne-eqb (branchSlot t (wordsOf 8 f)) 0 z), rw (all-words ∙ e, leaf-kids f ∙ q, find-branch f e, ne-eqb (branchSlot t (wordsOf 8 f)) 0 z)))))
+    where
+      all-words : allOf (eqb 0) (wordsOf 8 f) ≡ allOf (eqb 0) (tabFrom 8 0 f)
+      all-words = ap (allOf (eqb 0)) (words-tab f)
+
+  module _ (x : ℕ) (small : x ≤ 65535) where
+    cell-agree : Agree 1 (cellPlan t x) (cellNeed t x)
+    unfolding cellPlan cellNeed slotPlan
+    cell-agree = cases (ℕ-discrete x 0)
+        (λ z. rw (eq-eqb x 0 z) agree-have)
+        (λ d. cases (ℕ-discrete (leafSlot t x) 0)
+        (λ z. rw (ne-eqb x 0 d, find-leaf x d, eq-eqb (leafSlot t x) 0 z) (agree-lack {k = 1} {s = 0} (omega arith) (omega arith)))
+        (λ z. rw (ne-eqb x 0 d, find-leaf x d, ne-eqb (leafSlot t x) 0 z) agree-have))
+
+    -- one level up
+    up-have : (a c s : ℕ) → c < 8 → upPlan t (eightParts (W t) a) c (planned 0 s) ≡ needPlan t (wordsOf 8 (replace (part (W t) a) c s)) s
+    unfolding upPlan
+    up-have a c s l = ap (λ (ks : List ℕ). needPlan t ks s) (words-set (W t) a c s l)
+
+    up-lack : (a c k s : ℕ) → 1 ≤ k → k ≤ 1000 → upPlan t (eightParts (W t) a) c (planned k s) ≡ planned (suc k) s
+    unfolding upPlan
+    up-lack a c k s l h =
+        let e : moreOf k ≡ suc k = (let z = more-few k (omega arith) in omega arith) in
+        rw (ne-eqb k 0 (omega arith)) (ap (λ (z : ℕ). planned z s) e)
+
+    up-agree : (B a c : ℕ) (b : planning.Plan) (r : Need) → B ≤ 1000 → c < 8 → Agree B b r
+        → Agree (suc B) (upPlan t (eightParts (W t) a) c b) (upNeed (λ s. needOf 8 t (replace (part (W t) a) c s)) r)
+    unfolding upNeed
+    up-agree B a c b r l h (agree-have {r = s}) =
+        rw (up-have a c s h) (⊎-elim
+        (λ z. rw (z .1, z .2) agree-have)
+        (λ z. rw (z .0, z .1) (agree-lack {k = 1} {s = s} (omega arith) (omega arith)))
+        (need-by (replace (part (W t) a) c s) s))
+    up-agree B a c b r l h (agree-lack {k = k} {s = s} y z) = rw (up-lack a c k s y (omega arith)) (agree-lack {k = suc k} {s = s} (omega arith) (omega arith))
+
+    -- the code's dry run is the definition's
+    pub plan-agree : {d : ℕ} {p : List ℕ} (a : ℕ) → d ≤ 900 → Cell 8 d p → Agree (suc d) (planBy t x p a) (planOf 8 t x p a)
+    unfolding planBy planOf
+    plan-agree a h here = cell-agree
+    plan-agree a h (down {d = d} {c = c} {p = p} l q) =
+        up-agree (suc d) a c (planBy t x p (part (W t) a c)) (planOf 8 t x p (part (W t) a c)) (omega arith) l (plan-agree (part (W t) a c) (omega arith) q)
+
+-- ---- places that are owed
+
+few-places : (t : Tables) (d : List ℕ) (s : ℕ) → length d ≤ 1000 → Inv t d → Live (cap t) (W t) s → W t (slot s) places < 2 ^ 64 - 1
+few-places t d s n v live =
+    let c = v .counts .placed s live in
+    let most = v .sized .most in
+    omega (arith, total-bound 8 (cap t) (W t) d s)
+
+owe-same : (t : Tables) (s : ℕ) → ((s ≡ 0 → ⊥) → W t (slot s) places < 2 ^ 64 - 1) → tablesOf (t .arena) (record { kids = t .nodes .kids; facts = owe (t .nodes .facts) s }) (t .find) ≡ owed t s
+unfolding owe owed moreOf putOf wordOf
+owe-same t s h = cases (ℕ-discrete s 0)
+    (λ z. rw (eq-eqb s 0 z) refl)
+    (λ z. let b = h z in
+    let e : (factOf (t .nodes .facts) (slot s) places + 1) % 2 ^ 64 ≡ factOf (t .nodes .facts) (slot s) places + 1 = omega arith in
+    rw (ne-eqb s 0 z, e) refl)
+
+owed-nil : (t : Tables) → owedBy t [] ≡ t
+unfolding oweAll
+owed-nil t = refl
+
+owed-cons : (t : Tables) (k : ℕ) (ks : List ℕ) → tablesOf (t .arena) (record { kids = t .nodes .kids; facts = owe (t .nodes .facts) k }) (t .find) ≡ owed t k
+    → owedBy (owed t k) ks ≡ each owed (owed t k) ks → owedBy t (k ∷ ks) ≡ each owed t (k ∷ ks)
+unfolding oweAll
+owed-cons t k ks e r = ap (λ (u : Tables). owedBy u ks) e ∙ r ∙ sym (each-cons t k ks)
+
+module _ (tallest : ℕ) where
+  pub each-same : (ks : List ℕ) (t : Tables) (d : List ℕ) → length d + length ks ≤ 1000 → Inv t d → Content 8 tallest (cap t) (W t)
+      → ((y : ℕ) → y ≢ 0 → 1 ≤ occ y ks → Live (cap t) (W t) y) → owedBy t ks ≡ each owed t ks
+  each-same [] t d n i c h = owed-nil t ∙ sym (each-nil t)
+  each-same (k ∷ ks) t d n i c h =
+      let g = owed-grown 8 tallest (omega arith) t d i c k (first k ks t h) in
+      owed-cons t k ks (owe-same t k (λ z. few-places t d k (omega arith) i (h k z (omega (arith, occ-here k ks)))))
+      (each-same ks (owed t k) (k ∷ d) (omega arith) (g .inv) (g .content) (λ y a b. grown-live g y (h y a (omega (arith, occ-cons y k ks)))))
+    where
+      first : (k : ℕ) (ks : List ℕ) (t : Tables) → ((y : ℕ) → y ≢ 0 → 1 ≤ occ y (k ∷ ks) → Live (cap t) (W t) y) → LiveOr0 (cap t) (W t) k
+      first k ks t h = cases (ℕ-discrete k 0) (λ o. inl o) (λ o. inr (h k o (omega (arith, occ-here k ks))))
+
+-- ---- a fresh node
+
+fresh-same : (t : Tables) (d ks : List ℕ) (id v up h q : ℕ) → Inv t d → t .arena .live + 1 < cap t → length ks ≡ 8 → Alone t ks v
+    → freshBy t id ks v up h q ≡ freshNode t id ks v up h q
+unfolding freshBy freshNode writtenAt writtenNodes
+fresh-same t d ks id v up h q i room e alone =
+    let low = fresh-free t d i room .1 in
+    let most = i .sized .most in
+    said-path _ _ _ _ _ _ refl refl
+    (tables-path _ _ _ _ _ _ (given-inv t d i room) refl
+    (cell-inv t d ks v (freshSlot (t .arena)) i
+    (λ y z l. split (contentIs (W t) ks v y) (λ g. let b = content-words (W t) ks v y e g in absurd (alone y l (b .0) (b .1))) (λ g. g)) (omega arith)))
+
+slot-whole : (t : Tables) (d : List ℕ) → Inv t d → t .arena .live + 1 < cap t → (freshSlot (t .arena) % 2 ^ 32 ≡ freshSlot (t .arena)) × (generationOf (W t (freshSlot (t .arena)) own) ≤ 0x7FFE)
+slot-whole t d i room =
+    let low = fresh-free t d i room .1 in
+    let most = i .sized .most in
+    let g = i .clean .gens (freshSlot (t .arena)) low in
+    (omega arith, omega arith)
+
+leaf-same : (t : Tables) (d : List ℕ) (x h q : ℕ) → Inv t d → t .arena .live + 1 < cap t → Alone t empties x → leafAnewBy t x h q ≡ leafAnew t x h q
+unfolding leafAnewBy leafAnew
+leaf-same t d x h q i room alone =
+    let z = slot-whole t d i room in
+    let e = z .0 in
+    let n = new-leaf (freshSlot (t .arena)) (generationOf (W t (freshSlot (t .arena)) own)) (z .1) in
+    rw (e, n) (fresh-same t d empties _ x 0 h q i room empties-length alone)
+
+branch-same : (t : Tables) (d ks : List ℕ) (h q : ℕ) → Inv t d → t .arena .live + 1 < cap t → length ks ≡ 8
+    → ((s : ℕ) → LiveSlot t s → ((j : ℕ) → j < 8 → W t s j ≡ getD ks j 0) → ⊥) → valueBy 8 (W t) ks ≡ valueFor 8 (W t) ks → heightFor 8 (W t) ks ≤ 1000
+    → branchAnewBy t ks h q ≡ branchAnew 8 t ks h q
+unfolding branchAnewBy branchAnew
+branch-same t d ks h q i room e lone ev low =
+    let z = slot-whole t d i room in
+    let s = z .0 in
+    let n = new-branch ks (freshSlot (t .arena)) (generationOf (W t (freshSlot (t .arena)) own)) (z .1) in
+    let up : moreOf (topFor (W t) ks 8) ≡ heightFor 8 (W t) ks = (let g = height-top 8 t ks in let b = more-few (topFor (W t) ks 8) (omega arith) in omega arith) in
+    rw (s, n, ev, up) (fresh-same t d ks _ (valueFor 8 (W t) ks) (heightFor 8 (W t) ks) h q i room e (λ y l a b. lone y l a))
+
+m8 : 8 ≤ 8
+m8 = omega arith
+
+pos8 : 1 ≤ 8
+pos8 = omega arith
+
+-- the sum of the stored values does not wrap
+grown-value : (tallest : ℕ) (t : Tables) (ks : List ℕ) → length ks ≡ 8 → Inv t (ks ++ []) → Content 8 tallest (cap t) (W t) → valueBy 8 (W t) ks ≡ valueFor 8 (W t) ks
+unfolding valueBy valueFor
+grown-value tallest t ks e i c = ap (λ (z : ℕ). z / 8) (sum-wraps (W t) ks 8 (λ k l. kid-small k l))
+  where
+    kid-small : (k : ℕ) → k < 8 → valueAt (W t) (getD ks k 0) ≤ 65535
+    kid-small k l = cases (ℕ-discrete (getD ks k 0) 0)
+        (λ (z : getD ks k 0 ≡ 0). rw z (let p = value-zero (W t) in omega arith))
+        (λ z.
+        let y = i .counts .named (getD ks k 0) z (omega (arith, total-append 8 (cap t) (W t) (getD ks k 0) ks [], occ-at ks k (omega arith))) in
+        let yi = y .is in
+        let yh = y .high in
+        let b = c .nodes (slot (getD ks k 0)) (y .low) (omega arith) .small in
+        let p = value-node (W t) (getD ks k 0) z in
+        omega arith)
+
+-- no live leaf of the value
+lack-plan : (tallest : ℕ) (t : Tables) (w : WellFormed 8 tallest t) (x : ℕ) → x ≢ 0 → leafSlot t x ≡ 0 → cellPlan t x ≡ planned 1 0
+unfolding cellPlan slotPlan
+lack-plan tallest t w x d z = rw (ne-eqb x 0 d, find-leaf tallest t w x d, eq-eqb (leafSlot t x) 0 z)
+
+-- ---- the making
+
+make-zero : (t : Tables) (x : ℕ) (p : List ℕ) (a s h q : ℕ) → makeBy t x p a 0 s h q ≡ said 0 s (owedBy t (s ∷ []))
+unfolding makeBy
+make-zero t x [] a s h q = refl
+make-zero t x (c ∷ p) a s h q = refl
+
+make-more : (t : Tables) (x c : ℕ) (p : List ℕ) (a k s h q : ℕ) → makeBy t x (c ∷ p) a (suc k) s h q ≡ upBy (makeBy t x p (part (W t) a c) k s 0 1) (eightParts (W t) a) c h q
+unfolding makeBy
+make-more t x c p a k s h q = let e : suc k - 1 ≡ k = omega arith in rw (e, ne-eqb (suc k) 0 (omega arith))
+
+make-leaf : (t : Tables) (x a k s h q : ℕ) → makeBy t x [] a (suc k) s h q ≡ leafAnewBy t x h q
+unfolding makeBy
+make-leaf t x a k s h q = rw (ne-eqb (suc k) 0 (omega arith))
+
+module _ (tallest : ℕ) (high : tallest ≤ 900) (t : Tables) (w : WellFormed 8 tallest t) (x : ℕ) (small : x ≤ 65535) where
+  two : 1 < 8
+  two = omega arith
+
+  inv : Inv t []
+  inv = wf-inv 8 tallest t m8 w
+
+  made : WellMade 8 (cap t) (W t)
+  made = wf-made 8 tallest t m8 w
+
+  -- the branch over a part
+  over-same : (d c a j h q : ℕ) (p : List ℕ) (o : Out) → LiveOr0 (cap t) (W t) a → heightAt (W t) a ≤ suc d → c < 8 → Cell 8 d p → suc d ≤ tallest
+      → t .arena .live + suc j < cap t → h ≤ 1000000 → 1 ≤ h + q → Low 8 tallest t x p a c j o
+      → upBy o (eightParts (W t) a) c h q ≡ over 8 tallest t m8 two w x small c a h q o
+  unfolding upBy
+  over-same d c a j h q p o l low b cell tall room few held r =
+      let ks = wordsOf 8 (replace (part (W t) a) c (o .id)) in
+      let e : set (eightParts (W t) a) c (o .id) ≡ ks = words-set (W t) a c (o .id) b in
+      let z : set (eightParts (W t) a) c 0 ≡ set ks c 0 = sym (set-twice (eightParts (W t) a) c (o .id) 0) ∙ ap (λ (l : List ℕ). set l c 0) e in
+      let n = eight 8 tallest t m8 two w x small d c a j h q p o l low b cell tall room few held r in
+      let live = others-live 8 tallest t m8 two w x small d c a j h q p o l low b cell tall room few held r in
+      let g = placed 8 tallest t m8 two w x small d c a j h q p o l low b cell tall room few held r in
+      let same : owedBy (o .after) (set ks c 0) ≡ each owed (o .after) (set ks c 0) =
+      each-same tallest (set ks c 0) (o .after) (o .id ∷ []) (omega (arith, length-set ks c 0)) (r .grown .inv) (r .grown .content) live in
+      let v = each owed (o .after) (set ks c 0) in
+      let ev : valueBy 8 (W v) ks ≡ valueFor 8 (W v) ks = grown-value tallest v ks n (g .inv) (g .content) in
+      let hl = lowers 8 tallest t m8 two w x small d c a j h q p o l low b cell tall room few held r in
+      rw (e, z, same)
+      (branch-same v (ks ++ []) ks h q (g .inv) (let y = g .lives in let k = r .grown .lives in let u = g .caps in let f = r .grown .caps in omega arith) n
+      (lone-v 8 tallest t m8 two w x small d c a j h q p o l low b cell tall room few held r) ev (omega arith))
+
+  -- the code's making is the definition's
+  module _ (d c a k h q : ℕ) (p : List ℕ) (l : LiveOr0 (cap t) (W t) a) (low : heightAt (W t) a ≤ suc d) (b : c < 8) (cell : Cell 8 d p) (tall : suc d ≤ tallest)
+      (room : t .arena .live + k < cap t) (few : h ≤ 1000000) (held : 1 ≤ h + q) (new : Out) where
+    part-s : (s : ℕ) → Plan 8 (cap t) (W t) x p (part (W t) a c) (have s) → LiveOr0 (cap t) (W t) s
+    part-s s u =
+        subst (λ (y : ℕ). LiveOr0 (cap t) (W t) y) (replace-same (part (W t) a) c s c refl) (parts-there 8 tallest t m8 pos8 w x d c a s p l low b cell u c b)
+
+    owed-live : (s : ℕ) → LiveOr0 (cap t) (W t) s → (y : ℕ) → y ≢ 0 → 1 ≤ occ y (s ∷ []) → Live (cap t) (W t) y
+    owed-live s (inl z) y e o = absurd (omega (arith, occ-there y s [] (λ q. e (q ∙ z)), occ-nil y))
+    owed-live s (inr z) y e o = cases (ℕ-discrete y s) (λ q. subst (λ (i : ℕ). Live (cap t) (W t) i) (sym q) z) (λ q. absurd (omega (arith, occ-there y s [] q, occ-nil y)))
+
+    step-have : (s : ℕ) → Plan 8 (cap t) (W t) x p (part (W t) a c) (have s) → needOf 8 t (replace (part (W t) a) c s) ≡ lack k
+        → makeBy t x (c ∷ p) a (upPlan t (eightParts (W t) a) c (planned 0 s) .new) (upPlan t (eightParts (W t) a) c (planned 0 s) .id) h q
+        ≡ over 8 tallest t m8 two w x small c a h q (said 0 s (owed t s))
+    step-have s u e =
+        let r = low-have 8 tallest t m8 two w x small d c a s k p l low b cell u e in
+        let one = r .1 in
+        let f = replace (part (W t) a) c s in
+        let z : upPlan t (eightParts (W t) a) c (planned 0 s) ≡ planned 1 s = up-have tallest t w x small a c s b ∙ ⊎-elim (λ y. absurd (have-lack (sym (y .1) ∙ e))) (λ y. y .1) (need-by tallest t w f s) in
+        let o : makeBy t x p (part (W t) a c) 0 s 0 1 ≡ said 0 s (owed t s) =
+        make-zero t x p (part (W t) a c) s 0 1
+        ∙ ap (said 0 s) (each-same tallest (s ∷ []) t [] (omega arith) inv (wf-content 8 tallest t w) (owed-live s (part-s s u)) ∙ each-cons t s [] ∙ each-nil (owed t s)) in
+        rw z (make-more t x c p a 0 s h q ∙ ap (λ (y : Out). upBy y (eightParts (W t) a) c h q) o
+        ∙ over-same d c a 0 h q p (said 0 s (owed t s)) l low b cell tall (omega arith) few held (r .0))
+
+    step-lack : (j s : ℕ) → 1 ≤ j → j ≤ 1000 → suc j ≡ k → Done 8 tallest t x p (part (W t) a c) j 0 1 new → makeBy t x p (part (W t) a c) j s 0 1 ≡ new
+        → makeBy t x (c ∷ p) a (upPlan t (eightParts (W t) a) c (planned j s) .new) (upPlan t (eightParts (W t) a) c (planned j s) .id) h q
+        ≡ over 8 tallest t m8 two w x small c a h q new
+    step-lack j s one top e done ih =
+        rw (up-lack tallest t w x small a c j s one top) (make-more t x c p a j s h q ∙ ap (λ (y : Out). upBy y (eightParts (W t) a) c h q) ih
+        ∙ over-same d c a j h q p new l low b cell tall (omega arith) few held (low-lack 8 tallest t m8 two w x small d c a j p new l b done))
+
+    step-same : (B : ℕ) (bp : planning.Plan) (r : Need) → B ≤ 1000 → Agree B bp r → Plan 8 (cap t) (W t) x p (part (W t) a c) r
+        → ((j : ℕ) → r ≡ lack j → t .arena .live + j < cap t → Done 8 tallest t x p (part (W t) a c) j 0 1 new)
+        → ((j : ℕ) → r ≡ lack j → t .arena .live + j < cap t → makeBy t x p (part (W t) a c) (bp .new) (bp .id) 0 1 ≡ new)
+        → upNeed (λ s. needOf 8 t (replace (part (W t) a) c s)) r ≡ lack k
+        → makeBy t x (c ∷ p) a (upPlan t (eightParts (W t) a) c bp .new) (upPlan t (eightParts (W t) a) c bp .id) h q ≡ over 8 tallest t m8 two w x small c a h q (lowOf t r new)
+    unfolding upNeed lowOf
+    step-same B bp r top (agree-have {r = s}) u done ih e = step-have s u e
+    step-same B bp r top (agree-lack {k = j} {s = s} one most) u done ih e =
+        let z : suc j ≡ k = lack-inj e in
+        step-lack j s one (omega arith) z (done j refl (omega arith)) (ih j refl (omega arith))
+
+  leaf-case : (a k h q : ℕ) → cellNeed t x ≡ lack k → t .arena .live + k < cap t → makeBy t x [] a (cellPlan t x .new) (cellPlan t x .id) h q ≡ leafAnew t x h q
+  leaf-case a k h q e room = go (cell-came 8 tallest t m8 pos8 w x) (cell-agree tallest t w x small)
+    where
+      go : Cell-came 8 t x → Agree 1 (cellPlan t x) (cellNeed t x) → makeBy t x [] a (cellPlan t x .new) (cellPlan t x .id) h q ≡ leafAnew t x h q
+      go (cell-none z r) g = absurd (have-lack (sym r ∙ e))
+      go (cell-leaf r d y s) g = absurd (have-lack (sym s ∙ e))
+      go (cell-lack d z y s) g =
+          let one : 1 ≡ k = lack-inj (sym s ∙ e) in
+          let alone : Alone t empties x = (λ i l f v.
+          true≢false (sym (content-true (W t) empties x i empties-length f v) ∙ no-leaf 8 tallest t m8 w x d z i (not-ground 8 tallest t w empties x empties-length i l) l)) in
+          rw (lack-plan tallest t w x d z) (make-leaf t x a 0 0 h q ∙ leaf-same t [] x h q inv (omega arith) alone)
+
+  pub make-same : {d : ℕ} {p : List ℕ} (a k h q : ℕ) → LiveOr0 (cap t) (W t) a → heightAt (W t) a ≤ d → d ≤ tallest → Cell 8 d p
+      → planOf 8 t x p a ≡ lack k → t .arena .live + k < cap t → h ≤ 1000000 → 1 ≤ h + q
+      → makeBy t x p a (planBy t x p a .new) (planBy t x p a .id) h q ≡ makeOf 8 t x p a h q
+  unfolding planBy planOf makeOf
+  make-same a k h q l low tall here e room few held = leaf-case a k h q e room
+  make-same a k h q l low tall (down {d = d} {c = c} {p = p} b cell) e room few held =
+      let lb = part-there 8 (cap t) (W t) made a c l b in
+      let hb = part-low 8 (cap t) (W t) made a c l b d low in
+      step-same d c a k h q p l low b cell tall room few held (makeOf 8 t x p (part (W t) a c) 0 1)
+      (suc d) (planBy t x p (part (W t) a c)) (planOf 8 t x p (part (W t) a c)) (omega arith) (plan-agree tallest t w x small (part (W t) a c) (omega arith) cell)
+      (plan-is 8 tallest t m8 pos8 w x (part (W t) a c) lb hb cell)
+      (λ j z y. make-done 8 tallest t m8 two w x small (part (W t) a c) j 0 1 lb hb (omega arith) cell z y (omega arith) (omega arith))
+      (λ j z y. make-same (part (W t) a c) j 0 1 lb hb (omega arith) cell z y (omega arith) (omega arith)) e

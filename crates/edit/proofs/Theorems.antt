@@ -1,0 +1,212 @@
+-- What a caller may rely on, over the calls themselves.
+use mathlib.Core.Path.{_≡_, refl, sym, ap, _∙_, subst}
+use mathlib.Core.Logic.{_≢_}
+use mathlib.Core.List.{List}
+use Prim.Native.Nat.{ℕ, _-_, _^_, _≤_, _<_}
+use native.Mathlib.Decide.{ℕ-discrete, decLe}
+use native.Mathlib.Omega.{arith}
+use lib.ListN.{length, set, length-set}
+use borrow.Author.Tests.{eq-eqb, ne-eqb, le-leb, lt-leb}
+use Rattle.nodes.specs.Values.{heightAt}
+use Rattle.nodes.specs.Words.{Words, slot}
+use Rattle.nodes.proofs.Sums.{cases, split}
+use Rattle.paths.specs.declared.IVec3.{IVec3}
+use Rattle.paths.specs.Paths.{whole}
+use Rattle.tree.specs.Tree as tree
+use Rattle.tree.specs.Tree.{LiveOr0, WellMade, Cell, Root, look, Extends}
+use Rattle.tree.specs.Anew.{Anew}
+use Rattle.tree.specs.Edits.{Edited, Later}
+use Rattle.tree.specs.Demand.{At, way, Apart, TwoChanged}
+use Rattle.tree.specs.Lacks.{Need, have, lack, Lacks}
+use Rattle.tree.proofs.Canon.{canon}
+use Rattle.tree.proofs.CellLaws.{cube-cell, cube-one, cube-onto}
+use Rattle.tree.proofs.Grow.{extends-keeps, look-later, there-later}
+use Rattle.tree.proofs.Demand.{demand-3}
+use Rattle.tree.proofs.Plan.{plan-lack}
+use Rattle.arena.specs.Tables.{Tables, cap, W, WellFormed}
+use Rattle.arena.specs.Calls.{fullOf}
+use Rattle.reading.specs.Calls.{lookNo, looked, lookOf, expandOf}
+use Rattle.reading.specs.declared.Looked.{Looked}
+use Rattle.reading.proofs.Meaning.{wf-made}
+use Rattle.edit.specs.Edit.{planOf, resultOf, grantNo, cellAt, editNo, editOf}
+use Rattle.edit.specs.Promises.{spot, standsAt, then, gives, Reads, BothOrders}
+use Rattle.edit.proofs.Planning.{plan-is}
+use Rattle.edit.proofs.Law.{root-there}
+use Rattle.edit.proofs.Edits.{accepted-past, edit-right}
+use Rattle.edit.proofs.Expanding.{look-at, way-one, stands-apart, one-set, expand-at, expand-list}
+
+-- ## Refusal 11
+
+have-not-eleven : (t : Tables) (r : ℕ) → grantNo t (have r) ≡ 11 → ⊥
+unfolding grantNo
+have-not-eleven t r g = cases (ℕ-discrete r 0)
+    (λ z. let y : _≡_ {A = ℕ} 0 11 = (rw (eq-eqb r 0 z) at g) in omega arith)
+    (λ z. split (fullOf (W t) (slot r))
+    (λ f. let y : _≡_ {A = ℕ} 10 11 = (rw (ne-eqb r 0 z, f) at g) in omega arith)
+    (λ f. let y : _≡_ {A = ℕ} 0 11 = (rw (ne-eqb r 0 z, f) at g) in omega arith))
+
+lack-eleven : (t : Tables) (k : ℕ) → grantNo t (lack k) ≡ 11 → cap t - 1 - t .arena .live < k
+unfolding grantNo
+lack-eleven t k g = cases (decLe k (cap t - 1 - t .arena .live))
+    (λ l. absurd (let y : _≡_ {A = ℕ} 0 11 = (rw (le-leb k (cap t - 1 - t .arena .live) l) at g) in omega arith)) (λ l. omega arith)
+
+short-eleven : (t : Tables) (k : ℕ) → cap t - 1 - t .arena .live < k → grantNo t (lack k) ≡ 11
+unfolding grantNo
+short-eleven t k h = rw (lt-leb k (cap t - 1 - t .arena .live) h)
+
+module _ (t : Tables) (w : WellFormed 8 6 t) (root d : ℕ) (p : IVec3) (v : ℕ) (n : lookNo t root d p ≡ 0) (low : heightAt (W t) root ≤ d) where
+  -- if the dry run lacks k nodes, then wherever the result r is made, exactly k of its nodes are not live now
+  pub lack-right : (k r : ℕ) (W′ : Words) → Cell 8 d (cellAt d p) → planOf 8 t v (cellAt d p) root ≡ lack k → WellMade 8 (cap t) W′ → Extends 8 (cap t) (W t) W′
+      → Anew 8 (cap t) W′ v (cellAt d p) root r → Lacks 8 (cap t) (W t) W′ r k
+  lack-right k r W′ c e w′ g a =
+      let there = root-there t root d p n in
+      plan-lack 8 (cap t) (omega arith) (W t) W′ (wf-made 8 6 t (omega arith) w) w′ g v there low c
+      (rw e at (plan-is 8 6 t (omega arith) (omega arith) w v root there low c)) a
+
+  past-no : editNo t root d p v ≡ grantNo t (resultOf 8 t v (cellAt d p) root)
+  unfolding editNo
+  past-no = rw (eq-eqb (lookNo t root d p) 0 n, le-leb (heightAt (W t) root) d low)
+
+  result-new : look (W t) (cellAt d p) root ≢ v → resultOf 8 t v (cellAt d p) root ≡ planOf 8 t v (cellAt d p) root
+  unfolding resultOf
+  result-new z = rw (ne-eqb (look (W t) (cellAt d p) root) v z)
+
+  result-old : look (W t) (cellAt d p) root ≡ v → resultOf 8 t v (cellAt d p) root ≡ have root
+  unfolding resultOf
+  result-old z = rw (eq-eqb (look (W t) (cellAt d p) root) v z)
+
+  -- refusal 11 is given exactly if the cell has another value and the result lacks more nodes than there are free slots
+  pub eleven : editNo t root d p v ≡ 11 → (look (W t) (cellAt d p) root ≢ v) × ((k : ℕ) × (planOf 8 t v (cellAt d p) root ≡ lack k) × (cap t - 1 - t .arena .live < k))
+  eleven e = cases (ℕ-discrete (look (W t) (cellAt d p) root) v)
+      (λ z. absurd (have-not-eleven t root (ap (grantNo t) (sym (result-old z)) ∙ sym past-no ∙ e)))
+      (λ z. (z, go (planOf 8 t v (cellAt d p) root) refl (ap (grantNo t) (sym (result-new z)) ∙ sym past-no ∙ e)))
+    where
+      go : (r : Need) → planOf 8 t v (cellAt d p) root ≡ r → grantNo t r ≡ 11 → (k : ℕ) × (planOf 8 t v (cellAt d p) root ≡ lack k) × (cap t - 1 - t .arena .live < k)
+      go (have r) q g = absurd (have-not-eleven t r g)
+      go (lack k) q g = (k, q, lack-eleven t k g)
+
+  pub eleven-given : (k : ℕ) → look (W t) (cellAt d p) root ≢ v → planOf 8 t v (cellAt d p) root ≡ lack k → cap t - 1 - t .arena .live < k → editNo t root d p v ≡ 11
+  eleven-given k z q h = past-no ∙ ap (grantNo t) (result-new z ∙ q) ∙ short-eleven t k h
+
+-- ## Canonicity: what shows the same cube is the same id
+
+pub one-id : {d : ℕ} (t : Tables) → WellFormed 8 6 t → d ≤ 6 → (a b : ℕ) → Root 8 (cap t) d (W t) a → Root 8 (cap t) d (W t) b
+    → ((c : At d) → lookOf t a d (spot c) ≡ lookOf t b d (spot c)) → a ≡ b
+one-id {d} t w h a b ra rb same = canon 8 (cap t) (W t) (wf-made 8 6 t (omega arith) w) (omega arith) d a b ra rb
+    (λ q c.
+    let k = cube-onto c in
+    let at : At d = record { x = k .x; y = k .y; z = k .z; in-x = k .small-x; in-y = k .small-y; in-z = k .small-z } in
+    let e = sym (look-at t w h a (ra .there) at) ∙ same at ∙ look-at t w h b (rb .there) at in
+    subst (λ (l : List ℕ). look (W t) l a ≡ look (W t) l b) (k .path) (ap (λ (r : Looked). r .value) e))
+
+-- ## Demand 3: two edits in both orders
+
+-- an accepted edit, with the capacity that the tables had at the start
+cell-edited : {d : ℕ} (c₀ : ℕ) (t : Tables) → WellFormed 8 6 t → cap t ≡ c₀ → (a : ℕ) (c : At d) (v : ℕ) → v ≤ 65535 → editNo t a d (spot c) v ≡ 0
+    → Edited 8 c₀ d (W t) a (way c) v (W (then t a c v)) (gives t a c v)
+unfolding whole
+cell-edited {d} c₀ t w e a c v h ok =
+    subst (λ (k : ℕ). Edited 8 k d (W t) a (way c) v (W (then t a c v)) (gives t a c v)) e (edit-right t w a d (spot c) v h ok .edited)
+
+apart-way : {d : ℕ} (c e : At d) → Apart c e → way c ≢ way e
+apart-way {d} c e h k = h (cube-one d (c .in-x) (c .in-y) (c .in-z) (e .in-x) (e .in-y) (e .in-z) k)
+
+same-later : {cap : ℕ} {W : Words} → WellMade 8 cap W → Later 8 cap W W
+same-later w = record { grows = λ a m. record { still = m; kids = λ i k. refl; value = refl; height = refl }; made = w }
+
+-- ## Lookup after an accepted edit
+
+pub edit-reads : {d : ℕ} (t : Tables) → WellFormed 8 6 t → d ≤ 6 → (a : ℕ) (c : At d) (v : ℕ) → v ≤ 65535 → editNo t a d (spot c) v ≡ 0
+    → Reads t a c v (then t a c v) (gives t a c v)
+edit-reads {d} t w h a c v high ok =
+    let s = edit-right t w a d (spot c) v high ok in
+    let u = then t a c v in
+    let r = gives t a c v in
+    let e = cell-edited (cap t) t w refl a c v high ok in
+    let z = s .size in
+    let past = accepted-past t w a d (spot c) v high ok in
+    let there = root-there t a d (spot c) (past .0) in
+    let there′ : LiveOr0 (cap u) (W u) r = subst (λ (k : ℕ). LiveOr0 k (W u) r) (sym z) (e .there) in
+    let made = wf-made 8 6 t (omega arith) w in
+    record {
+      at = look-at u (s .well) h r there′ c ∙ ap (looked 0) (e .changed);
+      elsewhere = λ i q.
+          look-at u (s .well) h r there′ i ∙ ap (looked 0) (e .others (way i) (cube-cell d (i .x) (i .y) (i .z)) (apart-way i c q)) ∙ sym (look-at t w h a there i);
+      cube = λ l m el em.
+          let x = expand-at t w h a there m em in
+          let old = expandOf t a d m .cube in
+          expand-list u (s .well) h r there′ l el (set old (standsAt c) v) (length-set old (standsAt c) v ∙ x .size)
+          (λ i.
+          one-set c v old (x .size) i (look (W u) (way i) r) (λ q. ap (λ (y : List ℕ). look (W u) y r) (way-one i c q) ∙ e .changed)
+          (λ q. e .others (way i) (cube-cell d (i .x) (i .y) (i .z)) (apart-way i c (stands-apart i c q)) ∙ sym (x .cells i)));
+      root = λ q. subst (λ (k : ℕ). Root 8 k d (W u) r) (sym z) (record { there = e .there; tidy = e .tidy (q .tidy); low = e .low });
+      others = λ b l f g i.
+          let k = extends-keeps (e .grows) b in
+          let lb : LiveOr0 (cap u) (W u) b = subst (λ (j : ℕ). LiveOr0 j (W u) b) (sym z) (there-later 8 (cap t) (W t) (W u) made b l k) in
+          look-at u (s .well) g b lb i ∙ ap (looked 0) (sym (look-later 8 (cap t) (W t) (W u) made b l k (cube-cell f (i .x) (i .y) (i .z)))) ∙ sym (look-at t w g b l i);
+    }
+
+-- In a well-formed arena take EMPTY or a live tidy root no taller than the depth, two different cells and a value for each. Make both edits from that root in
+-- one order, then from the same root in the other, all four accepted, nothing released: both end in the same id, whose cube is the old one with those
+-- two cells changed.
+module _ {d : ℕ} (t₀ : Tables) (w : WellFormed 8 6 t₀) (deep-enough : d ≤ 6) (root : ℕ) (tidy : Root 8 (cap t₀) d (W t₀) root) (p q : At d) (apart : Apart p q)
+    (i j : ℕ) (hi : i ≤ 65535) (hj : j ≤ 65535) where
+  abbrev pub t₁ : Tables
+  t₁ = then t₀ root p i
+
+  abbrev pub r₁ : ℕ
+  r₁ = gives t₀ root p i
+
+  abbrev pub t₂ : Tables
+  t₂ = then t₁ r₁ q j
+
+  abbrev pub r₂ : ℕ
+  r₂ = gives t₁ r₁ q j
+
+  abbrev pub t₃ : Tables
+  t₃ = then t₂ root q j
+
+  abbrev pub r₃ : ℕ
+  r₃ = gives t₂ root q j
+
+  abbrev pub t₄ : Tables
+  t₄ = then t₃ r₃ p i
+
+  abbrev pub r₄ : ℕ
+  r₄ = gives t₃ r₃ p i
+
+  pub both-orders : editNo t₀ root d (spot p) i ≡ 0 → editNo t₁ r₁ d (spot q) j ≡ 0 → editNo t₂ root d (spot q) j ≡ 0 → editNo t₃ r₃ d (spot p) i ≡ 0
+      → BothOrders d t₀ root p i q j t₄ r₂ r₄
+  both-orders ok₁ ok₂ ok₃ ok₄ =
+      let s₁ = edit-right t₀ w root d (spot p) i hi ok₁ in
+      let s₂ = edit-right t₁ (s₁ .well) r₁ d (spot q) j hj ok₂ in
+      let s₃ = edit-right t₂ (s₂ .well) root d (spot q) j hj ok₃ in
+      let s₄ = edit-right t₃ (s₃ .well) r₃ d (spot p) i hi ok₄ in
+      let z₁ = s₁ .size in
+      let z₂ : cap t₂ ≡ cap t₀ = s₂ .size ∙ z₁ in
+      let z₃ : cap t₃ ≡ cap t₀ = s₃ .size ∙ z₂ in
+      let z₄ : cap t₄ ≡ cap t₀ = s₄ .size ∙ z₃ in
+      let e₁ = cell-edited (cap t₀) t₀ w refl root p i hi ok₁ in
+      let e₂ = cell-edited (cap t₀) t₁ (s₁ .well) z₁ r₁ q j hj ok₂ in
+      let e₃ = cell-edited (cap t₀) t₂ (s₂ .well) z₂ root q j hj ok₃ in
+      let e₄ = cell-edited (cap t₀) t₃ (s₃ .well) z₃ r₃ p i hi ok₄ in
+      let b : TwoChanged d (W t₀) root p i q j (W t₄) r₂ r₄ =
+      demand-3 p q (wf-made 8 6 t₀ (omega arith) w) tidy apart e₁ (same-later (e₁ .made)) e₂ (same-later (e₂ .made)) e₃ (same-later (e₃ .made)) e₄ in
+      let there : LiveOr0 (cap t₄) (W t₄) r₄ = subst (λ (k : ℕ). LiveOr0 k (W t₄) r₄) (sym z₄) (e₄ .there) in
+      record {
+        one = b .one;
+        at-p = look-at t₄ (s₄ .well) deep-enough r₄ there p ∙ ap (looked 0) (b .at-p);
+        at-q = look-at t₄ (s₄ .well) deep-enough r₄ there q ∙ ap (looked 0) (b .at-q);
+        elsewhere = λ s a c. look-at t₄ (s₄ .well) deep-enough r₄ there s ∙ ap (looked 0) (b .elsewhere s a c) ∙ sym (look-at t₀ w deep-enough root (tidy .there) s);
+        cube = λ l m el em.
+            let x = expand-at t₀ w deep-enough root (tidy .there) m em in
+            let old = expandOf t₀ root d m .cube in
+            let one = set old (standsAt p) i in
+            let k : length one ≡ 8 ^ d = length-set old (standsAt p) i ∙ x .size in
+            expand-list t₄ (s₄ .well) deep-enough r₄ there l el (set one (standsAt q) j) (length-set one (standsAt q) j ∙ k)
+            (λ s.
+            one-set q j one k s (look (W t₄) (way s) r₄) (λ z. ap (λ (y : List ℕ). look (W t₄) y r₄) (way-one s q z) ∙ b .at-q)
+            (λ n. sym
+            (one-set p i old (x .size) s (look (W t₄) (way s) r₄) (λ z. ap (λ (y : List ℕ). look (W t₄) y r₄) (way-one s p z) ∙ b .at-p)
+            (λ o. b .elsewhere s (stands-apart s p o) (stands-apart s q n) ∙ sym (x .cells s)))));
+      }

@@ -1,0 +1,28 @@
+use borrow.Author.Needs.{needs}
+use mathlib.Core.Path.{_≡_, ap}
+use mathlib.Core.List.{List}
+use Prim.Native.Nat.{ℕ}
+use borrow.Author.Tests.{eq-eqb, ne-eqb}
+use Rattle.arena.specs.Calls.{Out, said}
+use Rattle.arena.specs.Tables.{tables}
+use Rattle.arena.specs.declared.Arena.{Arena}
+use Rattle.edit.specs.Models.{grantOf, makeBy, answerBy}
+use Rattle.edit.specs.declared.Plan.{Plan}
+use Rattle.edit.proofs.answer.Statement.{statement}
+use Rattle.edit.proofs.answer.Tie as tie
+
+module _ (a : Arena) (k f e p : List ℕ) (v root : ℕ) (b : Plan) where
+  there : (g : List ℕ) → b .new ≡ 0 → g ≡ grantOf f (b .id) → said 0 (b .id) (tables a k g e) ≡ answerBy (tables a k f e) v p root b
+  unfolding answerBy
+  there g z eg = rw (eq-eqb (b .new) 0 z) (ap (λ (x : List ℕ). said 0 (b .id) (tables a k x e)) eg)
+
+  anew : (r : Out) → (b .new ≡ 0 → ⊥) → r ≡ makeBy (tables a k f e) v p root (b .new) (b .id) 1 0 → r ≡ answerBy (tables a k f e) v p root b
+  unfolding answerBy
+  anew r z er = rw (ne-eqb (b .new) 0 z) er
+
+ruleset mine = (there, anew)
+
+pub answer-spec : {M : Type 1} → statement M
+answer-spec =
+    tie.close
+    (tie.spec (λ c κs. search needs) (λ c. search needs) (λ c. search mine) (λ c κs. search needs) (λ c. search needs) (λ c. search needs) (λ c. search needs) (λ c. search mine))
