@@ -1,0 +1,4 @@
+pub mod Puts
+pub mod Steps
+pub mod Blocks
+pub mod Whole
