@@ -1,14 +1,12 @@
-//! Links the port's static libraries, which `rt staticlib capi` and `rt staticlib arena_capi` write.
+//! Links the port's static library, which `tools/library` writes.
 use std::path::Path;
 
 fn main() {
     let folder = Path::new(env!("CARGO_MANIFEST_DIR")).join("../../target/staticlib");
     println!("cargo:rustc-link-search=native={}", folder.display());
-    for library in ["capi", "arena_capi"] {
-        println!("cargo:rustc-link-lib=static={library}");
-        println!(
-            "cargo:rerun-if-changed={}",
-            folder.join(format!("lib{library}.a")).display()
-        );
-    }
+    println!("cargo:rustc-link-lib=static=fenpiling");
+    println!(
+        "cargo:rerun-if-changed={}",
+        folder.join("libfenpiling.a").display()
+    );
 }

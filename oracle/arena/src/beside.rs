@@ -1,15 +1,19 @@
 //! The port beside document 01, call by call; and beside them the original with document 01 in the original's order of freeing.
 use crate::call::{Answered, Call, document};
+use crate::check;
 use crate::lent::Lent;
 use crate::original::Companion;
 use crate::tally::Tally;
 use reference::arena::{Arena, Order, Slot};
-use reference::document01::{EMPTY, index};
+use reference::document01::EMPTY;
 
-/// To this capacity every slot is compared after every call.
+/// To this capacity every slot is compared after every call, and a call that is refused may not change the finding table.
 const ALWAYS_WHOLE: usize = 100;
 /// Above it every slot is compared after so many calls, and the slots that a call touches after each.
 const WHOLE_EVERY: u64 = 1_000;
+
+/// The arena check is asked after so many calls, or after 2 for each slot if these are more.
+const CHECK_EVERY: usize = 64;
 
 /// Whether the original runs beside, and how.
 #[derive(Clone, Copy, Debug, PartialEq, Eq)]
@@ -21,15 +25,18 @@ pub enum Original {
 }
 
 pub struct Beside {
-    port: Lent,
+    pub port: Lent,
     document: Arena,
     companion: Option<Companion>,
     original: Original,
+    /// Is every slot compared after every call?
+    is_always_whole: bool,
     calls: u64,
-    /// For each slot the link word that it should have; 0 between comparisons.
+    /// Room to note for each slot the link word that it should have, and whether the finding table names it.
     links: Vec<u64>,
-    /// For each slot whether the finding table names it; no between comparisons.
     named: Vec<bool>,
+    /// The finding table before the last call, where every slot is compared.
+    find: Vec<u16>,
 }
 
 impl Beside {
@@ -39,22 +46,39 @@ impl Beside {
             document: Arena::fresh(capacity, Order::DepthFirst).unwrap(),
             companion: (original != Original::Absent).then(|| Companion::fresh(capacity)),
             original,
+            is_always_whole: capacity <= ALWAYS_WHOLE,
             calls: 0,
             links: vec![0; capacity],
             named: vec![false; capacity],
+            find: vec![0; 3 * capacity],
         }
+    }
+
+    /// The same with every slot compared after every call to another capacity.
+    pub fn whole_to(mut self, capacity: usize) -> Self {
+        self.is_always_whole = self.document.capacity() <= capacity;
+        self
     }
 
     pub fn document(&self) -> &Arena {
         &self.document
     }
 
-    pub fn port(&self) -> &Lent {
-        &self.port
+    /// The id in the original of a node or of EMPTY, if the original runs beside.
+    pub fn twin(&self, id: u64) -> Option<u64> {
+        self.companion.as_ref().map(|companion| companion.twin(id))
+    }
+
+    /// The port's arena, and the original's if it runs beside.
+    pub fn into_parts(self) -> (Lent, Option<Companion>) {
+        (self.port, self.companion)
     }
 
     /// Runs a call on all sides and compares. The error is the difference in words.
     pub fn call(&mut self, call: &Call<u64>, tally: &mut Tally) -> Result<Answered, String> {
+        if self.is_always_whole {
+            self.find.copy_from_slice(self.port.find());
+        }
         let (freed_before, next_before) = (self.document.freed().len(), self.document.next());
         let port = self.port.call(call);
         let expected = document(&mut self.document, call);
@@ -68,10 +92,18 @@ impl Beside {
             return Err("the port wrote outside its tables".to_string());
         }
         self.same_state()?;
-        if self.document.capacity() <= ALWAYS_WHOLE || self.calls.is_multiple_of(WHOLE_EVERY) {
+        if self.is_always_whole || self.calls.is_multiple_of(WHOLE_EVERY) {
             self.same_tables()?;
+            tally.whole += 1;
         } else {
             self.same_touched(freed_before)?;
+        }
+        if self.is_always_whole && expected.no != 0 && self.port.find() != self.find {
+            return Err("the refused call changes the finding table".to_string());
+        }
+        let check_every = CHECK_EVERY.max(2 * self.document.capacity());
+        if self.calls.is_multiple_of(check_every as u64) {
+            self.well_formed(tally)?;
         }
         tally.count(call, &expected, &self.document, freed_before, next_before);
         if let Some(companion) = &mut self.companion {
@@ -86,11 +118,22 @@ impl Beside {
         Ok(expected)
     }
 
+    /// Sees that the port's tables are well formed, and that the arena check says so.
+    fn well_formed(&mut self, tally: &mut Tally) -> Result<(), String> {
+        tally.checks += 1;
+        if check::judge(&mut self.port)? {
+            return Ok(());
+        }
+        Err(format!(
+            "the port's tables are not well formed: {:?}",
+            self.port.view().well_formed()
+        ))
+    }
+
     /// Compares every slot, of all sides, and sees that the port's tables are well formed.
-    pub fn same_everywhere(&mut self) -> Result<(), String> {
+    pub fn same_everywhere(&mut self, tally: &mut Tally) -> Result<(), String> {
         self.same_tables()?;
-        (self.port.view().well_formed())
-            .map_err(|words| format!("the port's tables are not well formed: {words}"))?;
+        self.well_formed(tally)?;
         match &mut self.companion {
             Some(companion) if self.original == Original::Beside => {
                 companion.same_everywhere(&self.document)
@@ -129,13 +172,15 @@ impl Beside {
 
     /// Compares every slot of the port with document 01, and sees that the finding table names the live slots, each once, and nothing else.
     fn same_tables(&mut self) -> Result<(), String> {
+        self.links.fill(0);
+        self.named.fill(false);
         let mut below = 0;
         for &slot in self.document.freed() {
             self.links[slot as usize] = below;
             below = slot.into();
         }
         for slot in 0..self.document.capacity() as u32 {
-            let link = std::mem::take(&mut self.links[slot as usize]);
+            let link = self.links[slot as usize];
             same_slot(&self.port, &self.document, slot, link)?;
         }
         let mut names = 0;
@@ -152,7 +197,6 @@ impl Beside {
                 ));
             }
         }
-        self.named.fill(false);
         if names != self.document.live() {
             return Err(format!(
                 "the finding table names {names} slots, {} are live",
@@ -195,15 +239,4 @@ fn same_slot(port: &Lent, document: &Arena, slot: u32, link: u64) -> Result<(), 
         words_of(expected, link),
         expected.children
     ))
-}
-
-/// The twin of each child.
-pub fn twins_of(children: [u64; 8], twins: &[u64]) -> [u64; 8] {
-    children.map(|id| {
-        if id == EMPTY {
-            EMPTY
-        } else {
-            twins[index(id) as usize]
-        }
-    })
 }

@@ -57,7 +57,7 @@ impl<'a> Case<'a> {
     }
 
     fn finish(mut self) -> Told {
-        self.beside.same_everywhere()
+        self.beside.same_everywhere(self.tally)
     }
 }
 

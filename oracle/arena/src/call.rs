@@ -1,15 +1,18 @@
-//! Calls of an arena and their answers.
+//! Calls that change an arena or count in it, and their answers.
+use crate::edit::Voxel;
 use reference::arena::Arena;
 use reference::document01::{EMPTY, INVALID};
 use std::fmt;
 
-#[derive(Clone, Debug)]
+#[derive(Clone, Copy, Debug)]
 pub enum Call<Id> {
     Leaf(u16),
     Branch([Id; 8]),
     Hold(Id),
     Release(Id),
     Counts(Id),
+    /// The root with a voxel set.
+    Edit(Id, Voxel),
 }
 
 impl<Id: Copy> Call<Id> {
@@ -21,6 +24,7 @@ impl<Id: Copy> Call<Id> {
             Call::Hold(id) => Call::Hold(form(id)),
             Call::Release(id) => Call::Release(form(id)),
             Call::Counts(id) => Call::Counts(form(id)),
+            Call::Edit(root, voxel) => Call::Edit(form(root), voxel),
         }
     }
 }
@@ -66,6 +70,10 @@ pub fn document(arena: &mut Arena, call: &Call<u64>) -> Answered {
                 holds,
                 places,
             }
+        }
+        Call::Edit(root, voxel) => {
+            let (no, id) = arena.edit(root, voxel.depth, voxel.cell, voxel.value);
+            Answered::made(no, id)
         }
     }
 }
@@ -121,6 +129,7 @@ impl fmt::Display for Call<Traced> {
             Call::Hold(id) => write!(f, "hold {id}"),
             Call::Release(id) => write!(f, "release {id}"),
             Call::Counts(id) => write!(f, "counts {id}"),
+            Call::Edit(root, voxel) => write!(f, "edit {root} {voxel:?}"),
         }
     }
 }

@@ -1,7 +1,8 @@
 //! Tables that no arena ever left: damaged words, words at random, wrong lengths, capacities out of range. Every call has to end and to stay inside
-//! its tables; a refusal changes nothing; `hold`, `counts` and `fresh` answer by their definitions on any tables.
+//! its tables; a refusal changes nothing, and gives INVALID for a node; `hold`, `counts` and `fresh` answer by their definitions on any tables.
 use crate::beside::{Beside, Original};
 use crate::call::{Answered, Call};
+use crate::check;
 use crate::lent::Lent;
 use crate::sequence::Sequence;
 use crate::tally::Tally;
@@ -21,9 +22,22 @@ pub struct Damages {
     pub calls: u64,
     pub refused: u64,
     pub refused_with_1: u64,
+    /// How often the arena check was asked, and how often it said yes.
+    pub checks: u64,
+    pub said_yes: u64,
 }
 
-fn word(random: &mut Random) -> u64 {
+impl Damages {
+    /// Asks the arena check, and sees that it says what document 01 says. Are the tables well formed?
+    fn check(&mut self, lent: &mut Lent) -> Result<bool, String> {
+        let says = check::judge(lent)?;
+        self.checks += 1;
+        self.said_yes += u64::from(says);
+        Ok(says)
+    }
+}
+
+pub fn word(random: &mut Random) -> u64 {
     match random.below(6) {
         0 => random.bits(),
         1 => random.bits() & random.bits() & random.bits(),
@@ -35,7 +49,7 @@ fn word(random: &mut Random) -> u64 {
 }
 
 /// An arena after some calls at random.
-fn well_formed(capacity: usize, random: &mut Random) -> Result<Lent, String> {
+pub fn well_formed(capacity: usize, random: &mut Random) -> Result<Lent, String> {
     let mut beside = Beside::fresh(capacity, Original::Absent);
     let mut sequence = Sequence::new(capacity, random.bits() | 1);
     let mut tally = Tally::default();
@@ -44,7 +58,7 @@ fn well_formed(capacity: usize, random: &mut Random) -> Result<Lent, String> {
         let answered = beside.call(&call.map(|id| id.raw), &mut tally)?;
         sequence.learn(&call, &answered, beside.document());
     }
-    Ok(beside.port().clone())
+    Ok(beside.port)
 }
 
 /// Changes some words of the tables or of the state.
@@ -103,8 +117,11 @@ fn at_random(capacity: usize, lengths: [usize; 3], random: &mut Random) -> Lent 
     Lent::new(arena, &kids, &facts, &find)
 }
 
-/// One set of tables.
-fn tables(random: &mut Random) -> Result<Lent, String> {
+/// One set of tables, most often what `well_formed` gives for a capacity, and then damaged.
+pub fn tables(
+    random: &mut Random,
+    well_formed: impl Fn(usize, &mut Random) -> Result<Lent, String>,
+) -> Result<Lent, String> {
     let capacity = match random.below(5_000) {
         0 => MOST_CAPACITY,
         1..10 => 4_096,
@@ -159,7 +176,7 @@ fn tables(random: &mut Random) -> Result<Lent, String> {
 }
 
 /// An id that the tables name, or one at random.
-fn id(lent: &Lent, random: &mut Random) -> u64 {
+pub fn id(lent: &Lent, random: &mut Random) -> u64 {
     match random.below(8) {
         0 => EMPTY,
         1 => INVALID,
@@ -220,11 +237,10 @@ fn defined(lent: &Lent, call: &Call<u64>) -> Option<(Answered, Option<usize>)> {
 }
 
 /// Runs one call and looks at what it left.
-fn judge(lent: &mut Lent, call: &Call<u64>, damages: &mut Damages) -> Result<(), String> {
+pub fn judge(lent: &mut Lent, call: &Call<u64>) -> Result<Answered, String> {
     let mut before = lent.clone();
     let expected = defined(lent, call);
     let answered = lent.call(call);
-    damages.calls += 1;
     if !lent.is_intact() {
         return Err(format!("{call:x?} wrote outside its tables"));
     }
@@ -234,8 +250,10 @@ fn judge(lent: &mut Lent, call: &Call<u64>, damages: &mut Damages) -> Result<(),
         ));
     }
     if answered.no != 0 {
-        damages.refused += 1;
-        damages.refused_with_1 += u64::from(answered.no == 1);
+        let makes = matches!(call, Call::Leaf(_) | Call::Branch(_) | Call::Edit(_, _));
+        if makes && answered.id != INVALID {
+            return Err(format!("{call:x?} is refused with {answered:x?}"));
+        }
         if !lent.is_same(&before) {
             return Err(format!("{call:x?} is refused and changes something"));
         }
@@ -253,7 +271,7 @@ fn judge(lent: &mut Lent, call: &Call<u64>, damages: &mut Damages) -> Result<(),
             return Err(format!("{call:x?} leaves other tables than its definition"));
         }
     }
-    Ok(())
+    Ok(answered)
 }
 
 /// A fresh arena over the tables.
@@ -293,17 +311,22 @@ fn judge_fresh(lent: &mut Lent, capacity: usize, damages: &mut Damages) -> Resul
 pub fn run(seed: u64, damages: &mut Damages) -> Result<(), String> {
     let mut random = Random::new(seed);
     let told = (|| {
-        let mut lent = tables(&mut random)?;
+        let mut lent = tables(&mut random, well_formed)?;
         damages.sets += 1;
-        damages.well_formed += u64::from(lent.view().well_formed().is_ok());
+        damages.well_formed += u64::from(damages.check(&mut lent)?);
         for _ in 0..CALLS {
             let call = call(&lent, &mut random);
-            judge(&mut lent, &call, damages)?;
+            let answered = judge(&mut lent, &call)?;
+            damages.calls += 1;
+            damages.refused += u64::from(answered.no != 0);
+            damages.refused_with_1 += u64::from(answered.no == 1);
         }
+        damages.check(&mut lent)?;
         let own = lent.arena.capacity;
         let other = random.one_of(&[0, 1, 2, 3, MOST_CAPACITY, MOST_CAPACITY + 1, usize::MAX]);
         judge_fresh(&mut lent, other, damages)?;
-        judge_fresh(&mut lent, own, damages)
+        judge_fresh(&mut lent, own, damages)?;
+        damages.check(&mut lent).map(|_| ())
     })();
     told.map_err(|words| format!("tables of seed {seed:#x}: {words}"))
 }

@@ -1,6 +1,7 @@
 //! The port's arena on tables that stand between guard words.
 use crate::call::{Answered, Call};
 use port::arena::{self, Arena, Tables};
+use port::model::{self, Cell, Looked};
 use reference::document01::EMPTY;
 use reference::tables::Tables as View;
 
@@ -9,13 +10,13 @@ const GUARD: usize = 16;
 
 /// Words between guard words.
 #[derive(Clone)]
-struct Guarded<T> {
+pub struct Guarded<T> {
     words: Vec<T>,
     guard: T,
 }
 
 impl<T: Copy + PartialEq> Guarded<T> {
-    fn new(inside: &[T], guard: T) -> Self {
+    pub fn new(inside: &[T], guard: T) -> Self {
         let side = [guard; GUARD];
         Self {
             words: [&side[..], inside, &side[..]].concat(),
@@ -23,16 +24,16 @@ impl<T: Copy + PartialEq> Guarded<T> {
         }
     }
 
-    fn inside(&self) -> &[T] {
+    pub fn inside(&self) -> &[T] {
         &self.words[GUARD..self.words.len() - GUARD]
     }
 
-    fn inside_mut(&mut self) -> &mut [T] {
+    pub fn inside_mut(&mut self) -> &mut [T] {
         let end = self.words.len() - GUARD;
         &mut self.words[GUARD..end]
     }
 
-    fn is_intact(&self) -> bool {
+    pub fn is_intact(&self) -> bool {
         let side = [self.guard; GUARD];
         self.words[..GUARD] == side && self.words[self.words.len() - GUARD..] == side
     }
@@ -129,6 +130,12 @@ impl Lent {
         answer.no
     }
 
+    /// What the arena check says.
+    pub fn check(&mut self) -> bool {
+        let state = self.arena;
+        model::check(state, &mut self.tables())
+    }
+
     pub fn call(&mut self, call: &Call<u64>) -> Answered {
         let state = self.arena;
         let mut tables = self.tables();
@@ -161,8 +168,29 @@ impl Lent {
                     state,
                 )
             }
+            Call::Edit(root, voxel) => {
+                let cell = cell_of(voxel.cell);
+                let made =
+                    model::set_voxel(state, &mut tables, root, voxel.depth, cell, voxel.value);
+                (Answered::made(made.no, made.id), made.arena)
+            }
         };
         self.arena = state;
         answered
     }
+
+    pub fn look(&mut self, id: u64, depth: u32, cell: [i32; 3]) -> Looked {
+        let state = self.arena;
+        model::get_at_depth(state, &mut self.tables(), id, depth, cell_of(cell))
+    }
+
+    /// Expansion into a lent cube: the number of the refusal, or 0.
+    pub fn expand(&mut self, id: u64, depth: u32, cube: &mut [u16]) -> u32 {
+        let state = self.arena;
+        model::to_vec(state, &mut self.tables(), id, depth, cube)
+    }
+}
+
+fn cell_of([x, y, z]: [i32; 3]) -> Cell {
+    Cell { x, y, z }
 }

@@ -1,28 +1,19 @@
 //! Compares the port's arena, linked from its static library, with document 01 and with the original.
 //!
 //!     arena [--long N]     N times as many sequences at random
-mod beside;
-mod boundary;
-mod call;
-mod damage;
-mod lent;
-mod original;
-mod run;
-mod sequence;
-mod tally;
-
-use beside::Original;
-use damage::Damages;
-use run::{Plan, drain, run};
+use arena::beside::Original;
+use arena::damage::{self, Damages};
+use arena::run::{Plan, drain, run};
+use arena::tally::Tally;
+use arena::{boundary, check};
+use reference::Seeds;
 use std::process::ExitCode;
 use std::sync::atomic::Ordering::Relaxed;
 use std::time::Instant;
-use tally::Tally;
 use voxelis::interner::HASH_MASK;
 
 /// The first seed. Each sequence has its own, a step on from the one before.
 const SEED: u64 = 0x0102_0304_0506_0709;
-const SEED_STEP: u64 = 0x9E37_79B9_7F4A_7C15;
 
 /// Capacity, sequences, calls in each.
 const SEQUENCES: [(usize, u64, u32); 9] = [
@@ -38,18 +29,10 @@ const SEQUENCES: [(usize, u64, u32); 9] = [
 ];
 /// Sets of damaged tables.
 const DAMAGED: u64 = 20_000;
+/// Arenas of which one thing is changed in every way of the check's list.
+const CHANGED: u64 = 2_000;
 /// What is left of the original's hashes where they are weakened.
 const WEAK_MASK: u64 = 0x3F;
-
-/// The seeds in order, none of them 0.
-struct Seeds(u64);
-
-impl Seeds {
-    fn next(&mut self) -> u64 {
-        self.0 = self.0.wrapping_add(SEED_STEP);
-        self.0.max(1)
-    }
-}
 
 fn boundaries() -> Result<(), String> {
     for (name, case) in boundary::CASES {
@@ -66,7 +49,7 @@ fn sequences(times: u64, seeds: &mut Seeds) -> Result<u64, String> {
         let start = Instant::now();
         let mut tally = Tally::default();
         for _ in 0..count * times {
-            let seed = seeds.next();
+            let seed = seeds.another();
             let plan = Plan {
                 capacity,
                 calls,
@@ -96,7 +79,7 @@ fn weakened(times: u64, seeds: &mut Seeds) -> Result<u64, String> {
         let mut plan = Plan {
             capacity: 400,
             calls: 5_000,
-            seed: seeds.next(),
+            seed: seeds.another(),
             original: Original::Absent,
         };
         let mut tally = Tally::default();
@@ -105,7 +88,7 @@ fn weakened(times: u64, seeds: &mut Seeds) -> Result<u64, String> {
         plan.original = Original::Weakened;
         let weak = run(&plan, &mut tally);
         HASH_MASK.store(u64::MAX, Relaxed);
-        if !weak?.port().is_same(whole.port()) {
+        if !weak?.port.is_same(&whole.port) {
             return Err(format!(
                 "seed {:#x}: the original's hash changes the port",
                 plan.seed
@@ -126,19 +109,43 @@ fn weakened(times: u64, seeds: &mut Seeds) -> Result<u64, String> {
 fn damaged(times: u64, seeds: &mut Seeds) -> Result<u64, String> {
     let mut damages = Damages::default();
     for _ in 0..DAMAGED * times {
-        damage::run(seeds.next(), &mut damages)?;
+        damage::run(seeds.another(), &mut damages)?;
     }
     println!(
         "damaged tables: {} sets, {} of them well formed even so, {} calls, all ended and stayed inside; {} refused, {} of them with 1",
         damages.sets, damages.well_formed, damages.calls, damages.refused, damages.refused_with_1
     );
+    println!(
+        "    the arena check on them, before the calls, after them and after a fresh arena: {} times, yes {} times, as document 01 says",
+        damages.checks, damages.said_yes
+    );
     Ok(damages.calls)
 }
 
+/// The arena check at its edges, and on tables of which one thing is changed. Answers how often it was asked.
+fn checked(times: u64, seeds: &mut Seeds) -> Result<u64, String> {
+    let edges = check::edges()?;
+    println!("the arena check at {edges} edges, on tables written by hand: as document 01 says");
+    let mut outcomes = vec![check::Outcome::default(); check::CHANGES.len()];
+    for _ in 0..CHANGED * times {
+        check::run(seeds.another(), &mut outcomes)?;
+    }
+    println!("the arena check on well-formed tables with one thing changed, as document 01 says:");
+    for ((name, _), outcome) in check::CHANGES.iter().zip(&outcomes) {
+        println!(
+            "    {name}: {} tables, {} of them well formed even so",
+            outcome.tables, outcome.well_formed
+        );
+    }
+    Ok(edges + outcomes.iter().map(|outcome| outcome.tables).sum::<u64>())
+}
+
 fn compare(times: u64) -> Result<u64, String> {
-    let mut seeds = Seeds(SEED);
+    let mut seeds = Seeds::new(SEED);
     boundaries()?;
-    Ok(sequences(times, &mut seeds)? + weakened(times, &mut seeds)? + damaged(times, &mut seeds)?)
+    let calls =
+        sequences(times, &mut seeds)? + weakened(times, &mut seeds)? + damaged(times, &mut seeds)?;
+    Ok(calls + checked(times, &mut seeds)?)
 }
 
 fn main() -> ExitCode {

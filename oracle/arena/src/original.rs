@@ -1,11 +1,11 @@
 //! The original beside document 01 with the original's order of freeing, in lockstep; and that one beside document 01 proper, up to the numbers of
 //! slots. The two orders free the same nodes, so contents and counts stay the same, but slots given out later may differ (D1).
-use crate::beside::twins_of;
 use crate::call::{Answered, Call, document};
+use crate::edit::{branch, set_voxel};
 use crate::tally::Tally;
 use reference::answer_or_panic;
 use reference::arena::{Arena, Order};
-use reference::document01::{EMPTY, index, is_leaf};
+use reference::document01::{EMPTY, index};
 use voxelis::{BlockId, VoxInterner};
 
 pub struct Companion {
@@ -33,6 +33,19 @@ impl Companion {
         }
     }
 
+    /// The original's arena, and for each slot of the port's with a node the id of the same node in the original's.
+    pub fn into_parts(self) -> (VoxInterner<u16>, Vec<u64>) {
+        (self.original, self.twins)
+    }
+
+    /// The id here of a node of document 01's arena, or EMPTY.
+    pub fn twin(&self, id: u64) -> u64 {
+        match id {
+            EMPTY => EMPTY,
+            id => self.twins[index(id) as usize],
+        }
+    }
+
     /// Runs the call that document 01's arena `proper` has just answered with `answered`.
     pub fn call(
         &mut self,
@@ -42,18 +55,11 @@ impl Companion {
         freed_before: usize,
         tally: &mut Tally,
     ) -> Result<(), String> {
-        // An id that is not live has no twin; with such an id the call was refused.
-        if answered.no == 4 {
+        // An id that is not live has no twin; with such an id the call was refused, an edit perhaps for its depth or its cell.
+        if matches!(answered.no, 2..=4) {
             return Ok(());
         }
-        let twins = &self.twins;
-        let here = call.map(|id| {
-            if id == EMPTY {
-                EMPTY
-            } else {
-                twins[index(id) as usize]
-            }
-        });
+        let here = call.map(|id| self.twin(id));
         let expected = document(&mut self.queued, &here);
         if (expected.no, expected.holds, expected.places)
             != (answered.no, answered.holds, answered.places)
@@ -84,8 +90,8 @@ impl Companion {
         }
         tally.beside_original += 1;
         self.same_lists(proper, freed_before, tally)?;
+        self.pair(proper, answered.id, expected.id)?;
         if expected.id != EMPTY {
-            self.twins[index(answered.id) as usize] = expected.id;
             if self.orders_agree && expected.id != answered.id {
                 return Err(format!(
                     "the port gives {:#x}, the original {:#x}, and no order of freeing explains it",
@@ -102,6 +108,21 @@ impl Companion {
             self.same_slot(slot)?;
         }
         Ok(())
+    }
+
+    /// Notes the twins of the nodes at and below two ids that have to stand for the same content.
+    fn pair(&mut self, proper: &Arena, id: u64, queued_id: u64) -> Result<(), String> {
+        if (id == EMPTY) != (queued_id == EMPTY) {
+            return Err(format!("{id:#x} has the twin {queued_id:#x}"));
+        }
+        if self.twin(id) == queued_id {
+            return Ok(());
+        }
+        self.twins[index(id) as usize] = queued_id;
+        let children = proper.node(id).children;
+        let twins = self.queued.node(queued_id).children;
+        (children.into_iter().zip(twins))
+            .try_for_each(|(child, twin)| self.pair(proper, child, twin))
     }
 
     /// Compares every slot.
@@ -174,7 +195,7 @@ impl Companion {
         if other.id == twin
             && (other.value, other.height) == (node.value, node.height)
             && (other.holds, other.places) == (node.holds, node.places)
-            && other.children == twins_of(node.children, &self.twins)
+            && other.children == node.children.map(|id| self.twin(id))
         {
             return Ok(());
         }
@@ -184,19 +205,11 @@ impl Companion {
     }
 }
 
-/// The call on the original: the id that it answers, or the count of references, or EMPTY. The original wants the two bytes of a branch from its
-/// caller.
+/// The call on the original: the id that it answers, or the count of references, or EMPTY.
 fn on_original(original: &mut VoxInterner<u16>, call: &Call<u64>) -> u64 {
     match *call {
         Call::Leaf(value) => original.get_or_create_leaf(value).raw(),
-        Call::Branch(children) => {
-            let bits = |is: fn(u64) -> bool| {
-                (0..8).fold(0, |byte, i| byte | u8::from(is(children[i])) << i)
-            };
-            let (types, mask) = (bits(is_leaf), bits(|id| id != EMPTY));
-            let children = children.map(BlockId::from_raw);
-            original.get_or_create_branch(children, types, mask).raw()
-        }
+        Call::Branch(children) => branch(original, children.map(BlockId::from_raw)).raw(),
         Call::Hold(id) => {
             original.inc_ref(&BlockId::from_raw(id));
             EMPTY
@@ -206,5 +219,6 @@ fn on_original(original: &mut VoxInterner<u16>, call: &Call<u64>) -> u64 {
             EMPTY
         }
         Call::Counts(id) => original.get_ref(&BlockId::from_raw(id)).into(),
+        Call::Edit(root, voxel) => set_voxel(original, BlockId::from_raw(root), voxel).raw(),
     }
 }

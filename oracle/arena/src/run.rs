@@ -36,12 +36,12 @@ fn play(
     for _ in 0..plan.calls {
         let (number, call) = sequence.next(beside.document());
         if let Some(record) = &mut record {
-            record.push((number, call.clone()));
+            record.push((number, call));
         }
         let answered = beside.call(&call.map(|id| id.raw), tally)?;
         sequence.learn(&call, &answered, beside.document());
     }
-    beside.same_everywhere()?;
+    beside.same_everywhere(tally)?;
     Ok(beside)
 }
 
@@ -57,7 +57,7 @@ pub fn drain(beside: &mut Beside, tally: &mut Tally) -> Result<(), String> {
             beside.call(&Call::Release(id), tally)?;
         }
     }
-    beside.same_everywhere()?;
+    beside.same_everywhere(tally)?;
     if beside.document().live() != 0 {
         return Err("nodes are live that nobody holds".to_string());
     }
@@ -77,7 +77,7 @@ fn replay(plan: &Plan, calls: &[(u32, Call<Traced>)]) -> Result<(), String> {
         let answered = beside.call(&call, &mut tally)?;
         answers.insert(*number, answered.id);
     }
-    beside.same_everywhere()
+    beside.same_everywhere(&mut tally)
 }
 
 /// Leaves out calls, many at a time and then fewer, as long as a difference stays.

@@ -22,6 +22,9 @@ pub struct Tally {
     most_recycled: usize,
     reused: u64,
     most_generation: u16,
+    /// How often every slot was compared after a call, and how often the arena check was asked.
+    pub whole: u64,
+    pub checks: u64,
     /// Accepted calls that ran on the original too.
     pub beside_original: u64,
     pub same_id: u64,
@@ -64,6 +67,8 @@ impl Tally {
             Call::Hold(_) => self.holds += 1,
             Call::Release(_) => self.releases += 1,
             Call::Counts(_) => self.counts += 1,
+            // The program `edits` counts these.
+            Call::Edit(_, _) => {}
         }
         if is_fresh {
             self.most_generation = self.most_generation.max(generation(answered.id));
@@ -98,8 +103,13 @@ impl fmt::Display for Tally {
         }
         writeln!(
             f,
-            "; recycled {} slots, at most {} in one release; {} slots given out again, to generation {:#x}",
-            self.recycled, self.most_recycled, self.reused, self.most_generation
+            "; recycled {} slots, at most {} in one release; {} slots given out again, to generation {:#x}; every slot compared {} times; the arena check said yes {} times",
+            self.recycled,
+            self.most_recycled,
+            self.reused,
+            self.most_generation,
+            self.whole,
+            self.checks
         )?;
         write!(
             f,

@@ -1,5 +1,8 @@
-//! Times the port's arena beside the original's: the same driver on the same inputs, in turn, in one run. To be built with --profile unchecked, so
-//! that the original runs as in a user's release build.
+//! Times the port's arena, reading and edits beside the original's: the same driver on the same inputs, in turn, in one run. To be built with
+//! --profile unchecked, so that the original runs as in a user's release build.
+mod edits;
+mod reading;
+mod refused;
 mod stores;
 mod work;
 
@@ -29,6 +32,12 @@ fn compare(
         port / original,
         port_middle / original_middle,
     );
+}
+
+/// Prints a line of the table for what only the port has, or only the machine.
+fn alone(name: &str, rounds: usize, mut work: impl FnMut() -> Nanoseconds) {
+    let (least, middle) = summary((0..rounds).map(|_| work()).collect());
+    println!("| {name:44} | {least:7.1} |         |       | {middle:7.1} |         |       |");
 }
 
 /// Both sides of one function of `work`.
@@ -74,4 +83,7 @@ fn main() {
     both!("release of chains of 7, for each node", release_chains());
     both!("release of trees of 73, for each node", release_trees());
     both!("cell set by a path copy, old root released", path_copies());
+    refused::rows();
+    reading::all();
+    edits::rows();
 }

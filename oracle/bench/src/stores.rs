@@ -32,7 +32,7 @@ pub trait Store {
 
 /// The port's tables and state.
 pub struct Port {
-    arena: Arena,
+    pub arena: Arena,
     kids: Vec<u64>,
     facts: Vec<u64>,
     find: Vec<u16>,
@@ -40,7 +40,7 @@ pub struct Port {
 
 impl Port {
     #[inline(always)]
-    fn parts(&mut self) -> (Arena, Tables<'_>) {
+    pub fn parts(&mut self) -> (Arena, Tables<'_>) {
         let tables = Tables {
             kids: &mut self.kids,
             facts: &mut self.facts,

@@ -5,10 +5,10 @@ use reference::Random;
 use std::hint::black_box;
 use std::time::Instant;
 
-const CAPACITY: usize = 65_536;
-const SEED: u64 = 0x0A0B_0C0D_0E0F_1011;
+pub const CAPACITY: usize = 65_536;
+pub const SEED: u64 = 0x0A0B_0C0D_0E0F_1011;
 /// How many calls are timed together. A batch is short, so that some rounds run undisturbed.
-const BATCH: usize = 1_000;
+pub const BATCH: usize = 1_000;
 /// How many leaves stand below the branches.
 const LEAVES: usize = 2_000;
 /// How many branches stand over them.
@@ -17,7 +17,7 @@ const BRANCHES: usize = 30_000;
 /// Nanoseconds for each timed call.
 pub type Nanoseconds = f64;
 
-fn timed(count: usize, work: impl FnOnce()) -> Nanoseconds {
+pub fn timed(count: usize, work: impl FnOnce()) -> Nanoseconds {
     let start = Instant::now();
     work();
     start.elapsed().as_nanos() as f64 / count as f64
@@ -44,7 +44,7 @@ impl<T: Clone> Batches<T> {
 }
 
 /// Different values, in an order at random.
-fn values() -> Vec<u16> {
+pub fn values() -> Vec<u16> {
     let mut random = Random::new(SEED);
     let mut values: Vec<u16> = (1..=65_535).collect();
     for at in (1..values.len()).rev() {

@@ -1,18 +1,17 @@
 //! The arena's departures, each at its smallest input. What the port does is what document 01's arena does at the same input.
+use crate::reading::look;
 use crate::show;
-use glam::IVec3;
 use reference::arena::{Arena, Order};
 use reference::document01::{self, EMPTY};
 use std::hint::black_box;
 use std::sync::atomic::Ordering::Relaxed;
 use voxelis::interner::{Children, HASH_MASK};
-use voxelis::utils::common::{get_at_depth, to_vec};
-use voxelis::{BlockId, MaxDepth, TraversalDepth, VoxInterner};
+use voxelis::{BlockId, VoxInterner};
 
-const NONE: BlockId = BlockId::EMPTY;
+pub const NONE: BlockId = BlockId::EMPTY;
 
 /// An original arena of so many slots.
-fn original(capacity: usize) -> VoxInterner<u16> {
+pub fn original(capacity: usize) -> VoxInterner<u16> {
     VoxInterner::with_memory_budget(capacity * VoxInterner::<u16>::node_size())
 }
 
@@ -27,13 +26,13 @@ fn bytes(children: &Children) -> (u8, u8) {
     (bits(BlockId::is_leaf), bits(|id| !id.is_empty()))
 }
 
-fn branch(arena: &mut VoxInterner<u16>, children: Children) -> BlockId {
+pub fn branch(arena: &mut VoxInterner<u16>, children: Children) -> BlockId {
     let (types, mask) = bytes(&children);
     arena.get_or_create_branch(children, types, mask)
 }
 
 /// Children of which the first are these.
-fn first<const N: usize, Id: Copy>(given: [Id; N], none: Id) -> [Id; 8] {
+pub fn first<const N: usize, Id: Copy>(given: [Id; N], none: Id) -> [Id; 8] {
     let mut children = [none; 8];
     children[..N].copy_from_slice(&given);
     children
@@ -50,10 +49,6 @@ fn counts(arena: &VoxInterner<u16>) -> Vec<u32> {
     (0..arena.next_slot())
         .map(|slot| arena.slot_view(slot).ref_count)
         .collect()
-}
-
-fn look(arena: &VoxInterner<u16>, id: BlockId, depth: u8) -> Option<u16> {
-    get_at_depth(arena, id, &IVec3::ZERO, &TraversalDepth::new(0, depth))
 }
 
 fn freeing() {
@@ -222,7 +217,7 @@ fn empty() {
         || {
             let mut arena = original(8);
             let leaf = arena.get_or_create_leaf(black_box(0));
-            (leaf, look(&arena, leaf, 0))
+            (leaf, look(&arena, leaf, [0; 3], 0))
         },
         &number(mine.intern_leaf(0).0),
     );
@@ -283,40 +278,6 @@ fn liveness() {
             mine.release(leaf);
             number(mine.hold(1 << 63 | 1 << 32 | 1))
         },
-    );
-}
-
-fn reading() {
-    let mut arena = original(8);
-    let leaf = arena.get_or_create_leaf(1);
-    let low = branch(&mut arena, first([leaf], NONE));
-    show(
-        "D13",
-        "branch[leaf 1] at depth 0, looked up and expanded",
-        || (look(&arena, low, 0), to_vec(&arena, &low, MaxDepth::new(0))),
-        "answers 0 for both",
-    );
-    let reused = || {
-        let mut arena = original(8);
-        let leaf = arena.get_or_create_leaf(5);
-        arena.dec_ref_recursive(&leaf);
-        arena.get_or_create_leaf(6);
-        (arena, leaf)
-    };
-    show(
-        "D15",
-        "leaf 5, release, leaf 6; the first id looked up",
-        || {
-            let (arena, leaf) = reused();
-            look(&arena, leaf, 1)
-        },
-        "refuses with 4",
-    );
-    show(
-        "D16",
-        "INVALID looked up",
-        || look(&original(8), BlockId::INVALID, 1),
-        "refuses with 4",
     );
 }
 
@@ -382,6 +343,5 @@ pub fn all() {
     missing_holds();
     empty();
     liveness();
-    reading();
     limits();
 }

@@ -1,6 +1,7 @@
-//! Shows on the original what docs/DIFFERENCES.md says of ids, paths and the arena: each departure at its smallest input. The original's own checks are on
+//! Shows on the original what docs/DIFFERENCES.md says of ids, paths, the arena and reading: each departure at its smallest input. The original's own checks are on
 //! under --release and off under --profile unchecked.
 mod arena;
+mod reading;
 
 use glam::IVec3;
 use reference::{answer_or_panic, document01};
@@ -180,4 +181,5 @@ fn main() {
     inverse();
     forms();
     arena::all();
+    reading::all();
 }

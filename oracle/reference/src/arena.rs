@@ -99,7 +99,7 @@ impl Arena {
         id != EMPTY && (self.slots.get(index(id) as usize)).is_some_and(|slot| slot.id == id)
     }
 
-    fn is_empty_or_live(&self, id: u64) -> bool {
+    pub(crate) fn is_empty_or_live(&self, id: u64) -> bool {
         id == EMPTY || self.is_live(id)
     }
 
@@ -117,8 +117,13 @@ impl Arena {
         if id == EMPTY { 0 } else { self.node(id).height }
     }
 
-    fn value(&self, id: u64) -> u16 {
+    pub(crate) fn value(&self, id: u64) -> u16 {
         if id == EMPTY { 0 } else { self.node(id).value }
+    }
+
+    /// The id of the live leaf of this value.
+    pub fn leaf_of(&self, value: u16) -> Option<u64> {
+        (self.leaves.get(&value)).map(|slot| self.slots[*slot as usize].id)
     }
 
     /// The id of the live branch with these children.
@@ -136,27 +141,19 @@ impl Arena {
         slot
     }
 
+    /// A call begins: it has touched nothing yet.
+    pub(crate) fn begin(&mut self) {
+        self.touched.clear();
+    }
+
     /// One more hold on a node that is there.
-    fn hit(&mut self, slot: u32) -> (u32, u64) {
-        let id = self.slots[slot as usize].id;
+    pub(crate) fn grant(&mut self, id: u64) -> (u32, u64) {
         self.node_mut(id).holds += 1;
         (0, id)
     }
 
-    pub fn intern_leaf(&mut self, value: u16) -> (u32, u64) {
-        self.touched.clear();
-        if value == 0 {
-            return (6, INVALID);
-        }
-        if let Some(&slot) = self.leaves.get(&value) {
-            if self.slots[slot as usize].holds >= MOST_HOLDS {
-                return (10, INVALID);
-            }
-            return self.hit(slot);
-        }
-        if self.is_full() {
-            return (11, INVALID);
-        }
+    /// A fresh leaf, with no hold and no place yet, in an arena that is not full.
+    pub(crate) fn fresh_leaf(&mut self, value: u16) -> u64 {
         let slot = self.give_out();
         let generation = self.slots[slot as usize].generation;
         let (_, id) = new_leaf(slot, generation);
@@ -165,51 +162,17 @@ impl Arena {
             generation,
             value,
             height: 0,
-            holds: 1,
+            holds: 0,
             places: 0,
             children: [EMPTY; 8],
         };
         self.leaves.insert(value, slot);
-        (0, id)
+        id
     }
 
-    /// The number of the refusal of interning a branch, or 0; the slot that has these children.
-    fn branch_refusal(&self, children: &[u64; 8]) -> (u32, Option<u32>) {
-        if children.iter().any(|id| !self.is_empty_or_live(*id)) {
-            return (4, None);
-        }
-        let places_of = |id: u64| children.iter().filter(|child| **child == id).count();
-        let lacks_holds = |id: u64| id != EMPTY && (self.node(id).holds as usize) < places_of(id);
-        if children.iter().any(|id| lacks_holds(*id)) {
-            return (5, None);
-        }
-        if *children == [EMPTY; 8] {
-            return (7, None);
-        }
-        if children.iter().any(|id| self.height(*id) >= TALLEST) {
-            return (8, None);
-        }
-        match self.branches.get(children) {
-            Some(&slot) if self.slots[slot as usize].holds >= MOST_HOLDS => (10, None),
-            None if self.is_full() => (11, None),
-            hit => (0, hit.copied()),
-        }
-    }
-
-    pub fn intern_branch(&mut self, children: [u64; 8]) -> (u32, u64) {
-        self.touched.clear();
-        let (refusal, hit) = self.branch_refusal(&children);
-        if refusal != 0 {
-            return (refusal, INVALID);
-        }
-        let given = children.iter().filter(|id| **id != EMPTY);
-        for &id in given.clone() {
-            self.node_mut(id).holds -= 1;
-        }
-        if let Some(slot) = hit {
-            return self.hit(slot);
-        }
-        for &id in given {
+    /// A fresh branch, with no hold and no place yet, in an arena that is not full. Each child place counts.
+    pub(crate) fn fresh_branch(&mut self, children: [u64; 8]) -> u64 {
+        for &id in children.iter().filter(|id| **id != EMPTY) {
             self.node_mut(id).places += 1;
         }
         let bits =
@@ -225,16 +188,70 @@ impl Arena {
             generation,
             value: (sum / 8) as u16,
             height: tallest.unwrap() + 1,
-            holds: 1,
+            holds: 0,
             places: 0,
             children,
         };
         self.branches.insert(children, slot);
-        (0, id)
+        id
+    }
+
+    pub fn intern_leaf(&mut self, value: u16) -> (u32, u64) {
+        self.begin();
+        if value == 0 {
+            return (6, INVALID);
+        }
+        if let Some(id) = self.leaf_of(value) {
+            if self.node(id).holds >= MOST_HOLDS {
+                return (10, INVALID);
+            }
+            return self.grant(id);
+        }
+        if self.is_full() {
+            return (11, INVALID);
+        }
+        let id = self.fresh_leaf(value);
+        self.grant(id)
+    }
+
+    /// The number of the refusal of interning a branch, or 0; the live node that has these children.
+    fn branch_refusal(&self, children: &[u64; 8]) -> (u32, Option<u64>) {
+        if children.iter().any(|id| !self.is_empty_or_live(*id)) {
+            return (4, None);
+        }
+        let places_of = |id: u64| children.iter().filter(|child| **child == id).count();
+        let lacks_holds = |id: u64| id != EMPTY && (self.node(id).holds as usize) < places_of(id);
+        if children.iter().any(|id| lacks_holds(*id)) {
+            return (5, None);
+        }
+        if *children == [EMPTY; 8] {
+            return (7, None);
+        }
+        if children.iter().any(|id| self.height(*id) >= TALLEST) {
+            return (8, None);
+        }
+        match self.branch_of(children) {
+            Some(id) if self.node(id).holds >= MOST_HOLDS => (10, None),
+            None if self.is_full() => (11, None),
+            hit => (0, hit),
+        }
+    }
+
+    pub fn intern_branch(&mut self, children: [u64; 8]) -> (u32, u64) {
+        self.begin();
+        let (refusal, hit) = self.branch_refusal(&children);
+        if refusal != 0 {
+            return (refusal, INVALID);
+        }
+        for &id in children.iter().filter(|id| **id != EMPTY) {
+            self.node_mut(id).holds -= 1;
+        }
+        let id = hit.unwrap_or_else(|| self.fresh_branch(children));
+        self.grant(id)
     }
 
     pub fn hold(&mut self, id: u64) -> u32 {
-        self.touched.clear();
+        self.begin();
         if !self.is_empty_or_live(id) {
             return 4;
         }
@@ -250,7 +267,7 @@ impl Arena {
 
     /// The number of the refusal, holds and places.
     pub fn counts(&mut self, id: u64) -> (u32, u64, u64) {
-        self.touched.clear();
+        self.begin();
         if !self.is_empty_or_live(id) {
             return (4, 0, 0);
         }
@@ -262,7 +279,7 @@ impl Arena {
     }
 
     pub fn release(&mut self, id: u64) -> u32 {
-        self.touched.clear();
+        self.begin();
         if !self.is_empty_or_live(id) {
             return 4;
         }

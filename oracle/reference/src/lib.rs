@@ -1,9 +1,11 @@
 //! What the programs of this workspace share: document 01 as plain Rust, numbers at random, and the original's answer or panic.
 pub mod arena;
 pub mod document01;
+mod edit;
 mod panics;
 mod random;
+pub mod reading;
 pub mod tables;
 
 pub use panics::{answer_or_panic, quiet};
-pub use random::Random;
+pub use random::{Random, Seeds};

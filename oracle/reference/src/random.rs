@@ -36,3 +36,17 @@ impl Random {
         list[self.below(list.len())]
     }
 }
+
+/// Seeds in order, each a step on from the one before, none of them 0.
+pub struct Seeds(u64);
+
+impl Seeds {
+    pub fn new(first: u64) -> Self {
+        Self(first)
+    }
+
+    pub fn another(&mut self) -> u64 {
+        self.0 = self.0.wrapping_add(0x9E37_79B9_7F4A_7C15);
+        self.0.max(1)
+    }
+}

@@ -30,7 +30,11 @@ pub struct Tables<'a> {
 /// The first cell in which the port's search looks for a content, by crates/finding. No answer depends on it, but whether a search finds a node does.
 pub fn home(capacity: usize, children: &[u64], value: u64) -> usize {
     let mix = |hash: u64, child: &u64| hash.wrapping_mul(37).wrapping_add(*child);
-    (children.iter().fold(value, mix) % (2 * capacity as u64)) as usize
+    let low = children[..4].iter().fold(value, mix);
+    let high = children[4..].iter().fold(0, mix);
+    let hash = mix(low, &mix(high, &high));
+    let spread = (hash as u32).wrapping_mul(0x9E37_79B1);
+    ((u64::from(spread) * 2 * capacity as u64) >> 32) as usize
 }
 
 impl<'a> Tables<'a> {
@@ -58,6 +62,21 @@ impl<'a> Tables<'a> {
     pub fn is_live(&self, id: u64) -> bool {
         let slot = index(id) as usize;
         id >= FLOOR && slot < self.capacity && self.fact(slot, OWN) == id
+    }
+
+    /// The child of that number in the slot that a branch's id names. On tables that are not well formed, EMPTY where there is no such slot.
+    pub fn child(&self, id: u64, number: u32) -> u64 {
+        let at = 8 * index(id) as usize + number as usize;
+        self.kids.get(at).copied().unwrap_or(EMPTY)
+    }
+
+    /// The stored value of an id; EMPTY has 0. On tables that are not well formed, the low 16 bits, and 0 where there is no such slot.
+    pub fn value(&self, id: u64) -> u16 {
+        if id == EMPTY {
+            return 0;
+        }
+        let at = 7 * index(id) as usize + VALUE;
+        self.facts.get(at).copied().unwrap_or(0) as u16
     }
 
     /// The error names the first rule that is broken.
