@@ -1,0 +1,325 @@
+use crate::ffi::Tables;
+use crate::{Cell, Id, MAX_DEPTH, Refusal};
+use std::cell::RefCell;
+use std::fmt;
+use std::rc::Rc;
+
+/// A store of nodes with a fixed number of slots, of 126 bytes each. A clone is the same store, which stays as long as it or any of its roots does.
+///
+/// ```
+/// use fenpiling::{Arena, Refusal};
+///
+/// let arena = Arena::new(512)?;
+/// assert_eq!((arena.capacity(), arena.live()), (512, 0));
+/// assert_eq!(Arena::new(1).err(), Some(Refusal::Size));
+/// # Ok::<(), Refusal>(())
+/// ```
+#[derive(Clone)]
+pub struct Arena {
+    tables: Rc<RefCell<Tables>>,
+}
+
+/// The two counts of a node.
+#[derive(Clone, Copy, Debug, PartialEq, Eq)]
+pub struct Counts {
+    /// The roots that hold it.
+    pub holds: u64,
+    /// The child places of live branches that name it.
+    pub places: u64,
+}
+
+impl Arena {
+    /// A fresh arena of so many slots, 2 to 65,536; slot 0 is never given out. Refusal: [`Size`](Refusal::Size).
+    pub fn new(capacity: usize) -> Result<Arena, Refusal> {
+        let tables = Tables::fresh(capacity)?;
+        Ok(Arena {
+            tables: Rc::new(RefCell::new(tables)),
+        })
+    }
+
+    /// The number of slots.
+    pub fn capacity(&self) -> usize {
+        self.tables.borrow().capacity()
+    }
+
+    /// How many nodes are live.
+    pub fn live(&self) -> usize {
+        self.tables.borrow().live()
+    }
+
+    /// How many more nodes there is room for.
+    pub fn free(&self) -> usize {
+        self.capacity() - 1 - self.live()
+    }
+
+    /// The model with nothing in it.
+    pub fn empty(&self) -> Root {
+        self.own(Id::EMPTY)
+    }
+
+    /// The leaf of a value: the live one if there is one, else a fresh one. Refusals: [`ZeroLeaf`](Refusal::ZeroLeaf),
+    /// [`ManyHolds`](Refusal::ManyHolds), [`Full`](Refusal::Full).
+    pub fn intern_leaf(&self, value: u16) -> Result<Root, Refusal> {
+        let id = self.tables.borrow_mut().intern_leaf(value)?;
+        Ok(self.own(id))
+    }
+
+    /// The branch of eight children: the live one if there is one, else a fresh one. It uses up the children; where it refuses they come back.
+    /// Refusals: [`NotLive`](Refusal::NotLive) for a root of another arena, [`AllEmpty`](Refusal::AllEmpty), [`Tall`](Refusal::Tall),
+    /// [`ManyHolds`](Refusal::ManyHolds), [`Full`](Refusal::Full).
+    ///
+    /// ```
+    /// use fenpiling::{Arena, Cell};
+    ///
+    /// # fn main() -> Result<(), fenpiling::Refusal> {
+    /// let arena = Arena::new(512)?;
+    /// let mut octants = [(); 8].map(|()| arena.empty());
+    /// octants[1] = arena.intern_leaf(40)?;
+    /// let model = arena.intern_branch(octants)?;
+    /// assert_eq!(model.lookup(1, Cell::new(1, 0, 0))?, 40);
+    /// assert_eq!(model.lookup(0, Cell::new(0, 0, 0))?, 5);
+    /// # Ok(())
+    /// # }
+    /// ```
+    ///
+    /// ```compile_fail,E0382
+    /// # let arena = fenpiling::Arena::new(512).unwrap();
+    /// let octants = [(); 8].map(|()| arena.intern_leaf(40).unwrap());
+    /// let model = arena.intern_branch(octants);
+    /// println!("{}", octants[0]);
+    /// ```
+    pub fn intern_branch(&self, mut children: [Root; 8]) -> Result<Root, BranchRefused> {
+        let foreign = |child: &Root| !child.id.is_empty() && !self.has(child);
+        let made = if children.iter().any(foreign) {
+            Err(Refusal::NotLive)
+        } else {
+            let ids = children.each_ref().map(Root::id);
+            self.tables.borrow_mut().intern_branch(ids)
+        };
+        match made {
+            Ok(id) => {
+                // their holds are used up
+                for child in &mut children {
+                    child.id = Id::EMPTY;
+                }
+                Ok(self.own(id))
+            }
+            Err(refusal) => Err(BranchRefused {
+                refusal,
+                children: Box::new(children),
+            }),
+        }
+    }
+
+    /// One more root of a live node, or of EMPTY. Refusals: [`NotLive`](Refusal::NotLive), [`ManyHolds`](Refusal::ManyHolds).
+    ///
+    /// ```
+    /// use fenpiling::{Arena, Refusal};
+    ///
+    /// let arena = Arena::new(512)?;
+    /// let leaf = arena.intern_leaf(7)?;
+    /// let id = leaf.id();
+    /// assert_eq!(arena.hold(id)?, leaf);
+    /// drop(leaf);
+    /// assert_eq!(arena.hold(id).err(), Some(Refusal::NotLive));
+    /// # Ok::<(), Refusal>(())
+    /// ```
+    pub fn hold(&self, id: Id) -> Result<Root, Refusal> {
+        self.tables.borrow_mut().hold(id)?;
+        Ok(self.own(id))
+    }
+
+    /// The counts of a node; 0 and 0 for EMPTY. Refusal: [`NotLive`](Refusal::NotLive).
+    pub fn counts(&self, id: Id) -> Result<Counts, Refusal> {
+        self.tables.borrow_mut().counts(id)
+    }
+
+    /// Is the arena well formed? All calls keep it so.
+    pub fn check(&self) -> bool {
+        self.tables.borrow_mut().check()
+    }
+
+    /// Is the root one of this arena's?
+    pub fn has(&self, root: &Root) -> bool {
+        Rc::ptr_eq(&self.tables, &root.arena.tables)
+    }
+
+    /// The root that owns a hold just granted on the node, or that stands for EMPTY.
+    fn own(&self, id: Id) -> Root {
+        Root {
+            arena: self.clone(),
+            id,
+        }
+    }
+}
+
+/// A model: the id of its root node with one hold on it, which goes back when this is dropped.
+///
+/// Two roots are equal if they are of one arena and have the same id. Models made by edits alone have the same cells exactly then.
+///
+/// ```
+/// use fenpiling::{Arena, Cell};
+///
+/// # fn main() -> Result<(), fenpiling::Refusal> {
+/// let arena = Arena::new(512)?;
+/// let (here, there) = (Cell::new(0, 0, 0), Cell::new(63, 63, 63));
+/// let one = arena.empty().edit(6, here, 5)?.edit(6, there, 9)?;
+/// let other = arena.empty().edit(6, there, 9)?.edit(6, here, 5)?;
+/// assert_eq!(one, other);
+/// assert_eq!(one.counts().holds, 2);
+/// drop(other);
+/// assert_eq!(one.counts().holds, 1);
+/// drop(one);
+/// assert_eq!(arena.live(), 0);
+/// # Ok(())
+/// # }
+/// ```
+pub struct Root {
+    arena: Arena,
+    id: Id,
+}
+
+impl Root {
+    /// The id of the root node.
+    pub fn id(&self) -> Id {
+        self.id
+    }
+
+    /// The arena of the model.
+    pub fn arena(&self) -> &Arena {
+        &self.arena
+    }
+
+    /// One more root of the model. Refusal: [`ManyHolds`](Refusal::ManyHolds).
+    pub fn try_clone(&self) -> Result<Root, Refusal> {
+        self.arena.hold(self.id)
+    }
+
+    /// The counts of the root node.
+    pub fn counts(&self) -> Counts {
+        let counts = self.arena.counts(self.id);
+        counts.expect("a root's node is live")
+    }
+
+    /// The value of a cell: down from the root to EMPTY (0), a leaf (its value) or level `depth` (the stored value, which is a branch's average).
+    /// Refusals: [`Depth`](Refusal::Depth), [`Position`](Refusal::Position).
+    pub fn lookup(&self, depth: u32, cell: Cell) -> Result<u16, Refusal> {
+        self.arena.tables.borrow_mut().lookup(self.id, depth, cell)
+    }
+
+    /// The model that has this value in one cell, and in all others the values of this one. Refusals: [`Depth`](Refusal::Depth),
+    /// [`Position`](Refusal::Position), [`Tall`](Refusal::Tall), [`ManyHolds`](Refusal::ManyHolds), [`Full`](Refusal::Full).
+    ///
+    /// ```
+    /// use fenpiling::{Arena, Cell, Refusal};
+    ///
+    /// let arena = Arena::new(512)?;
+    /// let model = arena.empty().edit(6, Cell::new(63, 0, 0), 5)?;
+    /// assert_eq!(model.edit(6, Cell::new(64, 0, 0), 5).err(), Some(Refusal::Position));
+    /// assert_eq!(model.edit(6, Cell::new(63, 0, 0), 0)?, arena.empty());
+    /// # Ok::<(), Refusal>(())
+    /// ```
+    pub fn edit(&self, depth: u32, cell: Cell, value: u16) -> Result<Root, Refusal> {
+        let mut tables = self.arena.tables.borrow_mut();
+        let id = tables.edit(self.id, depth, cell, value)?;
+        Ok(self.arena.own(id))
+    }
+
+    /// The values of all 8^depth cells; cell (x, y, z) stands at y·4^depth + z·2^depth + x. Refusal: [`Depth`](Refusal::Depth).
+    ///
+    /// ```
+    /// use fenpiling::{Arena, Cell, Refusal};
+    ///
+    /// let model = Arena::new(512)?.empty().edit(1, Cell::new(0, 1, 0), 5)?;
+    /// assert_eq!(model.expand(1)?, [0, 0, 0, 0, 5, 0, 0, 0]);
+    /// # Ok::<(), Refusal>(())
+    /// ```
+    pub fn expand(&self, depth: u32) -> Result<Vec<u16>, Refusal> {
+        // a depth that will be refused takes no memory
+        let cells = if depth <= MAX_DEPTH {
+            1 << (3 * depth)
+        } else {
+            0
+        };
+        let mut cube = vec![0; cells];
+        self.expand_into(depth, &mut cube)?;
+        Ok(cube)
+    }
+
+    /// Writes what [`expand`](Root::expand) answers into a buffer. Refusals: [`Depth`](Refusal::Depth), [`Cube`](Refusal::Cube).
+    pub fn expand_into(&self, depth: u32, cube: &mut [u16]) -> Result<(), Refusal> {
+        self.arena.tables.borrow_mut().expand(self.id, depth, cube)
+    }
+}
+
+impl Clone for Root {
+    /// One more root of the model.
+    ///
+    /// # Panics
+    ///
+    /// Where the node already has 1,000,000 holds; [`try_clone`](Root::try_clone) refuses there.
+    fn clone(&self) -> Root {
+        let clone = self.try_clone();
+        clone.expect("at most 1,000,000 roots of one node")
+    }
+}
+
+impl Drop for Root {
+    fn drop(&mut self) {
+        let released = self.arena.tables.borrow_mut().release(self.id);
+        debug_assert_eq!(released, Ok(()), "a root has its hold");
+    }
+}
+
+impl PartialEq for Root {
+    fn eq(&self, other: &Root) -> bool {
+        self.arena.has(other) && self.id == other.id
+    }
+}
+
+impl Eq for Root {}
+
+impl fmt::Display for Root {
+    /// The text of the id.
+    fn fmt(&self, f: &mut fmt::Formatter<'_>) -> fmt::Result {
+        fmt::Display::fmt(&self.id, f)
+    }
+}
+
+impl fmt::Debug for Root {
+    fn fmt(&self, f: &mut fmt::Formatter<'_>) -> fmt::Result {
+        fmt::Display::fmt(&self.id, f)
+    }
+}
+
+impl fmt::Debug for Arena {
+    fn fmt(&self, f: &mut fmt::Formatter<'_>) -> fmt::Result {
+        f.debug_struct("Arena")
+            .field("capacity", &self.capacity())
+            .field("live", &self.live())
+            .finish()
+    }
+}
+
+/// A branch was refused: why, and its children.
+#[derive(Debug)]
+pub struct BranchRefused {
+    /// Why.
+    pub refusal: Refusal,
+    /// The children, with their holds.
+    pub children: Box<[Root; 8]>,
+}
+
+impl fmt::Display for BranchRefused {
+    fn fmt(&self, f: &mut fmt::Formatter<'_>) -> fmt::Result {
+        fmt::Display::fmt(&self.refusal, f)
+    }
+}
+
+impl std::error::Error for BranchRefused {}
+
+impl From<BranchRefused> for Refusal {
+    fn from(refused: BranchRefused) -> Refusal {
+        refused.refusal
+    }
+}

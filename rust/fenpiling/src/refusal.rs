@@ -1,0 +1,88 @@
+use std::fmt;
+
+/// Why a call was refused: the lowest number that applies. A refused call has changed nothing.
+#[derive(Clone, Copy, Debug, PartialEq, Eq, Hash)]
+#[repr(u32)]
+pub enum Refusal {
+    /// The capacity is not 2 to 65,536.
+    Size = 1,
+    /// The depth is above 6, or a child number is asked at a level not below the depth.
+    Depth = 2,
+    /// A coordinate is below 0 or at least 2^depth, or a path code is 2^30 or more.
+    Position = 3,
+    /// An id is neither EMPTY nor live in this arena.
+    NotLive = 4,
+    /// Fewer holds than the call would take. Roots have their holds, so that this crate never meets it.
+    FewHolds = 5,
+    /// A leaf of value 0.
+    ZeroLeaf = 6,
+    /// Eight EMPTY children.
+    AllEmpty = 7,
+    /// The new branch would be taller than 6, or the root to edit is taller than the depth.
+    Tall = 8,
+    /// The expansion buffer is not 8^depth long.
+    Cube = 9,
+    /// One hold more than the 1,000,000 that a node can have.
+    ManyHolds = 10,
+    /// More nodes of the result are not yet live than there are free slots.
+    Full = 11,
+    /// Packing with a generation above 0x7FFE.
+    Generation = 12,
+}
+
+impl Refusal {
+    const ALL: [Refusal; 12] = [
+        Refusal::Size,
+        Refusal::Depth,
+        Refusal::Position,
+        Refusal::NotLive,
+        Refusal::FewHolds,
+        Refusal::ZeroLeaf,
+        Refusal::AllEmpty,
+        Refusal::Tall,
+        Refusal::Cube,
+        Refusal::ManyHolds,
+        Refusal::Full,
+        Refusal::Generation,
+    ];
+
+    /// The refusal's number, 1 to 12.
+    pub fn number(self) -> u32 {
+        self as u32
+    }
+
+    /// What the number of an answer says: 0 is accepted.
+    pub(crate) fn accept(number: u32) -> Result<(), Refusal> {
+        match Refusal::ALL
+            .iter()
+            .find(|refusal| refusal.number() == number)
+        {
+            None if number == 0 => Ok(()),
+            None => unreachable!("the library gives no number {number}"),
+            Some(&refusal) => Err(refusal),
+        }
+    }
+}
+
+impl fmt::Display for Refusal {
+    fn fmt(&self, f: &mut fmt::Formatter<'_>) -> fmt::Result {
+        f.write_str(match self {
+            Refusal::Size => "the capacity is out of range",
+            Refusal::Depth => "the depth is above 6, or the level not below the depth",
+            Refusal::Position => "the place is outside the cube, or the path code too great",
+            Refusal::NotLive => "the id is neither EMPTY nor live in this arena",
+            Refusal::FewHolds => "fewer holds than the call would take",
+            Refusal::ZeroLeaf => "a leaf of value 0",
+            Refusal::AllEmpty => "eight EMPTY children",
+            Refusal::Tall => {
+                "the branch would be taller than 6, or the root is taller than the depth"
+            }
+            Refusal::Cube => "the buffer is not 8^depth long",
+            Refusal::ManyHolds => "the node already has 1,000,000 holds",
+            Refusal::Full => "more new nodes than free slots",
+            Refusal::Generation => "the generation is above 0x7FFE",
+        })
+    }
+}
+
+impl std::error::Error for Refusal {}

@@ -1,0 +1,330 @@
+//! A round: tables made and damaged, and calls on them, each watched.
+use crate::calls::{Call, KINDS, Tables};
+use crate::lent::{Lent, Placing, Word};
+use crate::numbers::Numbers;
+use fenpiling_sys::{Arena, Cell};
+
+/// How many calls of each kind answered each number.
+pub type Seen = [[u64; 13]; 10];
+
+/// What the tables of a round are.
+#[derive(Clone, Copy, Debug, PartialEq)]
+enum Ground {
+    /// Made by calls, and never touched by anything else.
+    Whole,
+    /// Made by calls, then changed here and there, the state too.
+    Damaged,
+    /// Words of no meaning, or of some.
+    Noise,
+    /// Tables of a wrong length.
+    Unfit,
+}
+
+struct Round<'a> {
+    numbers: Numbers,
+    ground: Ground,
+    tables: Tables,
+    arena: Arena,
+    /// Ids that calls have answered.
+    ids: Vec<u64>,
+    seen: &'a mut Seen,
+}
+
+/// Plays a round; the error tells what a call did wrong.
+pub fn play(seed: u64, heap: bool, seen: &mut Seen) -> Result<(), String> {
+    let mut numbers = Numbers(seed);
+    let capacity = match numbers.below(40) {
+        0 => 512,
+        1 if numbers.once_in(100) => 65_536,
+        2..20 => 2 + numbers.below(12),
+        _ => 2 + numbers.below(62),
+    };
+    let ground = numbers.of(&[
+        Ground::Whole,
+        Ground::Whole,
+        Ground::Damaged,
+        Ground::Damaged,
+        Ground::Damaged,
+        Ground::Noise,
+        Ground::Unfit,
+    ]);
+    let mut lengths = [8 * capacity, 7 * capacity, 3 * capacity];
+    if ground == Ground::Unfit {
+        let table = numbers.below(3);
+        lengths[table] = match numbers.below(4) {
+            0 => 0,
+            1 => lengths[table] - 1,
+            2 => lengths[table] + 1,
+            _ => numbers.below(2 * lengths[table]),
+        };
+    }
+    let cells = 1 << (3 * shallow(&mut numbers));
+    let cube = if numbers.once_in(8) { cells + 1 } else { cells };
+    let placing = if heap {
+        Placing::Heap
+    } else {
+        Placing::Paged {
+            at_end: !numbers.once_in(3),
+        }
+    };
+    let mut round = Round {
+        numbers,
+        ground,
+        tables: Tables {
+            kids: Lent::new(lengths[0], placing),
+            facts: Lent::new(lengths[1], placing),
+            find: Lent::new(lengths[2], placing),
+            cube: Lent::new(cube, placing),
+        },
+        arena: Arena {
+            capacity,
+            next: 1,
+            top: 0,
+            live: 0,
+        },
+        ids: vec![0],
+        seen,
+    };
+    round.play().map_err(|fault| {
+        format!("seed {seed}, {ground:?} tables of {capacity} slots {lengths:?}: {fault}")
+    })
+}
+
+/// A depth from 0 to 6, more often a small one.
+fn shallow(numbers: &mut Numbers) -> u32 {
+    (0..3).map(|_| numbers.below(7) as u32).min().unwrap_or(0)
+}
+
+/// Changes some words of a table: bits, odd numbers, or other words of it.
+fn damage<T: Word + Into<u64>>(numbers: &mut Numbers, words: &mut [T]) {
+    if words.is_empty() {
+        return;
+    }
+    for _ in 0..1 + numbers.below(3) {
+        let at = numbers.below(words.len());
+        let other = numbers.below(words.len());
+        words[at] = match numbers.below(3) {
+            0 => T::cut(words[at].into() ^ (1 << numbers.below(64))),
+            1 => T::cut(numbers.odd()),
+            _ => words[other],
+        };
+    }
+}
+
+impl Round<'_> {
+    fn play(&mut self) -> Result<(), String> {
+        self.make(Call::Fresh(self.arena.capacity))?;
+        if self.ground == Ground::Noise {
+            self.noise();
+        } else {
+            for _ in 0..24 {
+                let call = self.sensible();
+                self.make(call)?;
+            }
+        }
+        for _ in 0..64 {
+            if self.ground == Ground::Damaged && self.numbers.once_in(6) {
+                self.damage();
+            }
+            let call = if self.numbers.once_in(3) {
+                self.sensible()
+            } else {
+                self.wild()
+            };
+            self.make(call)?;
+        }
+        if self.ground == Ground::Whole && self.tables.call(self.arena, Call::Check).no != 0 {
+            return Err("the check says no after calls alone".into());
+        }
+        Ok(())
+    }
+
+    /// Makes a call and looks at what it did.
+    fn make(&mut self, call: Call) -> Result<(), String> {
+        let copied = (self.arena.capacity <= 512).then(|| self.tables.copy());
+        let outcome = self.tables.call(self.arena, call);
+        let fault = |what: &str| Err(format!("{call:?} on {:?} {what}", self.arena));
+        if !self.tables.canaries_live() {
+            return fault("wrote outside what it was lent");
+        }
+        if !KINDS[call.kind()].1.contains(&outcome.no) {
+            return fault("answered a number that it never gives");
+        }
+        let refused = outcome.no != 0;
+        let exact = self.ground == Ground::Whole || call.exact_on_any() || outcome.no == 1;
+        if exact && outcome.spoils {
+            return fault("refused and answered something");
+        }
+        if let Some(copied) = copied {
+            if exact && (refused || !call.changes()) && !self.tables.arena_as(&copied) {
+                return fault("changed the arena's tables");
+            }
+            if (refused || !matches!(call, Call::ToVec(..))) && !self.tables.cube_as(&copied) {
+                return fault("changed the cube");
+            }
+        }
+        self.seen[call.kind()][outcome.no as usize] += 1;
+        if !refused {
+            self.arena = outcome.arena;
+            self.ids.extend(outcome.id);
+        }
+        Ok(())
+    }
+
+    /// A call as a user makes it, mostly.
+    fn sensible(&mut self) -> Call {
+        let id = self.numbers.of(&self.ids);
+        let depth = shallow(&mut self.numbers);
+        match self.numbers.below(12) {
+            0 | 1 => Call::InternLeaf(1 + self.numbers.below(3) as u16),
+            2 => {
+                let mut children = [0; 8];
+                for child in &mut children {
+                    if self.numbers.once_in(4) {
+                        *child = self.numbers.of(&self.ids);
+                    }
+                }
+                Call::InternBranch(children)
+            }
+            3 => Call::Hold(id),
+            4..7 => Call::Release(id),
+            7 => Call::GetAtDepth(id, depth, self.cell(depth)),
+            _ => Call::SetVoxel(id, depth, self.cell(depth), self.numbers.below(4) as u16),
+        }
+    }
+
+    /// Any call with any arguments.
+    fn wild(&mut self) -> Call {
+        let id = self.id();
+        let depth = match self.numbers.below(10) {
+            0 => 7,
+            1 => self.numbers.any() as u32,
+            _ => shallow(&mut self.numbers),
+        };
+        let cell = match self.numbers.below(4) {
+            0 => Cell {
+                x: self.coordinate(depth),
+                y: self.coordinate(depth),
+                z: self.coordinate(depth),
+            },
+            _ => self.cell(depth),
+        };
+        let value = self.numbers.odd() as u16;
+        match self.numbers.below(20) {
+            0 => {
+                let capacity = self.numbers.of(&[0, 1, 2, 65_536, 65_537, usize::MAX]);
+                Call::Fresh(capacity)
+            }
+            1..4 => Call::InternLeaf(value),
+            4..6 => Call::InternBranch([(); 8].map(|()| self.id())),
+            6 => {
+                let mut children = [0; 8];
+                children[self.numbers.below(8)] = id;
+                Call::InternBranch(children)
+            }
+            7 | 8 => Call::Hold(id),
+            9..12 => Call::Release(id),
+            12 => Call::Counts(id),
+            13 => Call::Check,
+            14 | 15 => Call::GetAtDepth(id, depth, cell),
+            16 => {
+                let length = self.tables.cube.words().len();
+                let fitting = (0..=6).find(|depth| 1 << (3 * depth) == length);
+                Call::ToVec(
+                    id,
+                    fitting
+                        .filter(|_| !self.numbers.once_in(4))
+                        .unwrap_or(depth),
+                )
+            }
+            _ => Call::SetVoxel(id, depth, cell, value),
+        }
+    }
+
+    /// An id that was answered, one that the tables name, or any number.
+    fn id(&mut self) -> u64 {
+        let slot = self.numbers.below(self.arena.capacity.clamp(1, 65_536));
+        match self.numbers.below(8) {
+            0 => self.numbers.odd(),
+            1 => self.tables.kids.words().get(8 * slot).copied().unwrap_or(1),
+            2 | 3 => self
+                .tables
+                .facts
+                .words()
+                .get(7 * slot)
+                .copied()
+                .unwrap_or(1),
+            _ => self.numbers.of(&self.ids),
+        }
+    }
+
+    /// A cell of a cube of the depth.
+    fn cell(&mut self, depth: u32) -> Cell {
+        let side = 1 << depth.min(7);
+        Cell {
+            x: self.numbers.below(side) as i32,
+            y: self.numbers.below(side) as i32,
+            z: self.numbers.below(side) as i32,
+        }
+    }
+
+    fn coordinate(&mut self, depth: u32) -> i32 {
+        let edge = 1 << depth.min(30);
+        let any = self.numbers.any() as i32;
+        self.numbers
+            .of(&[0, -1, edge - 1, edge, i32::MIN, i32::MAX, any])
+    }
+
+    /// Changes words of the tables, or of the state.
+    fn damage(&mut self) {
+        let numbers = &mut self.numbers;
+        match numbers.below(4) {
+            0 => damage(numbers, self.tables.kids.words()),
+            1 => damage(numbers, self.tables.facts.words()),
+            2 => damage(numbers, self.tables.find.words()),
+            _ => {
+                let odd = numbers.odd() as usize;
+                match numbers.below(8) {
+                    0 => self.arena.capacity = odd,
+                    1..4 => self.arena.next = odd,
+                    4..6 => self.arena.top = odd,
+                    _ => self.arena.live = odd,
+                }
+            }
+        }
+    }
+
+    /// Fills the tables with numbers that lead somewhere: slots, ids of slots, odd ones; the state too.
+    fn noise(&mut self) {
+        let numbers = &mut self.numbers;
+        let capacity = self.arena.capacity;
+        let full = numbers.of(&[1, 2, 8]);
+        let number = |numbers: &mut Numbers| match numbers.below(full + 2) {
+            0 => numbers.odd(),
+            1 => 0,
+            _ => {
+                let leaf = numbers.any() & (1 << 63);
+                let kinds = numbers.any() & (0xFFFF << 47);
+                leaf | kinds | numbers.below(capacity) as u64
+            }
+        };
+        self.tables.kids.words().fill_with(|| number(numbers));
+        for (at, word) in self.tables.facts.words().iter_mut().enumerate() {
+            *word = match at % 7 {
+                0 => number(numbers) & !0xFFFF | (at / 7) as u64,
+                2 => numbers.below(8) as u64,
+                3 | 4 => numbers.below(3) as u64,
+                5 => numbers.below(capacity) as u64,
+                _ => numbers.odd(),
+            };
+        }
+        let find = self.tables.find.words();
+        find.fill_with(|| numbers.below(capacity + capacity / 8) as u16);
+        self.arena = Arena {
+            capacity,
+            next: numbers.below(capacity + 2),
+            top: numbers.below(capacity + 1),
+            live: numbers.below(capacity + 1),
+        };
+    }
+}
