@@ -32,10 +32,10 @@ use Rattle.arena.proofs.Ids.{leaf-flag, branch-flag, gen-small}
 use Rattle.arena.proofs.Inv.{wf-inv, wf-content}
 use Rattle.arena.proofs.Leaves.{leaf-in, leaf-slot}
 use Rattle.arena.proofs.Scan.{find-hit, find-miss}
-use Rattle.reading.proofs.Meaning.{wf-made}
+use Rattle.reading.proofs.Meaning.{leaf-above, wf-made}
 use Rattle.edit.specs.Edit.{wordsOf, oneLeaf, needOf, cellNeed, upNeed, planOf}
 use Rattle.edit.proofs.Plans.{tab-get}
-use Rattle.edit.proofs.Wholes.{leaf-above, leaf-node, branch-node, is-branch}
+use Rattle.edit.proofs.Wholes.{leaf-node, branch-node, is-branch}
 
 -- ---- the eight words of n parts
 

@@ -1,44 +1,22 @@
 -- The rules of content make well made, whatever is owed.
 use mathlib.Core.Path.{_≡_, refl, sym, ap, _∙_}
 use mathlib.Core.Logic.{_≢_, _⊎_, inl, inr, ⊎-elim}
-use mathlib.Core.Bool.{Bool, true, false, not}
 use Prim.Native.Nat.{ℕ, zero, suc, _/_, _^_, _≤_, _<_}
 use native.Mathlib.Decide.{ℕ-discrete, decLt}
 use native.Mathlib.Omega.{arith}
 use lib.Dec.{eqb}
 use borrow.Author.Tests.{ne-eqb}
 use Rattle.basics.specs.Sums.{average}
-use Rattle.ids.specs.Ids.{isLeaf, generationOf, pack}
+use Rattle.ids.specs.Ids.{generationOf}
 use Rattle.nodes.specs.Words.{Words, own, value, height, slot}
-use Rattle.nodes.specs.Tally.{oneIf, tabFrom, kidsOf, Live}
+use Rattle.nodes.specs.Tally.{Live}
 use Rattle.nodes.proofs.Sums.{cases, sumTo-ext}
 use Rattle.nodes.proofs.Counts.{live-nonzero, live-inj}
 use Rattle.tree.specs.Tree as tree
-use Rattle.arena.specs.Node.{bitsOf, kidMask, kidTypes, leafId, branchId, LeafNode, BranchNode, Node}
+use Rattle.arena.specs.Node.{LeafNode, BranchNode, Node}
 use Rattle.nodes.specs.Values.{heightAt, maxTo, valueAt}
 use Rattle.arena.proofs.Inv.{Content}
-
-pub leaf-above : (s g : ℕ) → 2 ^ 63 ≤ leafId s g
-unfolding leafId pack
-leaf-above s g = omega arith
-
-one-le : (b : Bool) → oneIf b ≤ 1
-unfolding oneIf
-one-le true = omega arith
-one-le false = omega arith
-
-byte : (p : ℕ → Bool) (f : ℕ → ℕ) → bitsOf p (tabFrom 8 0 f) < 2 ^ 8
-unfolding bitsOf tabFrom
-byte p f =
-    omega (arith, one-le (p (f 0)), one-le (p (f 1)), one-le (p (f 2)), one-le (p (f 3)), one-le (p (f 4)), one-le (p (f 5)), one-le (p (f 6)), one-le (p (f 7)))
-
-branch-below : (M : Words) (s g : ℕ) → s < 2 ^ 32 → g < 2 ^ 15 → branchId (kidsOf 8 M s) s g < 2 ^ 63
-unfolding branchId pack kidMask kidTypes kidsOf
-branch-below M s g h k = omega (arith, byte (λ i. not (eqb i 0)) (M s), byte isLeaf (M s))
-
-generation-small : (x : ℕ) → generationOf x < 2 ^ 15
-unfolding generationOf
-generation-small x = omega arith
+use Rattle.reading.proofs.Meaning.{leaf-above, branch-below, generation-small}
 
 module _ (n tallest cap : ℕ) (W : Words) (m : n ≤ 8) (most : cap ≤ 65536) (w : Content n tallest cap W) where
   node : (a : ℕ) → Live cap W a → Node n tallest cap W (slot a)

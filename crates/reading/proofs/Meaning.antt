@@ -20,7 +20,7 @@ use Rattle.arena.specs.Tables.{Tables, cap, W, LiveSlot, WellFormed}
 
 -- ---- a leaf's id has the leaf flag, a branch's has not
 
-leaf-above : (s g : ℕ) → 2 ^ 63 ≤ leafId s g
+pub leaf-above : (s g : ℕ) → 2 ^ 63 ≤ leafId s g
 unfolding leafId pack
 leaf-above s g = omega arith
 
@@ -34,11 +34,11 @@ unfolding bitsOf tabFrom
 byte p f =
     omega (arith, one-le (p (f 0)), one-le (p (f 1)), one-le (p (f 2)), one-le (p (f 3)), one-le (p (f 4)), one-le (p (f 5)), one-le (p (f 6)), one-le (p (f 7)))
 
-branch-below : (M : Words) (s g : ℕ) → s < 2 ^ 32 → g < 2 ^ 15 → branchId (kidsOf 8 M s) s g < 2 ^ 63
+pub branch-below : (M : Words) (s g : ℕ) → s < 2 ^ 32 → g < 2 ^ 15 → branchId (kidsOf 8 M s) s g < 2 ^ 63
 unfolding branchId pack kidMask kidTypes kidsOf
 branch-below M s g h k = omega (arith, byte (λ i. not (eqb i 0)) (M s), byte isLeaf (M s))
 
-generation-small : (x : ℕ) → generationOf x < 2 ^ 15
+pub generation-small : (x : ℕ) → generationOf x < 2 ^ 15
 unfolding generationOf
 generation-small x = omega arith
 
