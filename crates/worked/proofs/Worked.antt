@@ -6,4 +6,4 @@ use Rattle.worked.specs.Worked.{All, table}
 
 pub worked : All table
 unfolding pathOf interleave low10 newLeaf newBranch packingNo pack sumTo
-worked = search tt
+worked = search tt depth 30

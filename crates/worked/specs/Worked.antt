@@ -33,5 +33,7 @@ table =
     ∷ (pathOf (place 1023 1023 1023) says 1073741823)  -- W7
     ∷ (pathOf (place 1024 0 0) says 0)  -- W8
     ∷ (pathOf (record { x = negsuc 0; y = pos 0; z = pos 0 }) says 153391689)  -- W9
-    -- the ids, W10 and W11, go here
+    ∷ (newLeaf 1 0 says 0x8000000000000001)  -- W10
+    ∷ (newBranch 2 0 1 1 says 0x0080800000000002)  -- W11
+    ∷ (average 8 (λ i. getD (1 ∷ 0 ∷ 0 ∷ 0 ∷ 0 ∷ 0 ∷ 0 ∷ 0 ∷ []) i 0) says 0)  -- W12
     ∷ []
