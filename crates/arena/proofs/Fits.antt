@@ -5,7 +5,7 @@ use mathlib.Core.Path.{_≡_, refl, sym}
 use mathlib.Core.Bool.{Bool, true, false, true≢false}
 use lib.Dec.{eqb, leb, ltb}
 use lib.ListN.{length}
-use borrow.Author.Tests.{leb-true, eqb-true, le-leb, eq-eqb, ltb-true, leb-false, ne-eqb, eqb-false}
+use borrow.Author.Tests.{leb-true, eqb-true, le-leb, eq-eqb, ltb-true, ne-eqb, eqb-false}
 use mathlib.Core.List.{List}
 use Rattle.basics.specs.Pick.{pick}
 use Rattle.nodes.specs.Tally.{Live}
@@ -73,10 +73,6 @@ module _ (t : Tables) (id : ℕ) where
       (λ u. absurd (let z : _≡_ {A = ℕ} 10 0 = (rw (hold-fits e, ne-eqb id 0 d, l, u) at e) in omega arith))
       (λ u. (l, u)))
       (λ l. absurd (let z : _≡_ {A = ℕ} 4 0 = (rw (hold-fits e, ne-eqb id 0 d, l) at e) in omega arith))
-
-  pub hold-few : holdNo t id ≡ 0 → (id ≡ 0 → ⊥) → W t (slot id) holds < 1000000
-  unfolding fullOf
-  hold-few e d = leb-false 1000000 (W t (slot id) holds) (hold-live e d .1)
 
   release-fits : releaseNo t id ≡ 0 → fits t ≡ true
   unfolding releaseNo

@@ -1,9 +1,9 @@
 -- Hold and a fresh arena: well formed afterwards. (Their contracts are exact on any tables.)
-use mathlib.Core.Path.{_≡_, refl, sym, ap, _∙_, subst}
+use mathlib.Core.Path.{_≡_, refl, sym, ap, subst}
 use mathlib.Core.Logic.{_≢_}
 use mathlib.Core.Bool.{Bool, true, false}
 use mathlib.Core.List.{List, []}
-use Prim.Native.Nat.{ℕ, zero, suc, _+_, _-_, _*_, _%_, _^_, _≤_, _<_}
+use Prim.Native.Nat.{ℕ, zero, suc, _+_, _-_, _*_, _%_, _^_, _≤_}
 use native.Mathlib.Decide.{ℕ-discrete}
 use native.Mathlib.Omega.{arith}
 use lib.Dec.{leb, ltb}
@@ -11,17 +11,15 @@ use lib.ListN.{length, getD, replicate, length-replicate}
 use borrow.Author.Tests.{eq-eqb, ne-eqb}
 use Rattle.basics.specs.Pick.{pick}
 use Rattle.ids.specs.Ids.{generationOf}
-use Rattle.nodes.specs.Words.{holds, putOf, kidOf, factOf, own, link, spare, nodes, slot, floor, wordOf, factPut}
+use Rattle.nodes.specs.Words.{kidOf, factOf, own, link, spare, nodes, slot, floor, wordOf}
 use Rattle.nodes.proofs.Counts.{floor-pos}
 use Rattle.nodes.proofs.Freeing.{none-live}
 use Rattle.nodes.proofs.Sums.{cases, occ-nil}
 use Rattle.finding.specs.Content.{homeAt}
 use Rattle.finding.proofs.Finding.{finds-fresh, finds-as}
-use Rattle.arena.specs.Calls.{did, fitOf, fits, heldAt, holdNo, holdOf, fresh, freshOf}
-use Rattle.arena.specs.Models.{moreOf}
+use Rattle.arena.specs.Calls.{fitOf, fits, heldAt, holdNo, holdOf, fresh, freshOf}
 use Rattle.arena.specs.Tables.{tables, Tables, LiveSlot, Sized, WellFormed}
-use Rattle.arena.specs.declared.Arena.{Arena}
-use Rattle.arena.proofs.Fits.{live-is, hold-live, fits-sized, hold-few}
+use Rattle.arena.proofs.Fits.{live-is, hold-live, fits-sized}
 use Rattle.arena.proofs.Ids.{gen-zero}
 use Rattle.arena.proofs.Leaves.{held-kept}
 
@@ -48,16 +46,6 @@ hold-well n tallest t id m w = cases (ℕ-discrete (holdNo t id) 0)
     let h = v .high in
     subst (λ (u : Tables). WellFormed n tallest u) (hold-done t id z y) (held-kept n tallest t (slot id) m w (v .low, omega arith) (r .1))))
     (λ z. subst (λ (u : Tables). WellFormed n tallest u) (hold-refused t id z) w)
-
--- ---- the code's hold, whose sum runs over at 2^64, is the definition's
-
-pub held-is : (a : Arena) (k f e : List ℕ) (id : ℕ) (m : List ℕ) → holdNo (tables a k f e) id ≡ 0 → id ≢ 0
-    → m ≡ factPut f (slot id) holds (moreOf (factOf f (slot id) holds)) → did 0 (tables a k m e) ≡ holdOf (tables a k f e) id
-unfolding holdOf heldAt putOf wordOf moreOf
-held-is a k f e id m z d em =
-    let few : factOf f (slot id) holds < 1000000 = hold-few (tables a k f e) id z d in
-    let q : (factOf f (slot id) holds + 1) % 2 ^ 64 ≡ factOf f (slot id) holds + 1 = omega arith in
-    rw (eq-eqb (holdNo (tables a k f e) id) 0 z, ne-eqb id 0 d) (ap (λ (x : List ℕ). did 0 (tables a k x e)) (em ∙ ap (factPut f (slot id) holds) q))
 
 -- ---- a fresh arena
 

@@ -15,8 +15,9 @@ use Rattle.nodes.specs.Words.{own, value, holds, places, nodes, written, floor,
 use Rattle.nodes.proofs.Access.{put-same, put-field}
 use Rattle.nodes.proofs.Counts.{floor-pos, live-own}
 use Rattle.nodes.proofs.Sums.{cases, split, occ-nil, occ-append}
+use Rattle.hashing.specs.Hash.{homeFor}
 use Rattle.finding.specs.Cells.{insertAt, cellOf, probe, cell}
-use Rattle.finding.specs.Content.{contentIs, homeAt, homeFor}
+use Rattle.finding.specs.Content.{contentIs, homeAt}
 use Rattle.finding.proofs.Contents.{content-true, content-words, probe-as, home-content}
 use Rattle.finding.proofs.Finding.{finds-hit, finds-miss}
 use Rattle.arena.specs.Calls.{allOf, freshFacts, empties, Out, said, refused, fits, Fair, fullOf, roomOf, heldAt, freshSlot, slotGiven, named, leafIn, leafSlot, internLeafNo, leafMade, internLeafOf, noneOf}

@@ -7,7 +7,6 @@ pub mod Make
 pub mod Outs
 pub mod Fits
 pub mod Scan
-pub mod Fill
 pub mod Leaves
 pub mod Holding
 pub mod Branches

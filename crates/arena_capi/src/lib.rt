@@ -1,5 +1,5 @@
-// The arena for C and Rust: each function calls the one of its name in the crates `arena`, `interning` and `releasing`, and its contract cites the
-// same definition. A slice goes as its address and its length, an id as its raw number, eight ids as a struct that holds them.
+// The arena for C and Rust: each function calls the one of its name in the crates `holding`, `leaves`, `branches` and `releasing`, and its contract
+// cites the same definition. A slice goes as its address and its length, an id as its raw number, eight ids as a struct that holds them.
 ghost use mathlib.Core.Path.{_≡_};
 ghost use Prim.Native.Nat.{ℕ, _≤_};
 ghost use Rattle.arena.specs.Tables.{tables};
@@ -25,7 +25,7 @@ pub extern "C" fn fenpiling_fresh(
 ) -> Answer
     ensures { λ r. ⌜ answered r (now (kids .exit)) (now (facts .exit)) (now (find .exit)) ≡ freshOf capacity (now (kids .entry)) (now (facts .entry)) (now (find .entry)) ⌝ }
 {
-    arena::fresh(capacity, kids, facts, find)
+    holding::fresh(capacity, kids, facts, find)
 }
 
 #[no_mangle]
@@ -38,7 +38,7 @@ pub extern "C" fn fenpiling_intern_leaf(
 ) -> Made
     ensures { λ r. ⌜ ((n tallest : ℕ) → n ≤ 8 → Fair n tallest (tables arena (now (kids .entry)) (now (facts .entry)) (now (find .entry))) → made r (now (kids .exit)) (now (facts .exit)) (now (find .exit)) ≡ internLeafOf (tables arena (now (kids .entry)) (now (facts .entry)) (now (find .entry))) value) ⌝ }
 {
-    interning::intern_leaf(arena, kids, facts, find, value)
+    leaves::intern_leaf(arena, kids, facts, find, value)
 }
 
 #[no_mangle]
@@ -52,7 +52,7 @@ pub extern "C" fn fenpiling_intern_branch(
     ensures { λ r. ⌜ (Fair 8 6 (tables arena (now (kids .entry)) (now (facts .entry)) (now (find .entry))) → made r (now (kids .exit)) (now (facts .exit)) (now (find .exit)) ≡ internBranchOf 8 6 (tables arena (now (kids .entry)) (now (facts .entry)) (now (find .entry))) (rawIds (children .ids))) ⌝ }
 {
     let ids = children.ids;
-    interning::intern_branch(arena, kids, facts, find, ids)
+    branches::intern_branch(arena, kids, facts, find, ids)
 }
 
 #[no_mangle]
@@ -65,7 +65,7 @@ pub extern "C" fn fenpiling_hold(
 ) -> Answer
     ensures { λ r. ⌜ answered r (now (kids .entry)) (now (facts .exit)) (now (find .entry)) ≡ holdOf (tables arena (now (kids .entry)) (now (facts .entry)) (now (find .entry))) id ⌝ }
 {
-    arena::hold(arena, kids, facts, find, BlockId(id))
+    holding::hold(arena, kids, facts, find, BlockId(id))
 }
 
 #[no_mangle]
@@ -91,5 +91,5 @@ pub extern "C" fn fenpiling_counts(
 ) -> Counted
     ensures { λ r. ⌜ counted r ≡ countsOf (tables arena (now (kids .entry)) (now (facts .entry)) (now (find .entry))) id ⌝ }
 {
-    arena::counts(arena, kids, facts, find, BlockId(id))
+    holding::counts(arena, kids, facts, find, BlockId(id))
 }

@@ -37,7 +37,7 @@ fn say_number(n: u64) {
 }
 
 fn say_id(id: BlockId) {
-    let text = id.text();
+    let text = naming::text(id);
     let bytes = text.bytes;
     say_start(&bytes, text.len);
 }
@@ -75,7 +75,7 @@ fn cell(x: i32) -> IVec3 {
 }
 
 fn fresh(kids: &mut [u64], facts: &mut [u64], find: &mut [u16]) -> Arena {
-    let answer = arena::fresh(SLOTS, kids, facts, find);
+    let answer = holding::fresh(SLOTS, kids, facts, find);
     answer.arena
 }
 
@@ -112,13 +112,13 @@ fn intern(
     find: &mut [u16],
     value: u16,
 ) -> Made {
-    let made = interning::intern_leaf(a, kids, facts, find, value);
+    let made = leaves::intern_leaf(a, kids, facts, find, value);
     say_made(asked, made);
     made
 }
 
 fn count(asked: &[u8], a: Arena, kids: &[u64], facts: &[u64], find: &[u16], id: BlockId) {
-    let counted = arena::counts(a, kids, facts, find, id);
+    let counted = holding::counts(a, kids, facts, find, id);
     say_refusal(asked, counted.no);
     say(b" holds ");
     say_number(counted.holds);
@@ -197,7 +197,7 @@ fn full_leaves(a: Arena, kids: &mut [u64], facts: &mut [u64], find: &mut [u16]) 
 
 // Interns a leaf and releases it: its slot is recycled.
 fn recycle_once(a: Arena, kids: &mut [u64], facts: &mut [u64], find: &mut [u16]) -> Arena {
-    let made = interning::intern_leaf(a, kids, facts, find, 5);
+    let made = leaves::intern_leaf(a, kids, facts, find, 5);
     let id = made.id;
     let released = releasing::release(made.arena, kids, facts, find, id);
     released.arena
@@ -259,7 +259,7 @@ fn hold_times(
     let mut no: u32 = 0;
     let mut i: u32 = 0;
     while i < times {
-        let held = arena::hold(a, kids, facts, find, id);
+        let held = holding::hold(a, kids, facts, find, id);
         no = held.no;
         i += 1;
     }

@@ -1,7 +1,7 @@
 -- The plain cube: since a fresh arena every root answers lookup, expansion and edit as an array of 8^d numbers would.
 use mathlib.Core.Path.{_≡_, refl, sym, ap, _∙_, subst}
-use mathlib.Core.Logic.{_≢_, _⊎_, inl, inr}
-use mathlib.Core.Bool.{Bool, true, false, true≢false}
+use mathlib.Core.Logic.{_≢_, inl, inr}
+use mathlib.Core.Bool.{true, false, true≢false}
 use mathlib.Core.List.{List}
 use Prim.Native.Nat.{ℕ, _-_, _^_, _≤_, _<_}
 use native.Mathlib.Decide.{ℕ-discrete}
@@ -19,7 +19,7 @@ use Rattle.nodes.proofs.Sums.{cases, split}
 use Rattle.paths.specs.declared.IVec3.{IVec3}
 use Rattle.paths.specs.Paths.{whole}
 use Rattle.tree.specs.Tree as tree
-use Rattle.tree.specs.Tree.{LiveOr0, look, Keeps, Extends}
+use Rattle.tree.specs.Tree.{LiveOr0, look, Extends}
 use Rattle.tree.specs.Demand.{At, way}
 use Rattle.tree.proofs.Canon.{look-flat, value-empty, height-empty}
 use Rattle.tree.proofs.CellLaws.{cube-cell, cube-one}
@@ -31,8 +31,7 @@ use Rattle.arena.proofs.Leaves.{leaf-well}
 use Rattle.arena.proofs.Branching.{branch-well}
 use Rattle.arena.proofs.Holding.{hold-well}
 use Rattle.arena.proofs.Releasing.{release-released}
-use Rattle.ledger.specs.Ledger as ledger
-use Rattle.ledger.specs.Ledger.{leaf, branch, hold, release, start, holdsOn}
+use Rattle.ledger.specs.Ledger.{leaf, branch, hold, release, start}
 use Rattle.ledger.specs.Fates.{Grew}
 use Rattle.ledger.proofs.Effects.{by-life, holds-dead}
 use Rattle.ledger.proofs.Balance.{history-well}

@@ -3,23 +3,20 @@ use mathlib.Core.Path.{_≡_, refl, sym, ap, _∙_, subst}
 use mathlib.Core.Logic.{_≢_, _⊎_, inl, inr, ⊎-elim}
 use mathlib.Core.Bool.{false}
 use mathlib.Core.List.{List, [], _∷_}
-use Prim.Native.Nat.{ℕ, _+_, _-_, _≤_, _<_}
+use Prim.Native.Nat.{ℕ, _+_, _-_, _≤_}
 use native.Mathlib.Decide.{ℕ-discrete, decLe}
 use native.Mathlib.Omega.{arith}
 use borrow.Author.Tests.{eq-eqb, ne-eqb, le-leb, lt-leb}
 use Rattle.nodes.specs.Values.{heightAt, valueAt}
 use Rattle.nodes.specs.Words.{own, value, height, holds, slot}
-use Rattle.nodes.specs.Tally.{Live}
 use Rattle.nodes.proofs.Access.{Within, put-same, put-slot, put-field}
 use Rattle.nodes.proofs.Counts.{live-nonzero, live-same}
 use Rattle.nodes.proofs.Sums.{cases, split}
 use Rattle.paths.specs.declared.IVec3.{IVec3}
 use Rattle.paths.specs.Paths.{whole}
-use Rattle.tree.specs.Tree as tree
-use Rattle.tree.specs.Tree.{LiveOr0, WellMade, Cell, look, Extends, Below}
+use Rattle.tree.specs.Tree.{LiveOr0, WellMade, Cell, look, Extends}
 use Rattle.tree.specs.Anew.{Anew, Answer, asked, made}
-use Rattle.tree.specs.Edits.{Edited}
-use Rattle.tree.specs.Lacks.{Need, have, lack, Lacks}
+use Rattle.tree.specs.Lacks.{Need, have, lack}
 use Rattle.tree.proofs.CellLaws.{cube-cell}
 use Rattle.tree.proofs.Making.{edited, renewed, anew-later}
 use Rattle.tree.proofs.Plan.{plan-have, plan-lack}
@@ -36,7 +33,7 @@ use Rattle.edit.proofs.Planning.{plan-is}
 use Rattle.edit.proofs.Wholes.{content-made}
 use Rattle.edit.proofs.Upward.{Done, make-done, have-lack, lack-inj}
 use Rattle.edit.proofs.Mirror.{Agree, agree-have, agree-lack, plan-agree}
-use Rattle.edit.specs.declared.Plan as planning
+use Rattle.planning.specs.declared.Plan as planning
 use Rattle.edit.proofs.Law.{deep, root-there}
 
 make-no : (n : ℕ) (t : Tables) (x : ℕ) (p : List ℕ) (a h q : ℕ) → makeOf n t x p a h q .no ≡ 0

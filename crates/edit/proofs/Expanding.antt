@@ -2,14 +2,12 @@
 use mathlib.Core.Path.{_≡_, sym, ap, _∙_, subst}
 use mathlib.Core.Logic.{_≢_}
 use mathlib.Core.List.{List}
-use Prim.Native.Nat.{ℕ, _+_, _*_, _^_, _≤_, _<_}
+use Prim.Native.Nat.{ℕ, _^_, _≤_, _<_}
 use native.Mathlib.Decide.{ℕ-discrete}
 use lib.ListN.{length, getD, set}
 use lib.Seq.{getD-set-same, getD-set-other}
 use borrow.Author.Tests.{eq-eqb, le-leb}
 use Rattle.nodes.proofs.Sums.{cases}
-use Rattle.paths.specs.declared.IVec3.{IVec3}
-use Rattle.paths.specs.Paths.{place}
 use Rattle.tree.specs.Tree.{LiveOr0, look}
 use Rattle.tree.specs.Demand.{At, way, Apart}
 use Rattle.arena.specs.Tables.{Tables, cap, W, WellFormed}
@@ -17,8 +15,7 @@ use Rattle.arena.proofs.Fits.{sized-fits}
 use Rattle.reading.specs.Reading.{cubeOf}
 use Rattle.reading.specs.Calls.{looked, lookOf, Expanded, expanded, expandNo, expandOf}
 use Rattle.reading.specs.declared.Looked.{Looked}
-use Rattle.reading.proofs.Paint.{addr, addr-lt, addr-one}
-use Rattle.reading.proofs.Cube.{pow-four, pow-eight, cube-one}
+use Rattle.reading.proofs.Cube.{addr, addr-lt, addr-one, pow-four, pow-eight, cube-one}
 use Rattle.reading.proofs.Plain.{cell-whole}
 use Rattle.reading.proofs.Laws.{live-there, well-small, lookup-right, expand-length, expand-look}
 use Rattle.edit.specs.Promises.{spot, standsAt, Expands}

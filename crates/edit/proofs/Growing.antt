@@ -13,11 +13,11 @@ use Rattle.nodes.specs.Words.{own, value, height, holds, places, spare, nodes, 
 use Rattle.nodes.proofs.Access.{put-same, put-slot, put-field}
 use Rattle.nodes.proofs.Counts.{live-nonzero}
 use Rattle.nodes.proofs.Sums.{cases, split, occ-nil, occ-cons, occ-here, occ-there, occ-append}
+use Rattle.hashing.specs.Hash.{homeFor}
 use Rattle.finding.specs.Cells.{insertAt, cellOf, cell}
-use Rattle.finding.specs.Content.{contentIs, homeFor}
+use Rattle.finding.specs.Content.{contentIs}
 use Rattle.finding.proofs.Contents.{content-words, probe-as}
 use Rattle.tree.specs.Tree.{LiveOr0, Extends}
-use Rattle.tree.specs.Tree as tree
 use Rattle.arena.specs.Node.{Node}
 use Rattle.nodes.specs.Values.{heightAt, valueAt}
 use Rattle.arena.specs.Tables.{tablesOf, Tables, cap, W, LiveSlot}
@@ -170,7 +170,7 @@ given-inv t d i room =
     (λ z. let b = fresh-bumps t d i room z .1 in let x = more-is (t .arena .next) (omega arith) in rw (eq-eqb (t .arena .top) 0 z) (arena-path _ _ _ _ _ _ _ _ refl x refl l))
     (λ z. rw (ne-eqb (t .arena .top) 0 z) (arena-path _ _ _ _ _ _ _ _ refl refl refl l))
 
-pub cell-inv : (t : Tables) (d ks : List ℕ) (v s : ℕ) → Inv t d → ((x : ℕ) → 0 < x → LiveSlot t x → contentIs (W t) ks v x ≡ false) → s < 65536
+cell-inv : (t : Tables) (d ks : List ℕ) (v s : ℕ) → Inv t d → ((x : ℕ) → 0 < x → LiveSlot t x → contentIs (W t) ks v x ≡ false) → s < 65536
     → set (t .find) (cellFor t ks v) (s % 65536) ≡ named t ks v s
 unfolding cellOf named insertAt
 cell-inv t d ks v s i h l =

@@ -2,11 +2,13 @@
 use mathlib.Core.Path.{_≡_, refl, sym, ap, ap₂, _∙_}
 use mathlib.Core.Logic.{_≢_, inl, inr}
 use mathlib.Core.Bool.{true, false}
-use mathlib.Core.List.{List}
 use Prim.Native.Nat.{ℕ, suc, _-_, _%_, _^_, _≤_, _<_}
 use native.Mathlib.Decide.{ℕ-discrete, decLe}
 use native.Mathlib.Omega.{arith}
 use lib.Dec.{eqb, leb}
+use lib.Signed.{mag}
+use mir.Syntax.{w32}
+use mir.ValLaws.{toZ-ofZ}
 use borrow.Author.Tests.{eq-eqb, ne-eqb, le-leb, lt-leb, leb-true}
 use Rattle.nodes.specs.Values.{heightAt}
 use Rattle.basics.specs.Pick.{pick}
@@ -15,9 +17,8 @@ use Rattle.nodes.specs.Words.{wordOf, factOf, putOf, holds, slot}
 use Rattle.nodes.proofs.Sums.{cases, split}
 use Rattle.paths.specs.declared.IVec3.{IVec3}
 use Rattle.paths.specs.Paths.{coordOf, inside, whole}
-use Rattle.tree.specs.Tree as tree
+use Rattle.paths.proofs.Coords.{back}
 use Rattle.tree.specs.Tree.{LiveOr0, look}
-use Rattle.tree.specs.Cells.{cubePath}
 use Rattle.tree.specs.Lacks.{Need, have, lack}
 use Rattle.tree.proofs.CellLaws.{cube-cell}
 use Rattle.arena.specs.Tables.{Tables, tables, cap, W, WellFormed}
@@ -29,8 +30,11 @@ use Rattle.reading.proofs.Calls.{look-no-same, look-inside, coord-is}
 use Rattle.reading.proofs.Laws.{there-live, well-small}
 use Rattle.reading.proofs.Plain.{cell-whole}
 use Rattle.edit.specs.Edit.{planOf, resultOf, makeOf, grantNo, granted, answerOf, cellAt, editNo, editOf}
-use Rattle.edit.specs.Models.{planned, planBy, resultBy, grantBy, grantOf, makeBy, answerBy, editPast, editNoAt, editBy}
-use Rattle.edit.specs.declared.Plan as planning
+use Rattle.planning.specs.Models.{planned, planBy, rootPlan, resultBy}
+use Rattle.planning.specs.declared.Plan as planning
+use Rattle.renewing.specs.Models.{makeBy, makeAt}
+use Rattle.renewing.proofs.Steps.{make-path}
+use Rattle.edit.specs.Models.{grantBy, grantOf, answerBy, editPast, editNoAt, editBy}
 use Rattle.edit.proofs.Mirror.{Agree, agree-have, agree-lack, plan-agree, make-same}
 
 -- ---- what a number 0 of lookup says
@@ -71,7 +75,7 @@ module _ (t : Tables) (root d x y z v : ℕ) (p : IVec3) (no-same : lookNoAt t r
   unfolding editBy editOf editNoAt editNo
   tall-same n h = rw (no-same, eq-eqb (lookNo t root d p) 0 n, h)
 
-  low-by : lookNo t root d p ≡ 0 → leb (heightAt (W t) root) d ≡ true → editBy t root d x y z v ≡ editPast t v (cubePath d x y z) root (resultBy t v (cubePath d x y z) root)
+  low-by : lookNo t root d p ≡ 0 → leb (heightAt (W t) root) d ≡ true → editBy t root d x y z v ≡ editPast t v d x y z root (resultBy t v d x y z root)
   unfolding editBy editNoAt
   low-by n h = rw (no-same, eq-eqb (lookNo t root d p) 0 n, h)
 
@@ -98,72 +102,86 @@ grant-few t r e d = split (fullOf (W t) (slot r))
     (λ f. absurd (let z : _≡_ {A = ℕ} 10 0 = (rw (ne-eqb r 0 d, f) at e) in omega arith))
     (λ f. full-few t (slot r) f)
 
-have-end : (t : Tables) (v r root : ℕ) (p : List ℕ) (new : Out) → editPast t v p root (planned 0 r) ≡ ended t (have r) new
+have-end : (t : Tables) (v d x y z r root : ℕ) (new : Out) → editPast t v d x y z root (planned 0 r) ≡ ended t (have r) new
 unfolding editPast grantBy grantNo answerBy answerOf
-have-end t v r root p new = cases (ℕ-discrete (grantNo t (have r)) 0)
-    (λ z. ap (λ (u : Tables). pick (eqb (grantNo t (have r)) 0) (said 0 r u) (refused (grantNo t (have r)) t)) (grant-same t r (grant-few t r z)))
-    (λ z. rw (ne-eqb (grantNo t (have r)) 0 z))
+have-end t v d x y z r root new = cases (ℕ-discrete (grantNo t (have r)) 0)
+    (λ e. ap (λ (u : Tables). pick (eqb (grantNo t (have r)) 0) (said 0 r u) (refused (grantNo t (have r)) t)) (grant-same t r (grant-few t r e)))
+    (λ e. rw (ne-eqb (grantNo t (have r)) 0 e))
 
-lack-end : (t : Tables) (v k s root : ℕ) (p : List ℕ) (new : Out) → 1 ≤ k → (k ≤ cap t - 1 - t .arena .live → makeBy t v p root k s 1 0 ≡ new)
-    → editPast t v p root (planned k s) ≡ ended t (lack k) new
+lack-end : (t : Tables) (v d x y z k s root : ℕ) (new : Out) → 1 ≤ k → (k ≤ cap t - 1 - t .arena .live → makeAt t v d x y z root k s 1 0 ≡ new)
+    → editPast t v d x y z root (planned k s) ≡ ended t (lack k) new
 unfolding editPast grantBy grantNo answerBy answerOf
-lack-end t v k s root p new one h = cases (decLe k (cap t - 1 - t .arena .live))
+lack-end t v d x y z k s root new one h = cases (decLe k (cap t - 1 - t .arena .live))
     (λ l. rw (ne-eqb k 0 (omega arith), le-leb k (cap t - 1 - t .arena .live) l) (h l))
     (λ l. rw (ne-eqb k 0 (omega arith), lt-leb k (cap t - 1 - t .arena .live) (omega arith)))
 
 -- ---- the whole
 
 module _ (t : Tables) (root d v : ℕ) (p : IVec3) (high : v ≤ 65535) where
-  abbrev here : List ℕ
-  here = cellAt d p
+  abbrev X : ℕ
+  X = whole (p .x)
+
+  abbrev Y : ℕ
+  Y = whole (p .y)
+
+  abbrev Z : ℕ
+  Z = whole (p .z)
 
   result-same : WellFormed 8 6 t → lookNo t root d p ≡ 0 → heightAt (W t) root ≤ d
-      → editPast t v here root (resultBy t v here root) ≡ ended t (resultOf 8 t v here root) (makeOf 8 t v here root 1 0)
-  unfolding resultBy resultOf
+      → editPast t v d X Y Z root (resultBy t v d X Y Z root) ≡ ended t (resultOf 8 t v (cellAt d p) root) (makeOf 8 t v (cellAt d p) root 1 0)
+  unfolding resultBy rootPlan resultOf
   result-same w n low =
-      let whole-look : look (W t) here root % 2 ^ 16 ≡ look (W t) here root = cell-whole (W t) (well-small 8 6 t w) d root (whole (p .x)) (whole (p .y)) (whole (p .z)) in
-      cases (ℕ-discrete (look (W t) here root) v)
-      (λ z. rw (whole-look, eq-eqb (look (W t) here root) v z) (have-end t v root root here (makeOf 8 t v here root 1 0)))
-      (λ z. rw (whole-look, ne-eqb (look (W t) here root) v z) (go w n low (planBy t v here root) (planOf 8 t v here root) refl refl (plan-agree 6 t w v high root (let h = deep t root d p n in omega arith) (cube-cell d (whole (p .x)) (whole (p .y)) (whole (p .z))))))
+      let l = le-leb d 6 (deep t root d p n) in
+      let whole-look : look (W t) (cellAt d p) root % 2 ^ 16 ≡ look (W t) (cellAt d p) root = cell-whole (W t) (well-small 8 6 t w) d root X Y Z in
+      cases (ℕ-discrete (look (W t) (cellAt d p) root) v)
+      (λ z. rw (l, whole-look, eq-eqb (look (W t) (cellAt d p) root) v z) (have-end t v d X Y Z root root (makeOf 8 t v (cellAt d p) root 1 0)))
+      (λ z. rw (l, whole-look, ne-eqb (look (W t) (cellAt d p) root) v z)
+      (go w n low (planBy t v (cellAt d p) root) (planOf 8 t v (cellAt d p) root) refl refl
+      (plan-agree 6 t w v high root (let h = deep t root d p n in omega arith) (cube-cell d X Y Z))))
     where
-      go : WellFormed 8 6 t → lookNo t root d p ≡ 0 → heightAt (W t) root ≤ d → (b : planning.Plan) (r : Need) → planBy t v here root ≡ b → planOf 8 t v here root ≡ r
-          → Agree (suc d) b r → editPast t v here root b ≡ ended t r (makeOf 8 t v here root 1 0)
-      go w n low b r eb er (agree-have {r = s}) = have-end t v s root here (makeOf 8 t v here root 1 0)
+      go : WellFormed 8 6 t → lookNo t root d p ≡ 0 → heightAt (W t) root ≤ d → (b : planning.Plan) (r : Need) → planBy t v (cellAt d p) root ≡ b
+          → planOf 8 t v (cellAt d p) root ≡ r → Agree (suc d) b r → editPast t v d X Y Z root b ≡ ended t r (makeOf 8 t v (cellAt d p) root 1 0)
+      go w n low b r eb er (agree-have {r = s}) = have-end t v d X Y Z s root (makeOf 8 t v (cellAt d p) root 1 0)
       go w n low b r eb er (agree-lack {k = k} {s = s} one most) =
-          lack-end t v k s root here (makeOf 8 t v here root 1 0) one
-          (λ l. ap (λ (i : planning.Plan). makeBy t v here root (i .new) (i .id) 1 0) (sym eb)
-          ∙ make-same 6 (omega arith) t w v high root k 1 0 (root-there t root d p n) low (deep t root d p n) (cube-cell d (whole (p .x)) (whole (p .y)) (whole (p .z))) er
+          lack-end t v d X Y Z k s root (makeOf 8 t v (cellAt d p) root 1 0) one
+          (λ l. make-path t v d X Y Z root k s 1 0 (deep t root d p n)
+          ∙ ap (λ (i : planning.Plan). makeBy t v (cellAt d p) root (i .new) (i .id) 1 0) (sym eb)
+          ∙ make-same 6 (omega arith) t w v high root k 1 0 (root-there t root d p n) low (deep t root d p n) (cube-cell d X Y Z) er
           (let z = w .sized .least in omega arith) (omega arith) (omega arith))
 
-  paths-same : (x y z : ℕ) → x ≡ coordOf (p .x) → y ≡ coordOf (p .y) → z ≡ coordOf (p .z) → lookNo t root d p ≡ 0 → cubePath d x y z ≡ here
-  paths-same x y z ex ey ez n =
-      let i = look-inside (t .arena) (t .nodes .kids) (t .nodes .facts) (t .find) root d p n in
-      let a = ex ∙ coord-is d (p .x) (i .0) in
-      let b = ey ∙ coord-is d (p .y) (i .1) in
-      let c = ez ∙ coord-is d (p .z) (i .2) in
-      ap₂ (λ (j k : ℕ). cubePath d j k z) a b ∙ ap (λ (k : ℕ). cubePath d (whole (p .x)) (whole (p .y)) k) c
+  module _ (x y z : ℕ) (ex : x ≡ coordOf (p .x)) (ey : y ≡ coordOf (p .y)) (ez : z ≡ coordOf (p .z)) where
+    -- a cell that is not refused is inside, where a coordinate's number is the coordinate
+    past-same : lookNo t root d p ≡ 0 → editPast t v d x y z root (resultBy t v d x y z root) ≡ editPast t v d X Y Z root (resultBy t v d X Y Z root)
+    past-same n =
+        let i = look-inside (t .arena) (t .nodes .kids) (t .nodes .facts) (t .find) root d p n in
+        let a = ex ∙ coord-is d (p .x) (i .0) in
+        let b = ey ∙ coord-is d (p .y) (i .1) in
+        let c = ez ∙ coord-is d (p .z) (i .2) in
+        ap₂ (λ (j k : ℕ). editPast t v d j k z root (resultBy t v d j k z root)) a b
+        ∙ ap (λ (k : ℕ). editPast t v d X Y k root (resultBy t v d X Y k root)) c
 
-  well-same : (x y z : ℕ) → WellFormed 8 6 t → lookNoAt t root d x y z ≡ lookNo t root d p → (lookNo t root d p ≡ 0 → cubePath d x y z ≡ here)
-      → editBy t root d x y z v ≡ editOf t root d p v
-  well-same x y z w same paths = cases (ℕ-discrete (lookNo t root d p) 0)
-      (λ n. cases (decLe (heightAt (W t) root) d)
-      (λ l. low-by t root d x y z v p same n (le-leb (heightAt (W t) root) d l)
-      ∙ ap (λ (q : List ℕ). editPast t v q root (resultBy t v q root)) (paths n)
-      ∙ result-same w n l ∙ sym (low-of t root d v p n (le-leb (heightAt (W t) root) d l)))
-      (λ l. tall-same t root d x y z v p same n (lt-leb (heightAt (W t) root) d (omega arith))))
-      (λ n. refused-same t root d x y z v p same n)
+    no-at : lookNoAt t root d x y z ≡ lookNo t root d p
+    no-at =
+        ap₂ (λ (i j : ℕ). lookNoAt t root d i j z) ex ey ∙ ap (lookNoAt t root d (coordOf (p .x)) (coordOf (p .y))) ez
+        ∙ look-no-same (t .arena) (t .nodes .kids) (t .nodes .facts) (t .find) root d p
 
-  no-at : (x y z : ℕ) → x ≡ coordOf (p .x) → y ≡ coordOf (p .y) → z ≡ coordOf (p .z) → lookNoAt t root d x y z ≡ lookNo t root d p
-  no-at x y z ex ey ez =
-      ap₂ (λ (i j : ℕ). lookNoAt t root d i j z) ex ey ∙ ap (lookNoAt t root d (coordOf (p .x)) (coordOf (p .y))) ez
-      ∙ look-no-same (t .arena) (t .nodes .kids) (t .nodes .facts) (t .find) root d p
+    well-same : WellFormed 8 6 t → editBy t root d x y z v ≡ editOf t root d p v
+    well-same w = cases (ℕ-discrete (lookNo t root d p) 0)
+        (λ n. cases (decLe (heightAt (W t) root) d)
+        (λ l. low-by t root d x y z v p no-at n (le-leb (heightAt (W t) root) d l) ∙ past-same n
+        ∙ result-same w n l ∙ sym (low-of t root d v p n (le-leb (heightAt (W t) root) d l)))
+        (λ l. tall-same t root d x y z v p no-at n (lt-leb (heightAt (W t) root) d (omega arith))))
+        (λ n. refused-same t root d x y z v p no-at n)
 
-  edit-same : (x y z : ℕ) → x ≡ coordOf (p .x) → y ≡ coordOf (p .y) → z ≡ coordOf (p .z) → Fair 8 6 t → editBy t root d x y z v ≡ editOf t root d p v
-  edit-same x y z ex ey ez (inl u) =
-      refused-same t root d x y z v p (no-at x y z ex ey ez) (λ n. let e = unsized-no t root d p u in omega arith)
-  edit-same x y z ex ey ez (inr w) = well-same x y z w (no-at x y z ex ey ez) (paths-same x y z ex ey ez)
+    edit-same : Fair 8 6 t → editBy t root d x y z v ≡ editOf t root d p v
+    edit-same (inl u) = refused-same t root d x y z v p no-at (λ n. let e = unsized-no t root d p u in omega arith)
+    edit-same (inr w) = well-same w
 
 -- the contract of the code
-pub voxel-law : (t : Tables) (root d : ℕ) (p : IVec3) (v : ℕ) (r : Out) → v < 65536
-    → r ≡ editBy t root d (coordOf (p .x)) (coordOf (p .y)) (coordOf (p .z)) v → Fair 8 6 t → r ≡ editOf t root d p v
-voxel-law t root d p v r hv er fair = er ∙ edit-same t root d v p (omega arith) (coordOf (p .x)) (coordOf (p .y)) (coordOf (p .z)) refl refl refl fair
+pub voxel-law : (t : Tables) (root d : ℕ) (p : IVec3) (v x y z : ℕ) (r : Out) → v < 65536 → mag (p .x) < 2 ^ 31 → mag (p .y) < 2 ^ 31 → mag (p .z) < 2 ^ 31
+    → x ≡ coordOf (back (p .x)) → y ≡ coordOf (back (p .y)) → z ≡ coordOf (back (p .z)) → r ≡ editBy t root d x y z v → Fair 8 6 t → r ≡ editOf t root d p v
+voxel-law t root d p v x y z r hv hx hy hz ex ey ez er fair =
+    let i : x ≡ coordOf (p .x) = ex ∙ ap coordOf (toZ-ofZ w32 (p .x) (record { sfits = hx })) in
+    let j : y ≡ coordOf (p .y) = ey ∙ ap coordOf (toZ-ofZ w32 (p .y) (record { sfits = hy })) in
+    let k : z ≡ coordOf (p .z) = ez ∙ ap coordOf (toZ-ofZ w32 (p .z) (record { sfits = hz })) in
+    er ∙ edit-same t root d v p (omega arith) x y z i j k fair

@@ -1,4 +1,3 @@
-pub mod Plans
 pub mod Growing
 pub mod Wholes
 pub mod Fresh

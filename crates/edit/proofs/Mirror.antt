@@ -11,13 +11,15 @@ use lib.ListN.{length, getD, set, length-set}
 use borrow.Author.Tests.{eq-eqb, ne-eqb, lt-ltb}
 use Rattle.basics.specs.Pick.{pick}
 use Rattle.ids.specs.Ids.{isLeaf, generationOf}
-use Rattle.nodes.specs.Words.{Words, own, value, places, slot, wordOf, factOf, putOf}
+use Rattle.nodes.specs.Words.{Words, own, value, places, slot, floor, wordOf, factOf, putOf, written}
 use Rattle.nodes.specs.Tally.{tabFrom, occ, Live}
+use Rattle.nodes.proofs.Access.{written-kid, written-fact}
 use Rattle.nodes.proofs.Counts.{total-append, total-bound}
 use Rattle.nodes.proofs.Sums.{cases, split, sumTo-ext, tabFrom-ext, tabFrom-length, occ-nil, occ-cons, occ-here, occ-there}
-use Rattle.finding.specs.Content.{contentIs}
-use Rattle.finding.proofs.Contents.{content-true, content-words, tab-list}
-use Rattle.tree.specs.Tree as tree
+use Rattle.hashing.specs.Hash.{homeFor}
+use Rattle.finding.specs.Content.{contentIs, homeAt}
+use Rattle.finding.specs.Cells.{cell, placeOf, probe, insertAt}
+use Rattle.finding.proofs.Contents.{content-true, content-words, home-content, probe-as, tab-list}
 use Rattle.tree.specs.Tree.{LiveOr0, WellMade, Cell, here, down}
 use Rattle.tree.specs.Anew.{part, replace}
 use Rattle.tree.specs.Lacks.{Need, have, lack, Plan}
@@ -25,12 +27,12 @@ use Rattle.tree.proofs.Making.{part-there, part-low, replace-same, replace-othe
 use Rattle.arena.specs.Node.{valueFor, heightFor}
 use Rattle.nodes.specs.Values.{heightAt, valueAt}
 use Rattle.arena.specs.Tables.{Tables, tablesOf, cap, W, LiveSlot, WellFormed}
-use Rattle.arena.specs.Calls.{Out, said, allOf, each, empties, freshSlot, leafSlot, branchIn, branchSlot}
+use Rattle.arena.specs.Calls.{Out, said, allOf, each, empties, freshSlot, freshFacts, named, leafSlot, branchIn, branchSlot}
 use Rattle.arena.specs.Models.{moreOf, cellFor, writtenAt, writtenNodes, topFor, valueBy}
 use Rattle.arena.proofs.Ids.{new-leaf, new-branch, value-zero, value-node}
 use Rattle.arena.proofs.Branches.{occ-at}
-use Rattle.arena.proofs.Inv.{Inv, Content, wf-inv, wf-content}
-use Rattle.arena.proofs.Leaves.{search-hit, search-miss, no-leaf, leaf-in, leaf-slot, leaf-content, not-ground}
+use Rattle.arena.proofs.Inv.{Inv, Content, sized-within, wf-inv, wf-content}
+use Rattle.arena.proofs.Leaves.{search-hit, search-miss, no-leaf, leaf-in, leaf-slot, leaf-content}
 use Rattle.arena.proofs.Branching.{sum-wraps, more-few, height-top}
 use Rattle.arena.proofs.Make.{fresh-free}
 use Rattle.arena.proofs.Outs.{said-path, tables-path}
@@ -39,12 +41,13 @@ use Rattle.arena.proofs.Scan.{find-hit}
 use Rattle.reading.proofs.Meaning.{wf-made}
 use Rattle.reading.proofs.Laws.{well-small}
 use Rattle.edit.specs.Edit.{wordsOf, oneLeaf, needOf, cellNeed, upNeed, planOf, owed, lowOf, freshNode, leafAnew, branchAnew, makeOf}
-use Rattle.edit.specs.Models.{planned, eightParts, foundBy, leafKids, slotPlan, cellPlan, needPlan, upPlan, planBy, owe, oweAll, owedBy, freshBy, leafAnewBy, branchAnewBy, upBy, makeBy}
-use Rattle.edit.specs.declared.Plan as planning
-use Rattle.edit.proofs.Plans.{tab-get}
-use Rattle.edit.proofs.Growing.{Alone, given-inv, cell-inv, owed-grown, each-nil, each-cons, grown-live}
+use Rattle.planning.specs.Models.{planned, eightParts, foundBy, leafKids, slotPlan, cellPlan, needPlan, upPlan, planBy}
+use Rattle.planning.specs.declared.Plan as planning
+use Rattle.planning.proofs.Plans.{tab-get}
+use Rattle.renewing.specs.Models.{owe, oweAll, owedBy, freshBy, leafAnewBy, branchAnewBy, upBy, makeBy}
+use Rattle.edit.proofs.Growing.{given-inv, owed-grown, each-nil, each-cons, grown-live}
 use Rattle.edit.proofs.Planning.{branch-words, all-yes, slot-lone, words-length, words-at, Cell-came, cell-none, cell-leaf, cell-lack, cell-came, plan-is, parts-there}
-use Rattle.edit.proofs.Upward.{Low, Done, low-have, low-lack, placed, lone-v, lowers, eight, others-live, set-at, set-other, lack-inj, have-lack, over, make-done}
+use Rattle.edit.proofs.Upward.{Low, Done, low-have, low-lack, placed, lowers, eight, others-live, set-at, set-other, lack-inj, have-lack, over, make-done}
 
 -- ---- the eight words of a node's parts, one replaced
 
@@ -234,16 +237,35 @@ module _ (tallest : ℕ) where
 
 -- ---- a fresh node
 
-fresh-same : (t : Tables) (d ks : List ℕ) (id v up h q : ℕ) → Inv t d → t .arena .live + 1 < cap t → length ks ≡ 8 → Alone t ks v
+-- a slot that is not live is not named, so the search for its number ends at the first empty cell from its home on
+place-named : (t : Tables) (d ks : List ℕ) (id v up h q : ℕ) → Inv t d → t .arena .live + 1 < cap t → length ks ≡ 8
+    → set (t .find) (placeOf (homeAt (cap t) (wordOf (writtenNodes t id ks v up h q))) (t .find) (freshSlot (t .arena))) (freshSlot (t .arena) % 65536)
+    ≡ named t ks v (freshSlot (t .arena))
+unfolding writtenNodes freshFacts named insertAt
+place-named t d ks id v up h q i room e =
+    let s = freshSlot (t .arena) in
+    let row = id ∷ v ∷ up ∷ h ∷ q ∷ 0 ∷ 0 ∷ [] in
+    let free = fresh-free t d i room in
+    let most = i .sized .most in
+    let low = free .1 in
+    let within = sized-within t s (i .sized) low in
+    let whole : s % 65536 ≡ s = omega arith in
+    let home : homeAt (cap t) (wordOf (written (t .nodes) s ks row)) s ≡ homeFor (cap t) ks v =
+    home-content (cap t) (wordOf (written (t .nodes) s ks row)) s ks v e (written-kid (t .nodes) s ks row e refl within)
+    (written-fact (t .nodes) s ks row e refl within 1 (omega arith)) in
+    let end : probe (eqb s) (t .find) (homeFor (cap t) ks v) ≡ probe (λ x. false) (t .find) (homeFor (cap t) ks v) =
+    probe-as (eqb s) (λ x. false) (t .find) (homeFor (cap t) ks v)
+    (λ c a. ne-eqb s (cell (t .find) c) (λ z.
+    let dead : W t (cell (t .find) c) own < floor = subst (λ (x : ℕ). W t x own < floor) z (free .2) in
+    let live = i .finds .names (cell (t .find) c) a .0 (c, refl) .1 in
+    omega arith)) in
+    ap₂ (λ (x y : ℕ). set (t .find) x y) (ap (probe (eqb s) (t .find)) home ∙ end) whole
+
+fresh-same : (t : Tables) (d ks : List ℕ) (id v up h q : ℕ) → Inv t d → t .arena .live + 1 < cap t → length ks ≡ 8
     → freshBy t id ks v up h q ≡ freshNode t id ks v up h q
 unfolding freshBy freshNode writtenAt writtenNodes
-fresh-same t d ks id v up h q i room e alone =
-    let low = fresh-free t d i room .1 in
-    let most = i .sized .most in
-    said-path _ _ _ _ _ _ refl refl
-    (tables-path _ _ _ _ _ _ (given-inv t d i room) refl
-    (cell-inv t d ks v (freshSlot (t .arena)) i
-    (λ y z l. split (contentIs (W t) ks v y) (λ g. let b = content-words (W t) ks v y e g in absurd (alone y l (b .0) (b .1))) (λ g. g)) (omega arith)))
+fresh-same t d ks id v up h q i room e =
+    said-path _ _ _ _ _ _ refl refl (tables-path _ _ _ _ _ _ (given-inv t d i room) refl (place-named t d ks id v up h q i room e))
 
 slot-whole : (t : Tables) (d : List ℕ) → Inv t d → t .arena .live + 1 < cap t → (freshSlot (t .arena) % 2 ^ 32 ≡ freshSlot (t .arena)) × (generationOf (W t (freshSlot (t .arena)) own) ≤ 0x7FFE)
 slot-whole t d i room =
@@ -252,24 +274,24 @@ slot-whole t d i room =
     let g = i .clean .gens (freshSlot (t .arena)) low in
     (omega arith, omega arith)
 
-leaf-same : (t : Tables) (d : List ℕ) (x h q : ℕ) → Inv t d → t .arena .live + 1 < cap t → Alone t empties x → leafAnewBy t x h q ≡ leafAnew t x h q
+leaf-same : (t : Tables) (d : List ℕ) (x h q : ℕ) → Inv t d → t .arena .live + 1 < cap t → leafAnewBy t x h q ≡ leafAnew t x h q
 unfolding leafAnewBy leafAnew
-leaf-same t d x h q i room alone =
+leaf-same t d x h q i room =
     let z = slot-whole t d i room in
     let e = z .0 in
     let n = new-leaf (freshSlot (t .arena)) (generationOf (W t (freshSlot (t .arena)) own)) (z .1) in
-    rw (e, n) (fresh-same t d empties _ x 0 h q i room empties-length alone)
+    rw (e, n) (fresh-same t d empties _ x 0 h q i room empties-length)
 
 branch-same : (t : Tables) (d ks : List ℕ) (h q : ℕ) → Inv t d → t .arena .live + 1 < cap t → length ks ≡ 8
-    → ((s : ℕ) → LiveSlot t s → ((j : ℕ) → j < 8 → W t s j ≡ getD ks j 0) → ⊥) → valueBy 8 (W t) ks ≡ valueFor 8 (W t) ks → heightFor 8 (W t) ks ≤ 1000
+    → valueBy 8 (W t) ks ≡ valueFor 8 (W t) ks → heightFor 8 (W t) ks ≤ 1000
     → branchAnewBy t ks h q ≡ branchAnew 8 t ks h q
 unfolding branchAnewBy branchAnew
-branch-same t d ks h q i room e lone ev low =
+branch-same t d ks h q i room e ev low =
     let z = slot-whole t d i room in
     let s = z .0 in
     let n = new-branch ks (freshSlot (t .arena)) (generationOf (W t (freshSlot (t .arena)) own)) (z .1) in
     let up : moreOf (topFor (W t) ks 8) ≡ heightFor 8 (W t) ks = (let g = height-top 8 t ks in let b = more-few (topFor (W t) ks 8) (omega arith) in omega arith) in
-    rw (s, n, ev, up) (fresh-same t d ks _ (valueFor 8 (W t) ks) (heightFor 8 (W t) ks) h q i room e (λ y l a b. lone y l a))
+    rw (s, n, ev, up) (fresh-same t d ks _ (valueFor 8 (W t) ks) (heightFor 8 (W t) ks) h q i room e)
 
 m8 : 8 ≤ 8
 m8 = omega arith
@@ -341,8 +363,8 @@ module _ (tallest : ℕ) (high : tallest ≤ 900) (t : Tables) (w : WellFormed 8
       let ev : valueBy 8 (W v) ks ≡ valueFor 8 (W v) ks = grown-value tallest v ks n (g .inv) (g .content) in
       let hl = lowers 8 tallest t m8 two w x small d c a j h q p o l low b cell tall room few held r in
       rw (e, z, same)
-      (branch-same v (ks ++ []) ks h q (g .inv) (let y = g .lives in let k = r .grown .lives in let u = g .caps in let f = r .grown .caps in omega arith) n
-      (lone-v 8 tallest t m8 two w x small d c a j h q p o l low b cell tall room few held r) ev (omega arith))
+      (branch-same v (ks ++ []) ks h q (g .inv) (let y = g .lives in let k = r .grown .lives in let u = g .caps in let f = r .grown .caps in omega arith) n ev
+      (omega arith))
 
   -- the code's making is the definition's
   module _ (d c a k h q : ℕ) (p : List ℕ) (l : LiveOr0 (cap t) (W t) a) (low : heightAt (W t) a ≤ suc d) (b : c < 8) (cell : Cell 8 d p) (tall : suc d ≤ tallest)
@@ -395,9 +417,7 @@ module _ (tallest : ℕ) (high : tallest ≤ 900) (t : Tables) (w : WellFormed 8
       go (cell-leaf r d y s) g = absurd (have-lack (sym s ∙ e))
       go (cell-lack d z y s) g =
           let one : 1 ≡ k = lack-inj (sym s ∙ e) in
-          let alone : Alone t empties x = (λ i l f v.
-          true≢false (sym (content-true (W t) empties x i empties-length f v) ∙ no-leaf 8 tallest t m8 w x d z i (not-ground 8 tallest t w empties x empties-length i l) l)) in
-          rw (lack-plan tallest t w x d z) (make-leaf t x a 0 0 h q ∙ leaf-same t [] x h q inv (omega arith) alone)
+          rw (lack-plan tallest t w x d z) (make-leaf t x a 0 0 h q ∙ leaf-same t [] x h q inv (omega arith))
 
   pub make-same : {d : ℕ} {p : List ℕ} (a k h q : ℕ) → LiveOr0 (cap t) (W t) a → heightAt (W t) a ≤ d → d ≤ tallest → Cell 8 d p
       → planOf 8 t x p a ≡ lack k → t .arena .live + k < cap t → h ≤ 1000000 → 1 ≤ h + q

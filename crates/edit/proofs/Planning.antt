@@ -18,7 +18,6 @@ use Rattle.nodes.proofs.Counts.{live-own, live-nonzero, floor-pos}
 use Rattle.nodes.proofs.Sums.{cases, split, occ-tab, tabFrom-length}
 use Rattle.finding.specs.Content.{agree}
 use Rattle.finding.proofs.Contents.{agree-true, agree-words}
-use Rattle.tree.specs.Tree as tree
 use Rattle.tree.specs.Tree.{LiveOr0, Leaf, Branch, WellMade, Cell, here, down}
 use Rattle.tree.specs.Anew.{part, replace, All, Mixed, Has, HasValue, nothing, whole, node}
 use Rattle.tree.specs.Lacks.{Need, have, lack, Plan, plan-gone, plan-set, plan-leaf, plan-step, plan-branch, plan-more}
@@ -34,7 +33,7 @@ use Rattle.arena.proofs.Leaves.{leaf-in, leaf-slot}
 use Rattle.arena.proofs.Scan.{find-hit, find-miss}
 use Rattle.reading.proofs.Meaning.{leaf-above, wf-made}
 use Rattle.edit.specs.Edit.{wordsOf, oneLeaf, needOf, cellNeed, upNeed, planOf}
-use Rattle.edit.proofs.Plans.{tab-get}
+use Rattle.planning.proofs.Plans.{tab-get}
 use Rattle.edit.proofs.Wholes.{leaf-node, branch-node, is-branch}
 
 -- ---- the eight words of n parts

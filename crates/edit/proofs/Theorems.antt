@@ -12,7 +12,6 @@ use Rattle.nodes.specs.Words.{Words, slot}
 use Rattle.nodes.proofs.Sums.{cases, split}
 use Rattle.paths.specs.declared.IVec3.{IVec3}
 use Rattle.paths.specs.Paths.{whole}
-use Rattle.tree.specs.Tree as tree
 use Rattle.tree.specs.Tree.{LiveOr0, WellMade, Cell, Root, look, Extends}
 use Rattle.tree.specs.Anew.{Anew}
 use Rattle.tree.specs.Edits.{Edited, Later}
@@ -28,7 +27,7 @@ use Rattle.arena.specs.Calls.{fullOf}
 use Rattle.reading.specs.Calls.{lookNo, looked, lookOf, expandOf}
 use Rattle.reading.specs.declared.Looked.{Looked}
 use Rattle.reading.proofs.Meaning.{wf-made}
-use Rattle.edit.specs.Edit.{planOf, resultOf, grantNo, cellAt, editNo, editOf}
+use Rattle.edit.specs.Edit.{planOf, resultOf, grantNo, cellAt, editNo}
 use Rattle.edit.specs.Promises.{spot, standsAt, then, gives, Reads, BothOrders}
 use Rattle.edit.proofs.Planning.{plan-is}
 use Rattle.edit.proofs.Law.{root-there}

@@ -15,7 +15,6 @@ use Rattle.nodes.specs.Tally.{kidsOf, occ, Live}
 use Rattle.nodes.proofs.Counts.{live-inj, live-same, live-own, live-nonzero, total, kid-occ, occ-le-tally}
 use Rattle.nodes.proofs.Sums.{cases, split, occ-nil, occ-cons, occ-here, occ-append, same-diff}
 use Rattle.finding.proofs.Contents.{content-true}
-use Rattle.tree.specs.Tree as tree
 use Rattle.tree.specs.Tree.{LiveOr0, Branch, WellMade, Cell, here, down, Extends, Below, self, under}
 use Rattle.tree.specs.Anew.{part, replace, Mixed, node, Anew, set as anew-set}
 use Rattle.tree.specs.Lacks.{Need, have, lack, Plan}
@@ -317,7 +316,7 @@ module _ (n tallest : ℕ) (t : Tables) (m : n ≤ 8) (two : 1 < n) (w : WellFor
         omega arith) in
         omega arith
 
-    pub lone-v : (s : ℕ) → LiveSlot v s → ((i : ℕ) → i < 8 → W v s i ≡ getD ks i 0) → ⊥
+    lone-v : (s : ℕ) → LiveSlot v s → ((i : ℕ) → i < 8 → W v s i ≡ getD ks i 0) → ⊥
     lone-v s lv same =
         let e = each-word (set ks c 0) u s own (omega arith) in
         let z = each-cap (set ks c 0) u in

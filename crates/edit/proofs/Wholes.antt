@@ -1,12 +1,10 @@
 -- The rules of content make well made, whatever is owed.
-use mathlib.Core.Path.{_≡_, refl, sym, ap, _∙_}
+use mathlib.Core.Path.{_≡_, sym, ap, _∙_}
 use mathlib.Core.Logic.{_≢_, _⊎_, inl, inr, ⊎-elim}
-use Prim.Native.Nat.{ℕ, zero, suc, _/_, _^_, _≤_, _<_}
+use Prim.Native.Nat.{ℕ, _/_, _≤_, _<_}
 use native.Mathlib.Decide.{ℕ-discrete, decLt}
 use native.Mathlib.Omega.{arith}
-use lib.Dec.{eqb}
 use borrow.Author.Tests.{ne-eqb}
-use Rattle.basics.specs.Sums.{average}
 use Rattle.ids.specs.Ids.{generationOf}
 use Rattle.nodes.specs.Words.{Words, own, value, height, slot}
 use Rattle.nodes.specs.Tally.{Live}
@@ -14,7 +12,7 @@ use Rattle.nodes.proofs.Sums.{cases, sumTo-ext}
 use Rattle.nodes.proofs.Counts.{live-nonzero, live-inj}
 use Rattle.tree.specs.Tree as tree
 use Rattle.arena.specs.Node.{LeafNode, BranchNode, Node}
-use Rattle.nodes.specs.Values.{heightAt, maxTo, valueAt}
+use Rattle.nodes.specs.Values.{heightAt, valueAt}
 use Rattle.arena.proofs.Inv.{Content}
 use Rattle.reading.proofs.Meaning.{leaf-above, branch-below, generation-small}
 
@@ -54,19 +52,6 @@ module _ (n tallest cap : ℕ) (W : Words) (m : n ≤ 8) (most : cap ≤ 65536) 
   unfolding heightAt
   height-is a l = rw (ne-eqb a 0 (live-nonzero l))
 
-  averages : (s : ℕ) → average n (λ i. valueAt W (W s i)) ≡ average n (λ i. valueAt W (W s i))
-  unfolding valueAt
-  averages s = refl
-
-  tallest-of : (k : ℕ) (f : ℕ → ℕ) → maxTo k f ≡ maxTo k f
-  unfolding maxTo
-  tallest-of zero f = refl
-  tallest-of (suc k) f = let r = tallest-of k f in rw r
-
-  heights : (s : ℕ) → maxTo n (λ i. heightAt W (W s i)) ≡ maxTo n (λ i. heightAt W (W s i))
-  unfolding heightAt
-  heights s = tallest-of n _
-
   pub content-made : tree.WellMade n cap W
   content-made =
       record {
@@ -78,8 +63,8 @@ module _ (n tallest cap : ℕ) (W : Words) (m : n ≤ 8) (most : cap ≤ 65536) 
             record {
               kids = λ i k. cases (ℕ-discrete (W (slot a) i) 0) (λ z. inl z) (λ z. inr (b .children i k z));
               notAllEmpty = λ all. let s = b .some in s .2 (all (s .0) (s .1));
-              averaged = value-is a l ∙ b .averaged ∙ averages (slot a);
-              tall = height-is a l ∙ b .tall ∙ ap suc (heights (slot a));
+              averaged = value-is a l ∙ b .averaged;
+              tall = height-is a l ∙ b .tall;
             };
         oneLeaf = λ a b k l f g e.
             live-inj k l

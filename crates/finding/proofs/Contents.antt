@@ -1,23 +1,22 @@
--- A content compared, and the homes: a content's home depends on it alone, and lies below twice the capacity.
+-- A content compared, and the homes: a slot's home depends on its content alone.
 use mathlib.Core.Path.{_≡_, refl, sym, ap, ap₂, _∙_, subst}
 use mathlib.Core.Logic.{_≢_}
 use mathlib.Core.Bool.{Bool, true, false, true≢false}
 use mathlib.Core.List.{List, [], _∷_}
-use Prim.Native.Nat.{ℕ, zero, suc, _+_, _-_, _*_, _%_, _^_, _≤_, _<_}
-use native.Mathlib.Nat.{div-lt-iff-lt-mul, mul-comm, mul-lt-mul-of-pos-right}
-use native.Mathlib.Decide.{ℕ-discrete, decLt}
+use Prim.Native.Nat.{ℕ, zero, suc, _+_, _-_, _<_}
+use native.Mathlib.Decide.{ℕ-discrete}
 use native.Mathlib.Omega.{arith}
 use lib.Dec.{eqb}
 use lib.ListN.{length, getD}
-use borrow.Author.Tests.{eq-eqb, ne-eqb, eqb-true, le-leb, lt-leb}
+use borrow.Author.Tests.{eq-eqb, ne-eqb, eqb-true}
 use Rattle.basics.specs.Pick.{pick}
+use Rattle.hashing.specs.Hash.{homeFor}
 use Rattle.nodes.specs.Tally.{tabFrom, kidsOf}
-use Rattle.nodes.specs.Words.{Nodes, kidOf, wordOf, Words, value, own, height}
-use Rattle.nodes.proofs.Access.{word-kid}
+use Rattle.nodes.specs.Words.{Words, value, own, height}
 use Rattle.nodes.proofs.Counts.{kids-same}
 use Rattle.nodes.proofs.Sums.{cases}
 use Rattle.finding.specs.Cells.{stops, probeN, probe, cell}
-use Rattle.finding.specs.Content.{agree, contentIs, hashOf, homeIn, homeFor, homeAt}
+use Rattle.finding.specs.Content.{agree, contentIs, homeAt}
 
 -- an element of a table
 pub tab-at : (k i : ℕ) (f : ℕ → ℕ) (j : ℕ) → j < k → getD (tabFrom k i f) j 0 ≡ f (i + j)
@@ -74,15 +73,6 @@ content-words W ks v s n a = go (eqb (W s value) v) refl a
     go true e q = ((λ i m. let z : 0 + i ≡ i = omega arith in ap (W s) (sym z) ∙ agree-words W s 0 ks q i (omega arith)), eqb-true (W s value) v e)
     go false e q = absurd (true≢false (sym q))
 
--- the children are words
-pub agree-kids : (x : Nodes) (s i : ℕ) (ks : List ℕ) → i + length ks ≤ 8 → agree (kidOf (x .kids)) s i ks ≡ agree (wordOf x) s i ks
-unfolding agree
-agree-kids x s i [] h = refl
-agree-kids x s i (k ∷ ks) h =
-    let e = word-kid x s i (omega arith) in
-    let r = agree-kids x s (i + 1) ks (omega arith) in
-    rw (e, r)
-
 -- ---- homes
 
 pub home-same : (cap : ℕ) (W W′ : Words) (s : ℕ) → ((f : ℕ) → f < height → f ≢ own → W′ s f ≡ W s f) → homeAt cap W′ s ≡ homeAt cap W s
@@ -91,23 +81,6 @@ home-same cap W W′ s e =
     let k : kidsOf 8 W′ s ≡ kidsOf 8 W s = kids-same 8 W W′ s (λ i m. e i (omega arith) (omega arith)) in
     let v : W′ s value ≡ W s value = e value (omega arith) (omega arith) in
     rw (k, v)
-
-pub home-below : (cap h : ℕ) → 0 < cap → homeIn cap h < 2 * cap
-unfolding homeIn
-home-below cap h l =
-    cases (decLt 65536 cap)
-    (λ (g : 65536 < cap). rw (lt-leb cap 65536 g) (omega arith))
-    (λ g. rw (le-leb cap 65536 (omega arith)) (div-lt-iff-lt-mul {k = 2 ^ 32} {x = x * (2 * cap)} {y = 2 * cap} (omega arith) .1 part))
-  where
-    x : ℕ
-    x = h % 2 ^ 32 * 0x9E3779B1 % 2 ^ 32
-
-    part : x * (2 * cap) < 2 * cap * 2 ^ 32
-    part = let p : x * (2 * cap) < 2 ^ 32 * (2 * cap) = mul-lt-mul-of-pos-right {m = x} {n = 2 ^ 32} {k = 2 * cap} (omega arith) (omega arith) in omega (arith, mul-comm (2 ^ 32) (2 * cap))
-
-pub home-for-below : (cap : ℕ) (ks : List ℕ) (v : ℕ) → 0 < cap → homeFor cap ks v < 2 * cap
-unfolding homeFor
-home-for-below cap ks v l = home-below cap (hashOf ks v) l
 
 -- the content of a slot is its words
 pub kids-are : (W : Words) (s : ℕ) (ks : List ℕ) → length ks ≡ 8 → ((i : ℕ) → i < 8 → W s i ≡ getD ks i 0) → kidsOf 8 W s ≡ ks

@@ -2,5 +2,4 @@ pub mod Steps
 pub mod Probing
 pub mod Erasing
 pub mod Finding
-pub mod Order
 pub mod Contents

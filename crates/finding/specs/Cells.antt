@@ -9,7 +9,8 @@ use lib.Dec.{eqb, leb}
 use lib.ListN.{length, getD, set}
 use Rattle.basics.specs.Pick.{pick}
 use Rattle.nodes.specs.Words.{Words}
-use Rattle.finding.specs.Content.{contentIs, homeFor}
+use Rattle.hashing.specs.Hash.{homeFor}
+use Rattle.finding.specs.Content.{contentIs}
 
 abbrev pub cell : List ℕ → ℕ → ℕ
 cell t p = getD t p 0

@@ -1,11 +1,11 @@
--- A node's content, its value and its eight child ids: compared, and hashed. Hash equality is never enough: contents are compared. No answer
+-- A node's content, its value and its eight child ids: compared, and its home. Hash equality is never enough: contents are compared. No answer
 -- depends on the hash.
 use mathlib.Core.Bool.{Bool, true, false}
 use mathlib.Core.List.{List, [], _∷_}
-use Prim.Native.Nat.{ℕ, _+_, _*_, _/_, _%_, _^_}
-use lib.Dec.{eqb, leb}
-use lib.ListN.{getD}
+use Prim.Native.Nat.{ℕ, _+_}
+use lib.Dec.{eqb}
 use Rattle.basics.specs.Pick.{pick}
+use Rattle.hashing.specs.Hash.{homeFor}
 use Rattle.nodes.specs.Words.{Words, value}
 use Rattle.nodes.specs.Tally.{kidsOf}
 
@@ -20,34 +20,7 @@ agree W s i (k ∷ ks) = pick (eqb (W s i) k) (agree W s (i + 1) ks) false
 unfoldable pub contentIs : Words → List ℕ → ℕ → ℕ → Bool
 contentIs W ks v s = pick (eqb (W s value) v) (agree W s 0 ks) false
 
--- ## Hashed: shift and add, running over at 2^64
-
-unfoldable pub wrap : ℕ → ℕ
-wrap x = x % 2 ^ 64
-
--- h times 37, and k
-unfoldable pub mixOf : ℕ → ℕ → ℕ
-mixOf h k =
-    let four = wrap (wrap (h + h) + wrap (h + h)) in
-    let eight = wrap (four + four) in
-    let sixteen = wrap (eight + eight) in
-    wrap (wrap (wrap (sixteen + sixteen) + four) + wrap (h + k))
-
--- two sums apart, of the value with the first four and of the other four, and then one sum of both
-unfoldable pub hashOf : List ℕ → ℕ → ℕ
-hashOf ks v =
-    let low = mixOf (mixOf (mixOf (mixOf v (getD ks 0 0)) (getD ks 1 0)) (getD ks 2 0)) (getD ks 3 0) in
-    let high = mixOf (mixOf (mixOf (getD ks 4 0) (getD ks 5 0)) (getD ks 6 0)) (getD ks 7 0) in
-    mixOf low (mixOf high high)
-
--- ## Homes: a content's first cell to look at, one of twice as many as there are slots
-
--- the low half of h, spread over 2^32 by an odd factor; its part of 2^32 is the home's part of 2 cap
-unfoldable pub homeIn : ℕ → ℕ → ℕ
-homeIn cap h = pick (leb cap 65536) (h % 2 ^ 32 * 0x9E3779B1 % 2 ^ 32 * (2 * cap) / 2 ^ 32) 0
-
-unfoldable pub homeFor : ℕ → List ℕ → ℕ → ℕ
-homeFor cap ks v = homeIn cap (hashOf ks v)
+-- ## The home: its first cell to look at
 
 -- the home of the node in slot s
 unfoldable pub homeAt : ℕ → Words → ℕ → ℕ

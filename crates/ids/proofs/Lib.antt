@@ -1,4 +1,2 @@
 pub mod Fields
 pub mod Packing
-pub mod Texts
-pub mod Deciding

@@ -1,11 +1,13 @@
--- Packing and the fields: what was packed is what the fields give, and an id is decided by its fields.
-use mathlib.Core.Path.{_≡_, sym, ap, _∙_}
-use mathlib.Core.Logic.{_⊎_, ⊎-elim, _↔_}
+-- Packing and the fields: what was packed is what the fields give, an id is decided by its fields, and no accepted packing is INVALID.
+use mathlib.Core.Path.{_≡_, sym, _∙_}
+use mathlib.Core.Logic.{inl, inr}
+use mathlib.Core.Bool.{true}
 use Prim.Native.Nat.{ℕ, _+_, _*_, _/_, _%_, _^_, _≤_, _<_}
 use native.Mathlib.Nat.{div-div-eq-div-mul}
 use native.Mathlib.Omega.{arith}
-use borrow.Author.Tests.{le-leb, lt-leb}
-use Rattle.ids.specs.Ids.{leafFlag, typesField, maskField, generationOf, indexOf, pack, packingNo, newLeaf, newBranch, invalid, Packed, PackedLeaf, PackedBranch}
+use lib.Dec.{eqb}
+use borrow.Author.Tests.{le-leb}
+use Rattle.ids.specs.Ids.{leafFlag, typesField, maskField, generationOf, indexOf, pack, packingNo, newLeaf, newBranch, invalid, Packed}
 
 -- the fields of raw are these five numbers
 pub record Has (l t m g i raw : ℕ) : Type 0 where
@@ -46,3 +48,22 @@ fields-decide l t m g i a b ha hb p q =
     fields-pack a ha
     ∙ rw (p .flag, p .types, p .mask, p .generation, p .index, ← q .flag, ← q .types, ← q .mask, ← q .generation, ← q .index)
     (sym (fields-pack b hb))
+
+-- ---- INVALID
+
+pub accepted : (g : ℕ) → g ≤ 0x7FFE → eqb (packingNo g) 0 ≡ true
+unfolding packingNo
+accepted g h = rw (le-leb g 0x7FFE h)
+
+-- A generation that packing accepts leaves a bit of INVALID clear.
+pub pack-valid : (l t m g i : ℕ) → l < 2 → t < 2 ^ 8 → m < 2 ^ 8 → g ≤ 0x7FFE → i < 2 ^ 32 → pack l t m g i ≡ invalid → ⊥
+unfolding pack
+pack-valid l t m g i hl ht hm hg hi e = omega arith
+
+-- Packing answers INVALID exactly if it refuses: no accepted packing is INVALID.
+pub packed-valid : (raw : ℕ) → Packed raw → raw ≡ invalid → ⊥
+unfolding newLeaf newBranch
+packed-valid raw (inl (i, g, hi, hg, e)) z =
+    pack-valid 1 0 0 g i (omega arith) (omega arith) (omega arith) hg hi (sym (rw (accepted g hg) at e) ∙ z)
+packed-valid raw (inr (i, g, t, m, hi, hg, ht, hm, e)) z =
+    pack-valid 0 t m g i (omega arith) ht hm hg hi (sym (rw (accepted g hg) at e) ∙ z)

@@ -1,5 +1,5 @@
 // Whole models for C and Rust: the arena check, lookup, expansion and the edit. Each function calls the one it stands for in the crates `audit`,
-// `reading` and `edit`, and its contract cites the same definition. A slice goes as its address and its length, an id as its raw number.
+// `reading`, `expansion` and `edit`, and its contract cites the same definition. A slice goes as its address and its length, an id as its raw number.
 ghost use mathlib.Core.Path.{_≡_};
 ghost use mathlib.Core.Bool.{true};
 ghost use mathlib.Core.Logic.{_↔_};
@@ -52,7 +52,7 @@ pub extern "C" fn fenpiling_to_vec(
 ) -> u32
     ensures { λ r. ⌜ expanded r (now (cube .exit)) ≡ expandOf (tables arena (now (kids .entry)) (now (facts .entry)) (now (find .entry))) id depth (now (cube .entry)) ⌝ }
 {
-    reading::to_vec(arena, kids, facts, find, BlockId(id), depth, cube)
+    expansion::to_vec(arena, kids, facts, find, BlockId(id), depth, cube)
 }
 
 #[no_mangle]

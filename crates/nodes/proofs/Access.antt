@@ -70,20 +70,20 @@ module _ (l : List ℕ) (s f : ℕ) where
   unfolding factOf
   fact-high h = rw (le-leb own f (omega arith), lt-leb f spare h)
 
-  put-in : (v : ℕ) → own ≤ f → f ≤ spare → factPut l s f v ≡ set l (7 * s + (f - own)) v
+  pub put-in : (v : ℕ) → own ≤ f → f ≤ spare → factPut l s f v ≡ set l (7 * s + (f - own)) v
   unfolding factPut
   put-in v h k = rw (le-leb own f h, le-leb f spare k)
 
-  put-low : (v : ℕ) → f < own → factPut l s f v ≡ l
+  pub put-low : (v : ℕ) → f < own → factPut l s f v ≡ l
   unfolding factPut
   put-low v h = rw (lt-leb own f h)
 
-  put-high : (v : ℕ) → spare < f → factPut l s f v ≡ l
+  pub put-high : (v : ℕ) → spare < f → factPut l s f v ≡ l
   unfolding factPut
   put-high v h = rw (le-leb own f (omega arith), lt-leb f spare h)
 
   -- one of the seven facts, or none
-  put-cases : {A : Type 0} (v : ℕ) → (own ≤ f → f ≤ spare → factPut l s f v ≡ set l (7 * s + (f - own)) v → A) → (factPut l s f v ≡ l → A) → A
+  pub put-cases : {A : Type 0} (v : ℕ) → (own ≤ f → f ≤ spare → factPut l s f v ≡ set l (7 * s + (f - own)) v → A) → (factPut l s f v ≡ l → A) → A
   put-cases v one none =
       cases (decLt f own) (λ h. none (put-low v h)) (λ h. cases (decLt spare f) (λ k. none (put-high v k)) (λ k. one (omega arith) (omega arith) (put-in v (omega arith) (omega arith))))
 
@@ -112,18 +112,6 @@ module _ (l : List ℕ) (s f : ℕ) where
 
   pub fact-past : spare < f → 0 ≡ factOf l s f
   fact-past h = sym (fact-high l s f h)
-
-  pub put-at : (v : ℕ) → own ≤ f → f ≤ spare → set l (7 * s + (f - own)) v ≡ factPut l s f v
-  put-at v h k = sym (put-in l s f v h k)
-
-  pub put-out : (v : ℕ) → length l ≤ 7 * s + (f - own) → l ≡ factPut l s f v
-  put-out v h = put-cases l s f v (λ a b e. sym (e ∙ set-out l (7 * s + (f - own)) v h)) (λ e. sym e)
-
-  pub put-before : (v : ℕ) → f < own → l ≡ factPut l s f v
-  put-before v h = sym (put-low l s f v h)
-
-  pub put-past : (v : ℕ) → spare < f → l ≡ factPut l s f v
-  put-past v h = sym (put-high l s f v h)
 
 -- ---- two tables
 
@@ -231,11 +219,6 @@ puts-over l at [] p v a b = absurd (omega arith)
 puts-over l at (w ∷ vs) p v a b = cases (ℕ-discrete p at)
     (λ (e : p ≡ at). ap (λ (m : List ℕ). putsFrom m (suc at) vs) (rw e (set-set l at v w)))
     (λ d. ap (λ (m : List ℕ). putsFrom m (suc at) vs) (set-comm l p at v w d) ∙ puts-over (set l at w) (suc at) vs p v (omega arith) (omega arith))
-
-pub puts-out : (l : List ℕ) (at : ℕ) (vs : List ℕ) → length l ≤ at → l ≡ putsFrom l at vs
-unfolding putsFrom
-puts-out l at [] h = refl
-puts-out l at (v ∷ vs) h = puts-out l (suc at) vs (omega arith) ∙ ap (λ (m : List ℕ). putsFrom m (suc at) vs) (sym (set-out l at v h))
 
 -- ---- a slot written
 

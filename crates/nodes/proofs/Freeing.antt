@@ -198,7 +198,3 @@ freed-length {cap} {W} {top} {next} {fs} r =
         (λ d. cases (decLt (W s own) floor)
         (λ h. omega (arith, live-zero (W s own) h, same-diff s 0 d, r .once s (record { given = omega arith; below = m; dead = h })))
         (λ h. omega (arith, live-one (W s own) (omega arith), same-diff s 0 d, none s (λ f. let k = f .dead in omega arith))))
-
--- the free slots, those never used and those freed
-pub free-slots : {cap : ℕ} {W : Words} {top next : ℕ} {fs : List ℕ} → Freed cap W top next fs → length fs + (cap - next) ≡ cap - 1 - liveCount cap W
-free-slots {cap} {W} {top} {next} {fs} r = let p = freed-length r in let q = r .fits in omega arith

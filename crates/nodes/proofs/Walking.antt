@@ -123,6 +123,3 @@ left-step W next zero at n top l f r = absurd (omega arith)
 left-step W next (suc k) at n top l f r =
     let e : suc k - 1 ≡ k = omega arith in
     rw e ((λ w. r .0 (f, w)), (λ w. r .1 w .1))
-
-pub left-end : (W : Words) (next k at n top : ℕ) → k ≡ 0 → Left W next k at n top → (at ≡ 0 → Walk W next n top) × (Walk W next n top → at ≡ 0)
-left-end W next k at n top e r = subst (λ (j : ℕ). Left W next j at n top) e r

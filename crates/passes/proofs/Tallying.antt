@@ -16,7 +16,7 @@ use Rattle.nodes.specs.Tally.{occ, kidsOf, tally, Live}
 use Rattle.nodes.proofs.Access.{Within, word-fact, kids-word, fact-at, put-size, put-same, put-slot, put-field}
 use Rattle.nodes.proofs.Counts.{floor-pos, live-inj, live-same}
 use Rattle.nodes.proofs.Sums.{cases, occ-nil, occ-cons, occ-here, occ-there, occ-length, sumTo-ext, tabFrom-length}
-use Rattle.finding.specs.Content.{wrap}
+use Rattle.hashing.specs.Hash.{wrap}
 use Rattle.passes.specs.Models.{allIn, bumped, bumps, countTo, cleared, clearTo, agreeAt}
 use Rattle.passes.proofs.Ladders.{choose-yes, choose-no}
 use Rattle.passes.proofs.Passes.{pass-true, true-pass}

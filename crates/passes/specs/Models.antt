@@ -8,7 +8,7 @@ use lib.ListN.{length}
 use Rattle.basics.specs.Pick.{pick}
 use Rattle.nodes.specs.Words.{own, value, places, link, nodes, kidOf, factOf, factPut, wordOf, slot, floor}
 use Rattle.nodes.specs.Tally.{kidsOf, liveCount}
-use Rattle.finding.specs.Content.{wrap}
+use Rattle.hashing.specs.Hash.{wrap}
 use Rattle.finding.specs.Cells.{cell, cellOf}
 use Rattle.arena.specs.declared.Arena.{Arena}
 

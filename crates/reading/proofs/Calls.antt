@@ -1,15 +1,15 @@
--- Coordinates, sides, refusals, and the ends of the public calls, in the forms in which the code has them.
-use Prim.Native.Nat.{ℕ, _+_, _-_, _*_, _%_, _^_, _≤_, _<_}
-use native.Mathlib.Nat.{mod-eq-of-lt, one-mul, mul-le-mul}
+-- Coordinates, sides, refusals, and the ends of lookup, in the forms in which the code has them.
+use Prim.Native.Nat.{ℕ, _-_, _*_, _%_, _^_, _≤_, _<_}
+use native.Mathlib.Nat.{mod-eq-of-lt, one-mul}
 use native.Mathlib.Decide.{ℕ-discrete, decLe}
 use native.Mathlib.Omega.{arith}
 use mathlib.Core.Path.{_≡_, _∙_, refl, sym, ap}
 use mathlib.Core.Bool.{Bool, true, false}
 use mathlib.Core.List.{List}
-use borrow.Author.Tests.{le-ltb, le-leb, lt-leb, ne-eqb, leb-true, eqb-true}
+use borrow.Author.Tests.{lt-ltb, le-ltb, le-leb, lt-leb, ne-eqb, leb-true, ltb-true, ltb-false}
+use lib.Bits.{bitOr, or-lt, or-add-and, and-le-l, and-le-r}
 use lib.Dec.{ltb, leb, eqb}
 use lib.IntN.{ℤ, pos, negsuc}
-use lib.ListN.{length}
 use lib.Pow.{pow-mono}
 use lib.Signed.{mag}
 use mir.Syntax.{w32}
@@ -28,32 +28,50 @@ use Rattle.arena.specs.Tables.{tables}
 use Rattle.arena.specs.Calls.{fits, liveOf, liveOrEmpty}
 use Rattle.reading.specs.declared.End.{End}
 use Rattle.reading.specs.declared.Looked.{Looked}
-use Rattle.reading.specs.Reading.{descent, endOf, cellOf, cubeOf}
-use Rattle.reading.specs.Calls.{lookNo, looked, lookOf, expandNo, expanded, expandOf}
-use Rattle.reading.specs.Models.{val, lookNoAt, lookAt, endsAt, fillRow, grow, cubeFrom}
+use Rattle.reading.specs.Reading.{descent, endOf, cellOf}
+use Rattle.reading.specs.Calls.{lookNo, looked, lookOf}
+use Rattle.reading.specs.Models.{val, lookNoAt, lookAt}
 use Rattle.reading.proofs.Ends.{look-descent, end-kids, val-facts}
-use Rattle.reading.proofs.Cube.{pow-eight, cube-from}
 
 -- ---- sides
 
-pub side-small : (d : ℕ) → d ≤ 6 → 2 ^ d ≤ 64
+side-small : (d : ℕ) → d ≤ 6 → 2 ^ d ≤ 64
 side-small d h = pow-mono h
 
-pub side-shift : (d : ℕ) → d ≤ 6 → 1 * 2 ^ d % 2 ^ 64 ≡ 2 ^ d
-side-shift d h =
-    let k : 2 ^ d < 2 ^ 64 = omega (arith, side-small d h) in
-    rw (one-mul (2 ^ d)) (mod-eq-of-lt k)
+pub inside-test : (d x : ℕ) → d ≤ 6 → ltb x (1 * 2 ^ d % 2 ^ 32) ≡ ltb x (2 ^ d)
+inside-test d x h =
+    let k : 2 ^ d < 2 ^ 32 = omega (arith, side-small d h) in
+    rw (one-mul (2 ^ d)) (ap (ltb x) (mod-eq-of-lt k))
 
-pub square-small : (s p : ℕ) → s ≤ 64 → p ≡ s * s → p ≤ 4096
-square-small s p h e = let m : s * s ≤ 64 * 64 = mul-le-mul h h in omega arith
+-- one test for three coordinates
+module _ (d x y z : ℕ) where
+  any-low : bitOr (bitOr x y) z < 2 ^ d → (x < 2 ^ d) × (y < 2 ^ d) × (z < 2 ^ d)
+  any-low h =
+      let p = or-add-and (bitOr x y) z in
+      let q = or-add-and x y in
+      let i = and-le-r (bitOr x y) z in
+      let j = and-le-l (bitOr x y) z in
+      let k = and-le-r x y in
+      let l = and-le-l x y in
+      (omega arith, omega arith, omega arith)
 
-pub cube-test : (d n s p q : ℕ) → s ≡ 2 ^ d → p ≡ s * s → q ≡ p * s → eqb n q ≡ eqb n (8 ^ d)
-cube-test d n s p q e h k =
-    let m : q ≡ 8 ^ d = rw (pow-eight d) (k ∙ ap (λ (i : ℕ). i * s) h ∙ ap (λ (i : ℕ). i * i * i) e) in
-    ap (eqb n) m
+  pub all-inside : (t : Bool) (k u : ℕ) → t ≡ ltb (bitOr (bitOr x y) z) (2 ^ d) → t ≡ true → k ≡ u
+      → k ≡ pick (ltb x (2 ^ d)) (pick (ltb y (2 ^ d)) (pick (ltb z (2 ^ d)) u 3) 3) 3
+  all-inside t k u e h q =
+      let l = any-low (ltb-true (bitOr (bitOr x y) z) (2 ^ d) (sym e ∙ h)) in
+      rw (lt-ltb x (2 ^ d) (l .0), lt-ltb y (2 ^ d) (l .1), lt-ltb z (2 ^ d) (l .2)) q
 
-pub inside-test : (d x s : ℕ) → s ≡ 2 ^ d → ltb x s ≡ ltb x (2 ^ d)
-inside-test d x s k = ap (ltb x) k
+  pub one-outside : (t : Bool) (u : ℕ) → t ≡ ltb (bitOr (bitOr x y) z) (2 ^ d) → t ≡ false
+      → 3 ≡ pick (ltb x (2 ^ d)) (pick (ltb y (2 ^ d)) (pick (ltb z (2 ^ d)) u 3) 3) 3
+  one-outside t u e h = go (ltb x (2 ^ d)) (ltb y (2 ^ d)) (ltb z (2 ^ d)) refl refl refl
+    where
+      go : (i j k : Bool) → ltb x (2 ^ d) ≡ i → ltb y (2 ^ d) ≡ j → ltb z (2 ^ d) ≡ k → _≡_ {A = ℕ} 3 (pick i (pick j (pick k u 3) 3) 3)
+      go false j k _ _ _ = refl
+      go true false k _ _ _ = refl
+      go true true false _ _ _ = refl
+      go true true true ei ej ek =
+          let o = or-lt d (bitOr x y) z (or-lt d x y (ltb-true x (2 ^ d) ei) (ltb-true y (2 ^ d) ej)) (ltb-true z (2 ^ d) ek) in
+          absurd (omega (arith, ltb-false (bitOr (bitOr x y) z) (2 ^ d) (sym e ∙ h)))
 
 -- ---- a coordinate as a number
 
@@ -93,7 +111,7 @@ module _ (a : Arena) (ks fs es : List ℕ) (id : ℕ) where
       (sym (word-fact (nodes ks fs) (slot id) own (omega arith)))
 
 -- for a ladder whose tests are flags of callees, or orders
-pub ruleset climb = (via-yes, via-no, rung-yes, rung-no, le-leb, lt-leb, there-facts)
+pub ruleset climb = (via-yes, via-no, rung-yes, rung-no, le-leb, lt-leb, all-inside, one-outside, there-facts)
 
 module _ (a : Arena) (ks fs es : List ℕ) (id d : ℕ) where
   -- ---- lookup
@@ -160,54 +178,3 @@ module _ (a : Arena) (ks fs es : List ℕ) (id d : ℕ) where
       let j : y ≡ coordOf (p .y) = ey ∙ ap coordOf (toZ-ofZ w32 (p .y) (record { sfits = hy })) in
       let k : z ≡ coordOf (p .z) = ez ∙ ap coordOf (toZ-ofZ w32 (p .z) (record { sfits = hz })) in
       e ∙ cc (i, j, k) ∙ look-same p
-
-  -- ---- expansion
-
-  pub expand-deep : (n k : ℕ) → k ≡ expandNo (tables a ks fs es) id d n → k ≡ 0 → d ≤ 6
-  unfolding expandNo
-  expand-deep n k e h = ladder-deep (fits (tables a ks fs es)) d (pick (liveOrEmpty (a .capacity) (wordOf (nodes ks fs)) id) (pick (eqb n (8 ^ d)) 0 9) 4) (sym e ∙ h) .0
-
-  expand-long : (n k : ℕ) → k ≡ expandNo (tables a ks fs es) id d n → k ≡ 0 → n ≡ 8 ^ d
-  unfolding expandNo
-  expand-long n k e h =
-      let b = liveOrEmpty (a .capacity) (wordOf (nodes ks fs)) id in
-      let p : _≡_ {A = ℕ} (pick b (pick (eqb n (8 ^ d)) 0 9) 4) 0 =
-      ladder-deep (fits (tables a ks fs es)) d (pick b (pick (eqb n (8 ^ d)) 0 9) 4) (sym e ∙ h) .1 in
-      let q : (b ≡ true) × (_≡_ {A = ℕ} (pick (eqb n (8 ^ d)) 0 9) 0) = past-yes b (pick (eqb n (8 ^ d)) 0 9) 4 0 (omega arith) p in
-      let r : (eqb n (8 ^ d) ≡ true) × (_≡_ {A = ℕ} 0 0) = past-yes {A = ℕ} (eqb n (8 ^ d)) 0 9 0 (omega arith) (q .1) in
-      eqb-true _ _ (r .0)
-
-  pub expand-fits : (n k s : ℕ) → k ≡ expandNo (tables a ks fs es) id d n → k ≡ 0 → s ≡ 2 ^ d → 0 + s * (s * s) + s * s + s ≤ n + s * s + s
-  expand-fits n k s e h es =
-      let q : n ≡ s * s * s = expand-long n k e h ∙ pow-eight d ∙ ap (λ (i : ℕ). i * i * i) (sym es) in
-      omega arith
-
-  pub expand-refused : (l : List ℕ) (k : ℕ) → k ≡ expandNo (tables a ks fs es) id d (length l) → (k ≡ 0 → ⊥)
-      → expanded k l ≡ expandOf (tables a ks fs es) id d l
-  unfolding expandOf
-  expand-refused l k e h = rung-no _ _ _ _ (ne-via k _ 0 e h) (λ i. expanded (e i) l)
-
-  pub expand-done : (l m : List ℕ) (k s : ℕ) → k ≡ expandNo (tables a ks fs es) id d (length l) → k ≡ 0 → s ≡ 2 ^ d
-      → m ≡ cubeFrom (wordOf (nodes ks fs)) s d id l → expanded 0 m ≡ expandOf (tables a ks fs es) id d l
-  unfolding expandOf
-  expand-done l m k s e h es q =
-      let M = wordOf (nodes ks fs) in
-      let r : m ≡ cubeOf M d id = q ∙ cube-from M d id s l (expand-long (length l) k e h) es in
-      rung-yes _ _ _ _ (eq-via k _ 0 e h) (λ i. expanded 0 (r i))
-
--- ---- the whole cube
-
-pub from-end : (ks fs : List ℕ) (s d a u : ℕ) (t : Bool) (l m : List ℕ) → t ≡ endsAt a → t ≡ true → u ≡ val (factOf fs) a → m ≡ fillRow 0 (length l) u l
-    → m ≡ cubeFrom (wordOf (nodes ks fs)) s d a l
-unfolding cubeFrom
-from-end ks fs s d a u t l m e i q j =
-    let r : endsAt a ≡ true = sym e ∙ i in
-    rw r (j ∙ ap (λ (n : ℕ). fillRow 0 (length l) n l) (q ∙ val-facts ks fs a))
-
-pub from-parts : (ks fs : List ℕ) (s p d a : ℕ) (t : Bool) (l o m : List ℕ) → t ≡ endsAt a → t ≡ false → o ≡ fillRow 0 (length l) 0 l → p ≡ s * s
-    → m ≡ grow (wordOf (nodes ks fs)) 8 s p d s a 0 o → m ≡ cubeFrom (wordOf (nodes ks fs)) s d a l
-unfolding cubeFrom
-from-parts ks fs s p d a t l o m e i q k j = let r : endsAt a ≡ false = sym e ∙ i in rw r (j ∙ cc (k, q))
-
-pub from-fits : (s p c c₀ : ℕ) → 0 + s * (s * s) + s * s + s ≤ c₀ + s * s + s → p ≡ s * s → c ≡ c₀ → 0 + s * p + s * s + s ≤ c + p + s
-from-fits s p c c₀ h e q = rw e (omega arith)

@@ -1,27 +1,58 @@
--- The cube's list by its cells, and octants in turn from the root give it.
+-- The cube's list by its cells.
 use Prim.Native.Nat.{ℕ, zero, suc, _+_, _*_, _/_, _%_, _^_, _≤_, _<_}
-use native.Mathlib.Nat.{div-eq-of-lt, div-add-mod', mod-lt, div-lt-iff-lt-mul, pow-succ', div-div-eq-div-mul}
-use native.Mathlib.Decide.{ℕ-discrete}
+use native.Mathlib.Nat.{mul-le-mul-right, div-add-mod', mod-lt, div-lt-iff-lt-mul, pow-succ', div-div-eq-div-mul}
 use native.Mathlib.Omega.{arith}
 use mathlib.Core.Path.{_≡_, _∙_, refl, sym, ap, subst}
-use mathlib.Core.Logic.{inl}
-use mathlib.Core.Bool.{Bool, true, false}
 use mathlib.Core.List.{List}
 use lib.Pow.{pow-pos}
-use lib.ListN.{length, getD, set, length-set}
-use lib.Seq.{ext-getD, getD-set-same, getD-set-other}
-use Rattle.basics.specs.Pick.{pick}
+use lib.Arith.{digits-div, digits-mod}
+use lib.ListN.{length, getD}
+use lib.Seq.{ext-getD}
 use Rattle.nodes.specs.Words.{Words}
 use Rattle.nodes.specs.Tally.{tabFrom}
 use Rattle.nodes.proofs.Sums.{tabFrom-length}
 use Rattle.reading.specs.Reading.{cellOf, cubeOf}
-use Rattle.reading.specs.Models.{val, endsAt, fillRow, times, grow, cubeFrom}
-use Rattle.tree.specs.Cells.{cubePath}
-use Rattle.reading.proofs.Ends.{look-ends}
-use Rattle.reading.proofs.Paint.{addr, addr-lt, addr-x, addr-z, addr-yz, Paints}
-use Rattle.reading.proofs.Grow.{grow-paints}
 
-pub tab-at : (n k i : ℕ) (f : ℕ → ℕ) → i < n → getD (tabFrom n k f) i 0 ≡ f (k + i)
+-- ---- where cell (x, y, z) stands: s cells a row, t rows a plane (t is s for a cube, 1 for a sheet)
+
+abbrev pub addr : ℕ → ℕ → ℕ → ℕ → ℕ → ℕ
+addr s t x y z = y * (t * s) + z * s + x
+
+pub addr-lt : (s t x y z : ℕ) → x < s → y < s → z < t → addr s t x y z < s * t * s
+addr-lt s t x y z hx hy hz =
+    let a : suc z * s ≤ t * s = mul-le-mul-right s hz in
+    let b : suc y * (t * s) ≤ s * (t * s) = mul-le-mul-right (t * s) hy in
+    omega arith
+
+-- x, z and y are the digits of the address
+addr-row : (s t x y z : ℕ) → addr s t x y z ≡ (y * t + z) * s + x
+addr-row s t x y z = omega arith
+
+pub addr-x : (s t x y z : ℕ) → x < s → addr s t x y z % s ≡ x
+addr-x s t x y z h = rw (addr-row s t x y z) (digits-mod (y * t + z) h)
+
+pub addr-z : (s t x y z : ℕ) → x < s → z < t → addr s t x y z / s % t ≡ z
+addr-z s t x y z h k = rw (addr-row s t x y z, digits-div (y * t + z) h) (digits-mod y k)
+
+pub addr-yz : (s t x y z : ℕ) → x < s → z < t → addr s t x y z / s / t ≡ y
+addr-yz s t x y z h k = rw (addr-row s t x y z, digits-div (y * t + z) h) (digits-div y k)
+
+pub record SameCell (x y z x′ y′ z′ : ℕ) : Type 0 where
+  pub ex : x ≡ x′
+  pub ey : y ≡ y′
+  pub ez : z ≡ z′
+
+pub addr-one : (s t x y z x′ y′ z′ : ℕ) → x < s → z < t → x′ < s → z′ < t → addr s t x y z ≡ addr s t x′ y′ z′ → SameCell x y z x′ y′ z′
+addr-one s t x y z x′ y′ z′ h k h′ k′ e =
+    record {
+      ex = sym (addr-x s t x y z h) ∙ ap (λ (i : ℕ). i % s) e ∙ addr-x s t x′ y′ z′ h′;
+      ey = sym (addr-yz s t x y z h k) ∙ ap (λ (i : ℕ). i / s / t) e ∙ addr-yz s t x′ y′ z′ h′ k′;
+      ez = sym (addr-z s t x y z h k) ∙ ap (λ (i : ℕ). i / s % t) e ∙ addr-z s t x′ y′ z′ h′ k′;
+    }
+
+-- ---- a table by its index
+
+tab-at : (n k i : ℕ) (f : ℕ → ℕ) → i < n → getD (tabFrom n k f) i 0 ≡ f (k + i)
 unfolding tabFrom
 tab-at zero k i f h = absurd (omega arith)
 tab-at (suc n) k zero f h = let e : k ≡ k + 0 = omega arith in ap f e
@@ -57,27 +88,6 @@ module _ (s i : ℕ) (pos : 0 < s) (h : i < s * s * s) where
       let k : i / s / s * s + i / s % s ≡ i / s = div-add-mod' (i / s) s in
       let m : (i / s / s * s + i / s % s) * s ≡ i / s * s = ap (λ (n : ℕ). n * s) k in
       rw (← div-div-eq-div-mul i s s) (omega arith)
-
--- ---- one value from the start
-
-row-length : (n u : ℕ) (l : List ℕ) → length (fillRow 0 n u l) ≡ length l
-unfolding fillRow times
-row-length zero u l = refl
-row-length (suc n) u l = length-set (fillRow 0 n u l) (0 + n) u ∙ row-length n u l
-
-row-at : (n i u : ℕ) (l : List ℕ) → i < n → n ≤ length l → getD (fillRow 0 n u l) i 0 ≡ u
-unfolding fillRow times
-row-at zero i u l h k = absurd (omega arith)
-row-at (suc n) i u l h k = go (row-at n i u l) (ℕ-discrete i n)
-  where
-    go : (i < n → n ≤ length l → getD (fillRow 0 n u l) i 0 ≡ u) → Dec (i ≡ n) → getD (set (fillRow 0 n u l) (0 + n) u) i 0 ≡ u
-    go ih (yes e) =
-        let q : 0 + n ≡ i = omega arith in
-        let b : 0 + n < length (fillRow 0 n u l) = omega (arith, row-length n u l) in
-        rw (← q) (getD-set-same (fillRow 0 n u l) (0 + n) u 0 b)
-    go ih (no e) =
-        let q : i ≡ 0 + n → ⊥ = omega arith in
-        getD-set-other (fillRow 0 n u l) (0 + n) i u 0 q ∙ ih (omega arith) (omega arith)
 
 -- ---- the cube
 
@@ -121,36 +131,3 @@ module _ (W : Words) (d id : ℕ) where
           let lz : z < s = mod-lt (i / s) (pow-pos d) in
           let q : y * 4 ^ d + z * 2 ^ d + x ≡ i = rw (pow-four d) (index-addr s i (pow-pos d) k) in
           subst (λ (j : ℕ). getD l j 0 ≡ getD (cubeOf W d id) j 0) q (h x y z lx ly lz ∙ sym (cube-cell x y z lx ly lz))
-
-  -- octants in turn from the root, in a cube of zeros, give the cube
-  pub grown : (l : List ℕ) → length l ≡ 8 ^ d → grow W 8 (2 ^ d) (2 ^ d * 2 ^ d) d (2 ^ d) id 0 (fillRow 0 (length l) 0 l) ≡ cubeOf W d id
-  grown l e =
-      let s = 2 ^ d in
-      let o : List ℕ = fillRow 0 (length l) 0 l in
-      let k : length o ≡ 8 ^ d = row-length (length l) 0 l ∙ e in
-      let z : suc 0 * 2 ^ d ≤ s = omega arith in
-      let p : Paints s s _ _ (grow W 8 s (s * s) d s id 0) = grow-paints W 8 s s d 0 0 0 id 0 (omega arith) (omega arith) (inl (refl, z)) (omega arith) in
-      cube-one (grow W 8 s (s * s) d s id 0 o) (p .size o ∙ k)
-      (λ x y z hx hy hz. rw (pow-four d) (p .hit o (k ∙ pow-eight d) x y z hx hy hz (div-eq-of-lt hx, div-eq-of-lt hy, div-eq-of-lt hz)
-      (row-at (length l) (addr s s x y z) 0 l (rw (e, pow-eight d) (addr-lt s s x y z hx hy hz)) (omega arith))))
-
-  -- an end is one value
-  end-cell : (x y z : ℕ) → endsAt id ≡ true → val W id ≡ cellOf W d id x y z
-  unfolding val
-  end-cell x y z e = ap (λ (i : ℕ). i % 2 ^ 16) (sym (look-ends W (cubePath d x y z) id e))
-
-  pub ended-cube : (l : List ℕ) → length l ≡ 8 ^ d → endsAt id ≡ true → fillRow 0 (length l) (val W id) l ≡ cubeOf W d id
-  ended-cube l e h =
-      let s = 2 ^ d in
-      cube-one (fillRow 0 (length l) (val W id) l) (row-length (length l) (val W id) l ∙ e)
-      (λ x y z hx hy hz. rw (pow-four d)
-      (row-at (length l) (addr s s x y z) (val W id) l (rw (e, pow-eight d) (addr-lt s s x y z hx hy hz)) (omega arith) ∙ end-cell x y z h))
-
-  -- and so does the code
-  pub cube-from : (s : ℕ) (l : List ℕ) → length l ≡ 8 ^ d → s ≡ 2 ^ d → cubeFrom W s d id l ≡ cubeOf W d id
-  unfolding cubeFrom
-  cube-from s l e q = go (endsAt id) refl
-    where
-      go : (t : Bool) → endsAt id ≡ t → pick t (fillRow 0 (length l) (val W id) l) (grow W 8 s (s * s) d s id 0 (fillRow 0 (length l) 0 l)) ≡ cubeOf W d id
-      go true h = ended-cube l e h
-      go false h = let j : grow W 8 s (s * s) d s id 0 (fillRow 0 (length l) 0 l) ≡ grow W 8 (2 ^ d) (2 ^ d * 2 ^ d) d (2 ^ d) id 0 (fillRow 0 (length l) 0 l) = rw q in j ∙ grown l e

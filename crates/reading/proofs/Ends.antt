@@ -1,5 +1,5 @@
--- EMPTY, leaves and branches by the test, and the end of a path by its steps.
-use Prim.Native.Nat.{ℕ, zero, suc, _+_, _-_, _%_, _^_, _≤_, _<_}
+-- EMPTY, leaves and branches by the test, and the end of a path.
+use Prim.Native.Nat.{ℕ, _+_, _%_, _^_, _≤_, _<_}
 use native.Mathlib.Decide.{ℕ-discrete}
 use native.Mathlib.Omega.{arith}
 use mathlib.Core.Path.{_≡_, _∙_, refl, sym, ap}
@@ -8,15 +8,12 @@ use mathlib.Core.List.{List, [], _∷_}
 use borrow.Author.Tests.{eq-eqb, ne-eqb, le-leb, lt-leb}
 use lib.Dec.{leb, eqb}
 use Rattle.basics.specs.Pick.{pick}
-use Rattle.basics.proofs.Rungs.{rung-yes, rung-no}
 use Rattle.ids.specs.Ids.{invalid}
 use Rattle.nodes.specs.Words.{Words, nodes, value, kidOf, factOf, wordOf, slot}
 use Rattle.nodes.proofs.Access.{word-kid, word-fact}
 use Rattle.nodes.proofs.Sums.{cases}
 use Rattle.tree.specs.Tree.{Leaf, Branch, Kind, empty, leaf, branch, kind, Cell, here, down, childOf, look}
 use Rattle.nodes.specs.Values.{valueAt}
-use Rattle.tree.specs.Cells.{pathBy, cubePath}
-use Rattle.paths.specs.Paths.{octant}
 use Rattle.tree.proofs.CellLaws.{cube-cell}
 use Rattle.tree.proofs.Canon.{look-empty, look-leaf, look-branch, look-end, value-empty}
 use Rattle.reading.specs.declared.End.{End}
@@ -81,11 +78,6 @@ look-descent W k (c ∷ p) a = go (kind a) (look-descent W (k + 1) p (childOf W 
     go (leaf h) ih = look-leaf W c p a h ∙ ap (λ (e : End). valueAt W (e .id .0)) (sym (descent-stop W k c p a (ends-leaf a h)))
     go (branch h) ih = look-branch W c p a h ∙ ih ∙ ap (λ (e : End). valueAt W (e .id .0)) (sym (descent-on W k c p a (ends-not a h)))
 
--- and of an end it is its own value
-pub look-ends : (W : Words) (p : List ℕ) (a : ℕ) → endsAt a ≡ true → look W p a ≡ valueAt W a
-look-ends W [] a e = look-end W a
-look-ends W (c ∷ p) a e = look-descent W 0 (c ∷ p) a ∙ ap (λ (t : End). valueAt W (t .id .0)) (descent-stop W 0 c p a e)
-
 -- ---- what the accessors give: children by `kids`, values by `facts`
 
 pub val-empty : (W : Words) (a : ℕ) → a ≡ 0 → 0 ≡ val W a
@@ -125,42 +117,3 @@ module _ (ks fs : List ℕ) where
   pub end-kids : (id d x y z : ℕ) → endOf (kidOf ks) id d x y z ≡ endOf (wordOf (nodes ks fs)) id d x y z
   unfolding endOf
   end-kids id d x y z = ap (λ (e : End). pick (leb d 6) e (ended invalid 0)) (descent-kids 0 id (cube-cell d x y z))
-
--- ---- the loop: `left` levels are still to go
-
-module _ (W : Words) (d x y z id : ℕ) where
-  abbrev pub Walked : ℕ → ℕ → Type 0
-  Walked left a = descent W 0 (cubePath d x y z) id ≡ descent W (d - left) (cubePath left x y z) a
-
-  pub walk-none : 6 < d → ended invalid 0 ≡ endOf W id d x y z
-  unfolding endOf
-  walk-none h = rung-no _ _ _ _ (lt-leb d 6 h) refl
-
-  walk-is : (e : End) → d ≤ 6 → e ≡ descent W 0 (cubePath d x y z) id → e ≡ endOf W id d x y z
-  unfolding endOf
-  walk-is e h k = rung-yes _ _ _ e (le-leb d 6 h) k
-
-  pub walk-start : Walked d id
-  walk-start = let e : 0 ≡ d - d = omega arith in ap (λ (k : ℕ). descent W k (cubePath d x y z) id) e
-
-  pub walk-end : (left a : ℕ) → left ≤ 0 → d ≤ 6 → Walked left a → ended a d ≡ endOf W id d x y z
-  unfolding pathBy
-  walk-end zero a h l w = let e : d ≡ d - 0 = omega arith in walk-is (ended a d) l (ap (ended a) e ∙ sym (descent-end W (d - 0) a) ∙ sym w)
-  walk-end (suc left) a h l w = absurd (omega arith)
-
-  pub walk-stop : (left a : ℕ) (t : Bool) → 0 < left → d ≤ 6 → t ≡ endsAt a → t ≡ true → Walked left a → ended a (d - left) ≡ endOf W id d x y z
-  unfolding pathBy
-  walk-stop zero a t h l e u w = absurd (omega arith)
-  walk-stop (suc left) a t h l e u w =
-      walk-is (ended a (d - suc left)) l (sym (w ∙ descent-stop W (d - suc left) (octant left x y z) (cubePath left x y z) a (sym e ∙ u)))
-
-  pub walk-on : (left a b s o : ℕ) (t : Bool) → 0 < left → left ≤ d → t ≡ endsAt a → t ≡ false → Walked left a → s ≡ slot a → o ≡ octant (left - 1) x y z
-      → b ≡ W s o → Walked (left - 1) b
-  unfolding pathBy
-  walk-on zero a b s o t h l e u w es i k = absurd (omega arith)
-  walk-on (suc left) a b s o t h l e u w es i k =
-      let q : suc left - 1 ≡ left = omega arith in
-      let j : d - suc left + 1 ≡ d - left = omega arith in
-      let m : b ≡ W (slot a) (octant left x y z) =
-      k ∙ ap (λ (n : ℕ). W n o) es ∙ ap (W (slot a)) i ∙ ap (λ (n : ℕ). W (slot a) (octant n x y z)) q in
-      rw q (w ∙ descent-on W (d - suc left) (octant left x y z) (cubePath left x y z) a (sym e ∙ u) ∙ cc (j, m))

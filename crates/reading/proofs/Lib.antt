@@ -1,9 +1,6 @@
-pub mod Paint
-pub mod Blocks
 pub mod Ends
-pub mod Fill
-pub mod Grow
-pub mod Parts
+pub mod PathWord
+pub mod Walk
 pub mod Cube
 pub mod Calls
 pub mod Plain

@@ -7,7 +7,6 @@ use native.Mathlib.Decide.{ℕ-discrete, decLt}
 use native.Mathlib.Omega.{arith}
 use lib.Dec.{eqb}
 use borrow.Author.Tests.{ne-eqb}
-use Rattle.basics.specs.Sums.{average}
 use Rattle.ids.specs.Ids.{isLeaf, generationOf, pack}
 use Rattle.nodes.specs.Words.{Words, own, value, height, slot}
 use Rattle.nodes.specs.Tally.{oneIf, tabFrom, kidsOf, Live}

@@ -12,8 +12,8 @@ use lib.Seq.{take-suc, length-take-le, take-append-seam, sets, sets-eq}
 use borrow.Author.Tests.{ne-eqb, lt-ltb, le-ltb}
 use Rattle.basics.specs.Pick.{pick}
 use Rattle.ids.specs.Ids.{empty, invalid, isLeaf}
-use Rattle.ids.specs.Text.{textOf, leafText, branchText, hex, padded, idTextOf}
-use Rattle.ids.specs.declared.IdText.{IdText}
+use Rattle.naming.specs.Text.{textOf, leafText, branchText, hex, padded, idTextOf}
+use Rattle.naming.specs.declared.IdText.{IdText}
 use Rattle.basics.specs.Codes.{codes}
 use Rattle.nodes.proofs.Sums.{cases}
 use Rattle.nodes.specs.Words.{putsFrom}

@@ -8,7 +8,7 @@ use native.Mathlib.Decide.{ℕ-discrete}
 use native.Mathlib.Omega.{arith}
 use lib.ListN.{length, take, length-append, List·getD-append}
 use lib.Seq.{getD-append-add}
-use Rattle.ids.specs.Text.{textOf}
+use Rattle.naming.specs.Text.{textOf}
 use Rattle.nodes.proofs.Sums.{cases}
 use Rattle.nodes.specs.Words.{putsFrom}
 use Rattle.paths.specs.declared.IVec3.{IVec3}

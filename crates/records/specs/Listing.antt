@@ -7,7 +7,7 @@ use lib.ListN.{length, getD}
 use Rattle.basics.specs.Pick.{pick}
 use Rattle.basics.specs.Codes.{codes}
 use Rattle.ids.specs.Ids.{empty}
-use Rattle.ids.specs.Text.{textOf}
+use Rattle.naming.specs.Text.{textOf}
 use Rattle.paths.specs.declared.IVec3.{IVec3}
 use Rattle.paths.specs.Paths.{place}
 use Rattle.nodes.specs.Words.{putsFrom}

@@ -4,14 +4,14 @@
 // A record is x, y, z and the value, 16 bits each, low byte first. After an accepted edit the old root is released; after a refused one it stays.
 use arena::Arena;
 use ids::BlockId;
-use ids::IdText;
+use naming::IdText;
 use paths::IVec3;
 use std::num::wrapping_add_u64;
 ghost use mathlib.Core.Path.{_≡_};
 ghost use Prim.Native.Nat.{_+_, _*_, _<_, _≤_, _^_, min};
 ghost use mathlib.Core.List.{[], _∷_, _++_};
 ghost use lib.ListN.{length, set, take};
-ghost use Rattle.ids.specs.Text.{textOf};
+ghost use Rattle.naming.specs.Text.{textOf};
 ghost use Rattle.nodes.specs.Words.{putsFrom};
 ghost use Rattle.arena.specs.Tables.{tables};
 ghost use Rattle.arena.specs.Calls.{Fair};
@@ -107,7 +107,7 @@ fn put_number(out: &mut [u8], at: usize, n: u64, end: u8) -> usize
 fn text_of(id: BlockId) -> IdText
     ensures { λ r. ⌜ (r .len ≡ length (textOf (id .0))) × (r .len ≤ 41) × (take (r .len) (r .bytes) ≡ textOf (id .0)) × (41 ≡ length (r .bytes)) ⌝ }
 {
-    id.text()
+    naming::text(id)
 }
 
 // Writes the text of an id and a byte after it; answers how many bytes that is.
@@ -280,7 +280,7 @@ fn least(x: usize, y: usize) -> usize
 pub fn start(capacity: usize, kids: &mut [u64], facts: &mut [u64], find: &mut [u16]) -> Run
     ensures { λ r. ⌜ stateOf r (now (kids .exit)) (now (facts .exit)) (now (find .exit)) ≡ startOf capacity (now (kids .entry)) (now (facts .entry)) (now (find .entry)) ⌝ }
 {
-    let fresh = arena::fresh(capacity, kids, facts, find);
+    let fresh = holding::fresh(capacity, kids, facts, find);
     let arena = fresh.arena;
     Run {
         arena: arena,

@@ -7,4 +7,4 @@ pub slot-of-spec : {M : Type 1} → statement M
 unfolding slot
 slot-of-spec =
     tie.close
-    (tie.spec (λ c κs. search needs) (λ c. search needs) (λ c. cc))
+    (tie.spec (λ c κs. search needs) (λ c. search needs) (λ c. search needs))

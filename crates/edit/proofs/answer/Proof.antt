@@ -6,19 +6,20 @@ use borrow.Author.Tests.{eq-eqb, ne-eqb}
 use Rattle.arena.specs.Calls.{Out, said}
 use Rattle.arena.specs.Tables.{tables}
 use Rattle.arena.specs.declared.Arena.{Arena}
-use Rattle.edit.specs.Models.{grantOf, makeBy, answerBy}
-use Rattle.edit.specs.declared.Plan.{Plan}
+use Rattle.renewing.specs.Models.{makeAt}
+use Rattle.edit.specs.Models.{grantOf, answerBy}
+use Rattle.planning.specs.declared.Plan.{Plan}
 use Rattle.edit.proofs.answer.Statement.{statement}
 use Rattle.edit.proofs.answer.Tie as tie
 
-module _ (a : Arena) (k f e p : List ℕ) (v root : ℕ) (b : Plan) where
-  there : (g : List ℕ) → b .new ≡ 0 → g ≡ grantOf f (b .id) → said 0 (b .id) (tables a k g e) ≡ answerBy (tables a k f e) v p root b
+module _ (a : Arena) (k f e : List ℕ) (v d x y z root : ℕ) (b : Plan) where
+  there : (g : List ℕ) → b .new ≡ 0 → g ≡ grantOf f (b .id) → said 0 (b .id) (tables a k g e) ≡ answerBy (tables a k f e) v d x y z root b
   unfolding answerBy
-  there g z eg = rw (eq-eqb (b .new) 0 z) (ap (λ (x : List ℕ). said 0 (b .id) (tables a k x e)) eg)
+  there g n eg = rw (eq-eqb (b .new) 0 n) (ap (λ (i : List ℕ). said 0 (b .id) (tables a k i e)) eg)
 
-  anew : (r : Out) → (b .new ≡ 0 → ⊥) → r ≡ makeBy (tables a k f e) v p root (b .new) (b .id) 1 0 → r ≡ answerBy (tables a k f e) v p root b
+  anew : (r : Out) → (b .new ≡ 0 → ⊥) → r ≡ makeAt (tables a k f e) v d x y z root (b .new) (b .id) 1 0 → r ≡ answerBy (tables a k f e) v d x y z root b
   unfolding answerBy
-  anew r z er = rw (ne-eqb (b .new) 0 z) er
+  anew r n er = rw (ne-eqb (b .new) 0 n) er
 
 ruleset mine = (there, anew)
 

@@ -1,20 +1,22 @@
 use borrow.Author.Needs.{needs}
-use mathlib.Core.Path.{_≡_, _∙_}
+use mathlib.Core.Path.{_≡_, refl, _∙_}
 use mathlib.Core.List.{List}
 use Prim.Native.Nat.{ℕ, _≤_, _<_}
 use native.Mathlib.Omega.{arith}
 use borrow.Author.Tests.{le-leb, lt-leb}
 use Rattle.basics.proofs.Rungs.{eq-via, ne-via}
 use Rattle.nodes.specs.Words.{factOf, wordOf, nodes}
-use Rattle.tree.specs.Tree as tree
 use Rattle.nodes.specs.Values.{heightAt}
 use Rattle.arena.specs.Tables.{tables}
 use Rattle.arena.specs.declared.Arena.{Arena}
 use Rattle.reading.specs.Models.{lookNoAt}
 use Rattle.edit.specs.Models.{editNoAt}
-use Rattle.edit.proofs.Plans.{height-facts}
 use Rattle.edit.proofs.edit_no.Statement.{statement}
 use Rattle.edit.proofs.edit_no.Tie as tie
+
+height-facts : (k f : List ℕ) (id : ℕ) → heightAt (factOf f) id ≡ heightAt (wordOf (nodes k f)) id
+unfolding heightAt wordOf
+height-facts k f id = refl
 
 module _ (a : Arena) (k f e : List ℕ) (root d x y z : ℕ) where
   refused : (o : ℕ) → o ≡ lookNoAt (tables a k f e) root d x y z → (o ≡ 0 → ⊥) → o ≡ editNoAt (tables a k f e) root d x y z

@@ -7,18 +7,18 @@ use Rattle.arena.specs.Calls.{Out, refused}
 use Rattle.arena.specs.Tables.{tables}
 use Rattle.arena.specs.declared.Arena.{Arena}
 use Rattle.edit.specs.Models.{grantBy, answerBy, editPast}
-use Rattle.edit.specs.declared.Plan.{Plan}
+use Rattle.planning.specs.declared.Plan.{Plan}
 use Rattle.edit.proofs.edit_past.Statement.{statement}
 use Rattle.edit.proofs.edit_past.Tie as tie
 
-module _ (a : Arena) (k f e p : List ℕ) (v root : ℕ) (b : Plan) (o : ℕ) (eo : o ≡ grantBy (tables a k f e) b) where
-  no-hold : (o ≡ 0 → ⊥) → refused o (tables a k f e) ≡ editPast (tables a k f e) v p root b
+module _ (a : Arena) (k f e : List ℕ) (v d x y z root : ℕ) (b : Plan) (o : ℕ) (eo : o ≡ grantBy (tables a k f e) b) where
+  no-hold : (o ≡ 0 → ⊥) → refused o (tables a k f e) ≡ editPast (tables a k f e) v d x y z root b
   unfolding editPast
-  no-hold d = rw (ne-via o (grantBy (tables a k f e) b) 0 eo d) (ap (λ (x : ℕ). refused x (tables a k f e)) eo)
+  no-hold n = rw (ne-via o (grantBy (tables a k f e) b) 0 eo n) (ap (λ (i : ℕ). refused i (tables a k f e)) eo)
 
-  past : (r : Out) → o ≡ 0 → r ≡ answerBy (tables a k f e) v p root b → r ≡ editPast (tables a k f e) v p root b
+  past : (r : Out) → o ≡ 0 → r ≡ answerBy (tables a k f e) v d x y z root b → r ≡ editPast (tables a k f e) v d x y z root b
   unfolding editPast
-  past r z er = rw (eq-via o (grantBy (tables a k f e) b) 0 eo z) er
+  past r n er = rw (eq-via o (grantBy (tables a k f e) b) 0 eo n) er
 
 ruleset mine = (no-hold, past)
 

@@ -8,6 +8,5 @@ pub look-no-spec : {M : Type 1} → statement M
 unfolding lookNoAt
 look-no-spec =
     tie.close
-    (tie.spec (λ c κs. search needs) (λ c κs. search needs) (λ c κs. search needs) (λ c κs. search needs) (λ c κs. search needs)
-    (λ c. search climb depth 16) (λ c. search climb depth 16) (λ c. search climb depth 16) (λ c. search climb depth 16)
+    (tie.spec (λ c κs. search needs) (λ c κs. search needs) (λ c κs. search needs) (λ c. search climb depth 16) (λ c. search climb depth 16)
     (λ c. search climb depth 16) (λ c. search climb depth 16) (λ c. search climb depth 16))

@@ -1,8 +1,0 @@
-use borrow.Author.Needs.{needs}
-use Rattle.arena.specs.Models.{moreOf}
-use Rattle.edit.proofs.more.Statement.{statement}
-use Rattle.edit.proofs.more.Tie as tie
-
-pub more-spec : {M : Type 1} → statement M
-unfolding moreOf
-more-spec = tie.close (tie.spec (λ c κs. search needs) (λ c. search needs))

@@ -1,0 +1,136 @@
+// A fresh arena, hold and counts. What each call answers and leaves is in the crate arena's specs/Calls.antt.
+use arena::Answer;
+use arena::Arena;
+use arena::Counted;
+use arena::fit;
+use arena::grant;
+use arena::is_live;
+use arena::slot_of;
+use ids::BlockId;
+use nodes::HOLDS;
+use nodes::PLACES;
+use nodes::fact;
+ghost use mathlib.Core.Path.{_≡_};
+ghost use lib.ListN.{length, replicate};
+ghost use Rattle.arena.specs.Calls.{answered, counted, holdNo, holdOf, countsOf, freshOf};
+ghost use Rattle.arena.specs.Tables.{tables};
+
+// Refusals 1, 4 and 10.
+fn hold_no(a: Arena, kids: &[u64], facts: &[u64], find: &[u16], id: u64) -> u32
+    ensures { λ r. ⌜ r ≡ holdNo (tables a (now (kids .entry)) (now (facts .entry)) (now (find .entry))) id ⌝ }
+{
+    if fit(a.capacity, kids.len(), facts.len(), find.len()) {
+        if id == 0 {
+            return 0;
+        }
+        if is_live(a.capacity, facts, id) {
+            if 1000000 <= fact(facts, slot_of(id), HOLDS) {
+                return 10;
+            }
+            return 0;
+        }
+        return 4;
+    }
+    1
+}
+
+// Hold: the caller gets one hold more. EMPTY: nothing.
+pub fn hold(arena: Arena, kids: &[u64], facts: &mut [u64], find: &[u16], id: BlockId) -> Answer
+    ensures { λ r. ⌜ answered r (now (kids .entry)) (now (facts .exit)) (now (find .entry)) ≡ holdOf (tables arena (now (kids .entry)) (now (facts .entry)) (now (find .entry))) (id .0) ⌝ }
+{
+    // The state as it is, number by number: a copy of the whole would wait for the caller's stores.
+    let same = Arena {
+        capacity: arena.capacity,
+        next: arena.next,
+        top: arena.top,
+        live: arena.live,
+    };
+    let raw = id.0;
+    let no = hold_no(arena, kids, facts, find, raw);
+    if no != 0 {
+        return Answer {
+            no: no,
+            arena: same,
+        };
+    }
+    if raw == 0 {
+        return Answer { no: 0, arena: same };
+    }
+    grant(facts, slot_of(raw));
+    Answer { no: 0, arena: same }
+}
+
+// Counts: the holds and the places of a node.
+pub fn counts(arena: Arena, kids: &[u64], facts: &[u64], find: &[u16], id: BlockId) -> Counted
+    ensures { λ r. ⌜ counted r ≡ countsOf (tables arena (now (kids .entry)) (now (facts .entry)) (now (find .entry))) (id .0) ⌝ }
+{
+    let raw = id.0;
+    if fit(arena.capacity, kids.len(), facts.len(), find.len()) {
+        if raw == 0 {
+            return Counted {
+                no: 0,
+                holds: 0,
+                places: 0,
+            };
+        }
+        if is_live(arena.capacity, facts, raw) {
+            let s = slot_of(raw);
+            return Counted {
+                no: 0,
+                holds: fact(facts, s, HOLDS),
+                places: fact(facts, s, PLACES),
+            };
+        }
+        return Counted {
+            no: 4,
+            holds: 0,
+            places: 0,
+        };
+    }
+    Counted {
+        no: 1,
+        holds: 0,
+        places: 0,
+    }
+}
+
+// Every word 0.
+fn clear(table: &mut [u64])
+    ensures { λ _. ⌜ now (table .exit) ≡ replicate (length (now (table .entry))) 0 ⌝ }
+{
+    let mut i: usize = 0;
+    while i < table.len() {
+        table[i] = 0;
+        i += 1;
+    }
+}
+
+// Every cell empty.
+fn clear_cells(find: &mut [u16])
+    ensures { λ _. ⌜ now (find .exit) ≡ replicate (length (now (find .entry))) 0 ⌝ }
+{
+    let mut i: usize = 0;
+    while i < find.len() {
+        find[i] = 0;
+        i += 1;
+    }
+}
+
+// A fresh arena: clears every slot, with generation 0 and none given out.
+pub fn fresh(capacity: usize, kids: &mut [u64], facts: &mut [u64], find: &mut [u16]) -> Answer
+    ensures { λ r. ⌜ answered r (now (kids .exit)) (now (facts .exit)) (now (find .exit)) ≡ freshOf capacity (now (kids .entry)) (now (facts .entry)) (now (find .entry)) ⌝ }
+{
+    let a = Arena {
+        capacity: capacity,
+        next: 1,
+        top: 0,
+        live: 0,
+    };
+    if fit(capacity, kids.len(), facts.len(), find.len()) {
+        clear(kids);
+        clear(facts);
+        clear_cells(find);
+        return Answer { no: 0, arena: a };
+    }
+    Answer { no: 1, arena: a }
+}

@@ -1,0 +1,64 @@
+// What children come to: the stored value of a branch with them, and the height of the tallest. Intern branch and the edit work out their new
+// branches with these.
+use arena::slot_of;
+use nodes::HEIGHT;
+use nodes::VALUE;
+use nodes::fact;
+ghost use mathlib.Core.Path.{_≡_};
+ghost use Prim.Native.Nat.{max};
+ghost use Rattle.nodes.specs.Words.{factOf};
+ghost use Rattle.nodes.specs.Values.{valueAt, heightAt};
+ghost use Rattle.arena.specs.Models.{topFor, valueBy};
+
+// The stored value of an id; 0 of EMPTY.
+pub fn value_at(facts: &[u64], id: u64) -> u64
+    ensures { λ r. ⌜ r ≡ valueAt (factOf (now (facts .entry))) id ⌝ }
+{
+    if id == 0 {
+        return 0;
+    }
+    fact(facts, slot_of(id), VALUE)
+}
+
+// The stored value of a branch with these children.
+pub fn value_of(facts: &[u64], ks: [u64; 8]) -> u64
+    ensures { λ r. ⌜ r ≡ valueBy 8 (factOf (now (facts .entry))) ks ⌝ }
+{
+    let mut sum: u64 = 0;
+    let mut i: usize = 0;
+    while i < 8 {
+        sum += value_at(facts, ks[i]) % 65536;
+        i += 1;
+    }
+    sum / 8
+}
+
+// The height of an id; 0 of EMPTY.
+pub fn height_at(facts: &[u64], id: u64) -> u64
+    ensures { λ r. ⌜ r ≡ heightAt (factOf (now (facts .entry))) id ⌝ }
+{
+    if id == 0 {
+        return 0;
+    }
+    fact(facts, slot_of(id), HEIGHT)
+}
+
+// The larger of two.
+fn larger(x: u64, y: u64) -> u64
+    ensures { λ r. ⌜ r ≡ max x y ⌝ }
+{
+    if x < y { y } else { x }
+}
+
+// The height of the tallest of the children.
+pub fn top_of(facts: &[u64], ks: [u64; 8]) -> u64
+    ensures { λ r. ⌜ r ≡ topFor (factOf (now (facts .entry))) ks 8 ⌝ }
+{
+    let mut top: u64 = 0;
+    let mut i: usize = 0;
+    while i < 8 {
+        top = larger(top, height_at(facts, ks[i]));
+        i += 1;
+    }
+    top
+}
