@@ -1,77 +1,38 @@
 -- One slot: what the code tests is what the rules say.
 use mathlib.Core.Path.{_≡_, refl, sym, ap, ap₂, _∙_, subst}
 use mathlib.Core.Logic.{_≢_, _⊎_, inl, inr, ⊎-elim}
-use mathlib.Core.Bool.{Bool, true, false, not, true≢false}
-use mathlib.Core.List.{List, [], _∷_}
-use Prim.Native.Nat.{ℕ, zero, suc, _+_, _-_, _*_, _/_, _%_, _^_, _≤_, _<_, max}
+use mathlib.Core.Bool.{Bool, true, false, true≢false}
+use mathlib.Core.List.{List}
+use Prim.Native.Nat.{ℕ, zero, suc, _+_, _-_, _/_, _%_, _^_, _≤_, _<_, max}
 use native.Mathlib.Decide.{ℕ-discrete, decLt}
-use native.Mathlib.Nat.{pow-succ'}
 use native.Mathlib.Omega.{arith}
 use lib.Dec.{eqb, leb, ltb}
-use lib.ListN.{length}
 use borrow.Author.Tests.{eq-eqb, ne-eqb, eqb-true, eqb-false, le-leb, lt-leb, leb-true, leb-false, lt-ltb, ltb-true}
 use Rattle.basics.specs.Sums.{sumTo}
-use Rattle.ids.specs.Ids.{isLeaf, leafFlag, generationOf, packingNo, newLeaf, newBranch}
+use Rattle.ids.specs.Ids.{generationOf, packingNo, newLeaf, newBranch}
 use Rattle.nodes.specs.Words.{Words, own, value, height, holds, places, link, spare, nodes, kidOf, factOf, wordOf, slot, floor}
-use Rattle.nodes.specs.Tally.{oneIf, kidsOf, Live}
+use Rattle.nodes.specs.Tally.{kidsOf, Live}
 use Rattle.nodes.proofs.Access.{word-kid, word-fact, kids-word}
-use Rattle.nodes.proofs.Sums.{cases, sumTo-ext, tabFrom-length}
-use Rattle.arena.specs.Node.{bitsOf, kidMask, kidTypes, leafId, branchId, LeafNode, BranchNode, Node}
+use Rattle.nodes.proofs.Sums.{cases, sumTo-ext}
+use Rattle.arena.specs.Node.{kidMask, kidTypes, leafId, branchId, LeafNode, BranchNode, Node}
 use Rattle.nodes.specs.Values.{valueAt, heightAt, maxTo}
 use Rattle.arena.specs.Tables.{Cleared}
 use Rattle.passes.specs.Models.{choose, allIn, isGiven}
-use Rattle.audit.specs.Models.{kidEmpty, bareFrom, factZero, blankAt, restsAt, deadFine, countsFine, leafNamed, leafFine, kidBit, kidBits, branchNamed, liveId, kidFine, kidValue, kidHeight, averageAt, tallAt, branchFine, liveFine, plainAt, slotFine}
+use Rattle.audit.specs.Models.{kidEmpty, bareFrom, factZero, blankAt, restsAt, deadFine, countsFine, leafNamed, leafFine, branchNamed, liveId, kidFine, kidValue, kidHeight, averageAt, tallAt, branchFine, liveFine, plainAt, slotFine}
 use Rattle.passes.proofs.Ladders.{both, both-yes, choose-if, choose-yes, choose-no, split}
 use Rattle.passes.proofs.Passes.{pass-true, true-pass, pass-false}
 use Rattle.passes.proofs.Searching.{given-is, is-given}
 
 -- ---- ids
 
-bit-is : (b : Bool) → (b ≡ true → oneIf b ≡ 1) × (b ≡ false → oneIf b ≡ 0)
-unfolding oneIf
-bit-is b = ((λ e. rw e), (λ e. rw e))
-
-bit-small : (b : Bool) → oneIf b ≤ 1
-bit-small b = split b (λ e. let r = bit-is b .0 e in omega arith) (λ e. let r = bit-is b .1 e in omega arith)
-
-bits-below : (p : ℕ → Bool) (ks : List ℕ) → bitsOf p ks < 2 ^ length ks
-unfolding bitsOf
-bits-below p [] = omega arith
-bits-below p (y ∷ ks) = let r : bitsOf p ks < 2 ^ length ks = bits-below p ks in rw pow-succ' (omega (arith, bit-small (p y)))
-
-empty-no-leaf : isLeaf 0 ≡ false
-unfolding isLeaf leafFlag
-empty-no-leaf = refl
-
-kid-bit : (y : ℕ) → kidBit y ≡ oneIf (not (eqb y 0)) + 256 * oneIf (isLeaf y)
-unfolding kidBit oneIf
-kid-bit y = cases (ℕ-discrete y 0)
-    (λ (z : y ≡ 0). rw (z, empty-no-leaf))
-    (λ z. split (isLeaf y) (λ e. rw (ne-eqb y 0 z, e)) (λ e. rw (ne-eqb y 0 z, e)))
-
-kid-bits : (ks : List ℕ) → kidBits ks ≡ kidMask ks + 256 * kidTypes ks
-unfolding kidBits kidMask kidTypes bitsOf
-kid-bits [] = refl
-kid-bits (y ∷ ks) = let r = kid-bits ks in omega (arith, kid-bit y)
-
-mask-below : (ks : List ℕ) → kidMask ks < 2 ^ length ks
-unfolding kidMask
-mask-below ks = bits-below (λ k. not (eqb k 0)) ks
-
 module _ (s g : ℕ) (small : s < 65536) (young : g ≤ 0x7FFD) where
   leaf-id : newLeaf (s % 2 ^ 32) g ≡ leafId s g
   unfolding newLeaf packingNo leafId
   leaf-id = let e : s % 2 ^ 32 ≡ s = omega arith in rw (le-leb g 0x7FFE (omega arith), e)
 
-  branch-id : (ks : List ℕ) → length ks ≡ 8 → newBranch (s % 2 ^ 32) g (kidBits ks / 256) (kidBits ks % 256) ≡ branchId ks s g
+  branch-id : (ks : List ℕ) → newBranch (s % 2 ^ 32) g (kidTypes ks) (kidMask ks) ≡ branchId ks s g
   unfolding newBranch packingNo branchId
-  branch-id ks n =
-      let e : s % 2 ^ 32 ≡ s = omega arith in
-      let b : kidBits ks ≡ kidMask ks + 256 * kidTypes ks = kid-bits ks in
-      let m : kidMask ks < 2 ^ 8 = subst (λ (k : ℕ). kidMask ks < 2 ^ k) n (mask-below ks) in
-      let x : kidBits ks / 256 ≡ kidTypes ks = omega arith in
-      let y : kidBits ks % 256 ≡ kidMask ks = omega arith in
-      rw (le-leb g 0x7FFE (omega arith), e, x, y)
+  branch-id ks = let e : s % 2 ^ 32 ≡ s = omega arith in rw (le-leb g 0x7FFE (omega arith), e)
 
 maxTo-ext : (n : ℕ) (g h : ℕ → ℕ) → ((i : ℕ) → i < n → g i ≡ h i) → maxTo n g ≡ maxTo n h
 unfolding maxTo
@@ -134,27 +95,23 @@ module _ (k f : List ℕ) (s : ℕ) where
   kids-of : kidsOf 8 (kidOf k) s ≡ kidsOf 8 U s
   kids-of = kids-word 8 (nodes k f) s (omega arith)
 
-  kids-eight : length (kidsOf 8 (kidOf k) s) ≡ 8
-  unfolding kidsOf
-  kids-eight = tabFrom-length 8 0 (kidOf k s)
-
   module _ (small : s < 65536) (young : generationOf (U s own) ≤ 0x7FFD) where
-    branch-is : newBranch (s % 2 ^ 32) (generationOf (U s own)) (kidBits (kidsOf 8 (kidOf k) s) / 256) (kidBits (kidsOf 8 (kidOf k) s) % 256)
+    branch-is : newBranch (s % 2 ^ 32) (generationOf (U s own)) (kidTypes (kidsOf 8 (kidOf k) s)) (kidMask (kidsOf 8 (kidOf k) s))
         ≡ branchId (kidsOf 8 U s) s (generationOf (U s own))
     branch-is =
-        branch-id s (generationOf (U s own)) small young (kidsOf 8 (kidOf k) s) kids-eight ∙ ap (λ (ks : List ℕ). branchId ks s (generationOf (U s own))) kids-of
+        branch-id s (generationOf (U s own)) small young (kidsOf 8 (kidOf k) s) ∙ ap (λ (ks : List ℕ). branchId ks s (generationOf (U s own))) kids-of
 
     branch-own : branchNamed k f s ≡ true → U s own ≡ branchId (kidsOf 8 U s) s (generationOf (U s own))
     unfolding branchNamed wordOf
     branch-own e =
         eqb-true (factOf f s own)
-        (newBranch (s % 2 ^ 32) (generationOf (factOf f s own)) (kidBits (kidsOf 8 (kidOf k) s) / 256) (kidBits (kidsOf 8 (kidOf k) s) % 256)) e ∙ branch-is
+        (newBranch (s % 2 ^ 32) (generationOf (factOf f s own)) (kidTypes (kidsOf 8 (kidOf k) s)) (kidMask (kidsOf 8 (kidOf k) s))) e ∙ branch-is
 
     own-branch : U s own ≡ branchId (kidsOf 8 U s) s (generationOf (U s own)) → branchNamed k f s ≡ true
     unfolding branchNamed wordOf
     own-branch e =
         eq-eqb (factOf f s own)
-        (newBranch (s % 2 ^ 32) (generationOf (factOf f s own)) (kidBits (kidsOf 8 (kidOf k) s) / 256) (kidBits (kidsOf 8 (kidOf k) s) % 256)) (e ∙ sym branch-is)
+        (newBranch (s % 2 ^ 32) (generationOf (factOf f s own)) (kidTypes (kidsOf 8 (kidOf k) s)) (kidMask (kidsOf 8 (kidOf k) s))) (e ∙ sym branch-is)
 
   module _ (c n : ℕ) (fits : n ≤ 8) where
     live-id : (y : ℕ) → liveId f c y ≡ true → Live c U y

@@ -1,16 +1,17 @@
 -- What the functions here answer, of any tables: mirrors of the code. No reader has to believe them: the public contract of the arena check cites
 -- `WellFormed`. `k`, `f` and `e` are the lists of the tables kids, facts and find, c is the capacity.
 use mathlib.Core.Bool.{Bool, true, false}
-use mathlib.Core.List.{List, [], _∷_}
+use mathlib.Core.List.{List}
 use Prim.Native.Nat.{ℕ, _+_, _-_, _*_, _/_, _%_, _^_}
 use lib.Dec.{eqb, leb, ltb}
 use lib.ListN.{length}
 use Rattle.basics.specs.Pick.{pick}
 use Rattle.basics.specs.Sums.{sumTo}
-use Rattle.ids.specs.Ids.{isLeaf, generationOf, newLeaf, newBranch}
+use Rattle.ids.specs.Ids.{generationOf, newLeaf, newBranch}
 use Rattle.nodes.specs.Words.{own, value, height, holds, places, link, spare, kidOf, factOf, slot, floor}
 use Rattle.nodes.specs.Tally.{kidsOf}
 use Rattle.arena.specs.declared.Arena.{Arena}
+use Rattle.arena.specs.Node.{kidMask, kidTypes}
 use Rattle.nodes.specs.Values.{maxTo}
 use Rattle.passes.specs.Models.{choose, allIn, isGiven, stateFine, findFine, countTo, agreeAt}
 
@@ -49,19 +50,10 @@ leafFine k f s =
     choose (leafNamed f s)
     (choose (eqb (factOf f s value) 0) false (choose (eqb (factOf f s height) 0) (bareFrom k s 0) false)) false
 
--- a bit for the mask, and one for the types
-unfoldable pub kidBit : ℕ → ℕ
-kidBit y = pick (eqb y 0) 0 (pick (isLeaf y) 257 1)
-
--- the two bytes, types above mask
-unfoldable pub kidBits : List ℕ → ℕ
-kidBits [] = 0
-kidBits (y ∷ ys) = kidBit y + 2 * kidBits ys
-
 unfoldable pub branchNamed : List ℕ → List ℕ → ℕ → Bool
 branchNamed k f s =
-    let bits = kidBits (kidsOf 8 (kidOf k) s) in
-    eqb (factOf f s own) (newBranch (s % 2 ^ 32) (generationOf (factOf f s own)) (bits / 256) (bits % 256))
+    let ks = kidsOf 8 (kidOf k) s in
+    eqb (factOf f s own) (newBranch (s % 2 ^ 32) (generationOf (factOf f s own)) (kidTypes ks) (kidMask ks))
 
 unfoldable pub liveId : List ℕ → ℕ → ℕ → Bool
 liveId f c y = choose (ltb (slot y) c) (choose (leb floor y) (eqb (factOf f (slot y) own) y) false) false

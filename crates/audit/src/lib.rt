@@ -3,6 +3,8 @@
 use arena::Arena;
 use arena::slot_of;
 use ids::BlockId;
+use making::leaf_id;
+use masks::branch_id;
 use nodes::HEIGHT;
 use nodes::HOLDS;
 use nodes::LINK;
@@ -13,6 +15,7 @@ use nodes::VALUE;
 use nodes::children;
 use nodes::fact;
 use nodes::kid;
+use passes::FLOOR;
 use passes::is_given;
 use passes::state_fine;
 use seating::find_fine;
@@ -27,10 +30,7 @@ ghost use Rattle.nodes.specs.Words.{factOf, holds, places};
 ghost use Rattle.nodes.specs.Values.{maxTo};
 ghost use Rattle.arena.specs.Tables.{tables, WellFormed};
 ghost use Rattle.passes.specs.Models.{allIn};
-ghost use Rattle.audit.specs.Models.{bareFrom, blankAt, deadFine, countsFine, leafNamed, leafFine, kidBit, kidBits, branchNamed, liveId, kidFine, kidValue, kidHeight, averageAt, tallAt, branchFine, liveFine, restsAt, plainAt, slotFine, sizedBy, rangedBy, soundBy};
-
-// 2^47: an own word from here on is the id of a live node.
-const FLOOR: u64 = 0x8000_0000_0000;
+ghost use Rattle.audit.specs.Models.{bareFrom, blankAt, deadFine, countsFine, leafNamed, leafFine, branchNamed, liveId, kidFine, kidValue, kidHeight, averageAt, tallAt, branchFine, liveFine, restsAt, plainAt, slotFine, sizedBy, rangedBy, soundBy};
 
 // No generation is above this.
 const LAST_GENERATION: u16 = 0x7FFD;
@@ -115,19 +115,12 @@ fn counts_fine(facts: &[u64], s: usize) -> bool
     fact(facts, s, LINK) == 0
 }
 
-// The index of slot s in an id.
-fn index_of(s: usize) -> u32
-    ensures { λ r. ⌜ r ≡ s % 2 ^ 32 ⌝ }
-{
-    (s % 0x1_0000_0000) as u32
-}
-
 // Is the own word of slot s the id of a leaf there?
 fn leaf_named(facts: &[u64], s: usize) -> bool
     ensures { λ r. ⌜ r ≡ leafNamed (now (facts .entry)) s ⌝ }
 {
     let own = fact(facts, s, OWN);
-    own == BlockId::new_leaf(index_of(s), BlockId(own).generation()).raw()
+    own == leaf_id(s, own)
 }
 
 // A leaf has a value other than 0 and no children; its height is 0.
@@ -146,42 +139,12 @@ fn leaf_fine(kids: &[u64], facts: &[u64], s: usize) -> bool
     bare(kids, s, 0)
 }
 
-// The bits of a child: 1 if it isn't EMPTY, and 256 more if it is a leaf.
-fn kid_bit(y: u64) -> u64
-    ensures { λ r. ⌜ (r ≡ kidBit y) × (r ≤ 257) ⌝ }
-{
-    if y == 0 {
-        return 0;
-    }
-    if BlockId(y).is_leaf() {
-        return 257;
-    }
-    1
-}
-
-// Mask bit i is 1 exactly if child i isn't EMPTY, types bit i exactly if child i is a leaf; the types are above the mask.
-fn kid_bits(ks: [u64; 8]) -> u64
-    ensures { λ r. ⌜ (r ≡ kidBits ks) × (r < 65536) ⌝ }
-{
-    kid_bit(ks[0])
-        + 2 * kid_bit(ks[1])
-        + 4 * kid_bit(ks[2])
-        + 8 * kid_bit(ks[3])
-        + 16 * kid_bit(ks[4])
-        + 32 * kid_bit(ks[5])
-        + 64 * kid_bit(ks[6])
-        + 128 * kid_bit(ks[7])
-}
-
 // Is the own word of slot s the id of a branch there with its children?
 fn branch_named(kids: &[u64], facts: &[u64], s: usize) -> bool
     ensures { λ r. ⌜ r ≡ branchNamed (now (kids .entry)) (now (facts .entry)) s ⌝ }
 {
     let own = fact(facts, s, OWN);
-    let bits = kid_bits(children(kids, s));
-    let types = (bits / 256) as u8;
-    let mask = (bits % 256) as u8;
-    own == BlockId::new_branch(index_of(s), BlockId(own).generation(), types, mask).raw()
+    own == branch_id(children(kids, s), s, own)
 }
 
 // Is the id y live: in all its bits the id of the node in its slot?

@@ -7,5 +7,4 @@ pub leaf-named-spec : {M : Type 1} → statement M
 unfolding leafNamed
 leaf-named-spec =
     tie.close
-    (tie.spec (λ c κs. search needs) (λ c κs. search needs) (λ c κs. search needs) (λ c κs. search needs) (λ c κs. search needs)
-    (λ c. cc))
+    (tie.spec (λ c κs. search needs) (λ c κs. search needs) (λ c. cc))
