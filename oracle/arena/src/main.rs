@@ -1,12 +1,12 @@
 //! Compares the port's arena, linked from its static library, with document 01 and with the original.
 //!
-//!     arena [--long N]     N times as many sequences at random
+//!     arena [--long N | --part N]     N times as many sequences at random, or an Nth of them
 use arena::beside::Original;
 use arena::damage::{self, Damages};
 use arena::run::{Plan, drain, run};
 use arena::tally::Tally;
 use arena::{boundary, check};
-use reference::Seeds;
+use reference::{Seeds, Volume};
 use std::process::ExitCode;
 use std::sync::atomic::Ordering::Relaxed;
 use std::time::Instant;
@@ -16,7 +16,7 @@ use voxelis::interner::HASH_MASK;
 const SEED: u64 = 0x0102_0304_0506_0709;
 
 /// Capacity, sequences, calls in each.
-const SEQUENCES: [(usize, u64, u32); 9] = [
+const SEQUENCES: [(usize, u64, u64); 9] = [
     (2, 4, 600_000),
     (3, 80, 20_000),
     (4, 80, 20_000),
@@ -27,6 +27,8 @@ const SEQUENCES: [(usize, u64, u32); 9] = [
     (4_096, 8, 250_000),
     (65_536, 4, 600_000),
 ];
+/// Arenas of so few slots that their sequences are compared whole where a part is asked for.
+const SMALL: usize = 16;
 /// Sets of damaged tables.
 const DAMAGED: u64 = 20_000;
 /// Arenas of which one thing is changed in every way of the check's list.
@@ -43,16 +45,22 @@ fn boundaries() -> Result<(), String> {
     Ok(())
 }
 
-fn sequences(times: u64, seeds: &mut Seeds) -> Result<u64, String> {
+fn sequences(volume: Volume, seeds: &mut Seeds) -> Result<u64, String> {
     let mut all = 0;
     for (capacity, count, calls) in SEQUENCES {
         let start = Instant::now();
         let mut tally = Tally::default();
-        for _ in 0..count * times {
+        let volume = if capacity <= SMALL {
+            volume.whole()
+        } else {
+            volume
+        };
+        let (count, calls) = volume.split(count, calls);
+        for _ in 0..count {
             let seed = seeds.another();
             let plan = Plan {
                 capacity,
-                calls,
+                calls: calls as u32,
                 seed,
                 original: Original::Beside,
             };
@@ -62,8 +70,7 @@ fn sequences(times: u64, seeds: &mut Seeds) -> Result<u64, String> {
             })?;
         }
         println!(
-            "capacity {capacity}, {} sequences, {:.1} s, {tally}",
-            count * times,
+            "capacity {capacity}, {count} sequences, {:.1} s, {tally}",
             start.elapsed().as_secs_f64()
         );
         all += tally.calls;
@@ -72,9 +79,9 @@ fn sequences(times: u64, seeds: &mut Seeds) -> Result<u64, String> {
 }
 
 /// The same sequences with the original's hash whole and weakened: the port ends with the same tables, and the original departs.
-fn weakened(times: u64, seeds: &mut Seeds) -> Result<u64, String> {
+fn weakened(volume: Volume, seeds: &mut Seeds) -> Result<u64, String> {
     let (mut calls, mut departed) = (0, 0);
-    let count = 20 * times;
+    let count = volume.of(20);
     for _ in 0..count {
         let mut plan = Plan {
             capacity: 400,
@@ -106,9 +113,9 @@ fn weakened(times: u64, seeds: &mut Seeds) -> Result<u64, String> {
     Ok(calls)
 }
 
-fn damaged(times: u64, seeds: &mut Seeds) -> Result<u64, String> {
+fn damaged(volume: Volume, seeds: &mut Seeds) -> Result<u64, String> {
     let mut damages = Damages::default();
-    for _ in 0..DAMAGED * times {
+    for _ in 0..volume.of(DAMAGED) {
         damage::run(seeds.another(), &mut damages)?;
     }
     println!(
@@ -123,11 +130,11 @@ fn damaged(times: u64, seeds: &mut Seeds) -> Result<u64, String> {
 }
 
 /// The arena check at its edges, and on tables of which one thing is changed. Answers how often it was asked.
-fn checked(times: u64, seeds: &mut Seeds) -> Result<u64, String> {
+fn checked(volume: Volume, seeds: &mut Seeds) -> Result<u64, String> {
     let edges = check::edges()?;
     println!("the arena check at {edges} edges, on tables written by hand: as document 01 says");
     let mut outcomes = vec![check::Outcome::default(); check::CHANGES.len()];
-    for _ in 0..CHANGED * times {
+    for _ in 0..volume.of(CHANGED) {
         check::run(seeds.another(), &mut outcomes)?;
     }
     println!("the arena check on well-formed tables with one thing changed, as document 01 says:");
@@ -140,27 +147,22 @@ fn checked(times: u64, seeds: &mut Seeds) -> Result<u64, String> {
     Ok(edges + outcomes.iter().map(|outcome| outcome.tables).sum::<u64>())
 }
 
-fn compare(times: u64) -> Result<u64, String> {
+fn compare(volume: Volume) -> Result<u64, String> {
     let mut seeds = Seeds::new(SEED);
     boundaries()?;
-    let calls =
-        sequences(times, &mut seeds)? + weakened(times, &mut seeds)? + damaged(times, &mut seeds)?;
-    Ok(calls + checked(times, &mut seeds)?)
+    let calls = sequences(volume, &mut seeds)?
+        + weakened(volume, &mut seeds)?
+        + damaged(volume, &mut seeds)?;
+    Ok(calls + checked(volume, &mut seeds)?)
 }
 
 fn main() -> ExitCode {
-    let arguments: Vec<String> = std::env::args().skip(1).collect();
-    let times = match arguments.iter().map(String::as_str).collect::<Vec<_>>()[..] {
-        [] => 1,
-        ["--long", n] if n.parse::<u64>().is_ok() => n.parse().unwrap(),
-        _ => {
-            eprintln!("usage: arena [--long N]");
-            return ExitCode::from(2);
-        }
+    let Some(volume) = Volume::asked("arena") else {
+        return ExitCode::from(2);
     };
     println!("seed {SEED:#018x}");
     reference::quiet();
-    match compare(times) {
+    match compare(volume) {
         Ok(calls) => {
             println!("{calls} calls compared, no difference beyond the listed departures");
             ExitCode::SUCCESS

@@ -1,6 +1,6 @@
 //! Compares the port, linked from its static library, with the original and with document 01, on every function of ids and paths.
 //!
-//!     compare [--long N]     N times as many inputs at random
+//!     compare [--long N | --part N]     N times as many inputs at random, or an Nth of them
 mod functions;
 mod inputs;
 mod judge;
@@ -8,7 +8,7 @@ mod run;
 
 use functions::*;
 use inputs::{edges, product, raw_ids};
-use reference::Random;
+use reference::{Random, Volume};
 use run::Run;
 use std::process::ExitCode;
 
@@ -274,16 +274,10 @@ fn child_index2(turns: u64, random: &mut Random) -> bool {
 }
 
 fn main() -> ExitCode {
-    let arguments: Vec<String> = std::env::args().skip(1).collect();
-    let times = match arguments.iter().map(String::as_str).collect::<Vec<_>>()[..] {
-        [] => 1,
-        ["--long", n] if n.parse::<u64>().is_ok() => n.parse().unwrap(),
-        _ => {
-            eprintln!("usage: compare [--long N]");
-            return ExitCode::from(2);
-        }
+    let Some(volume) = Volume::asked("compare") else {
+        return ExitCode::from(2);
     };
-    let turns = AT_RANDOM * times;
+    let turns = volume.of(AT_RANDOM);
     println!("seed {SEED:#018x}, {turns} inputs at random for each function");
     reference::quiet();
     let mut random = Random::new(SEED);

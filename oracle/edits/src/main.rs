@@ -1,6 +1,6 @@
 //! Compares the port's edit, linked from its static library, with document 01, with plain arrays of numbers and with a path copy on the original.
 //!
-//!     edits [--long N]     N times as many edits at random
+//!     edits [--long N | --part N]     N times as many edits at random, or an Nth of them
 mod boundary;
 mod damage;
 mod models;
@@ -10,7 +10,7 @@ use arena::beside::Original;
 use damage::Damages;
 use models::Plan;
 use reference::arena::LEAST_CAPACITY;
-use reference::{Random, Seeds};
+use reference::{Random, Seeds, Volume};
 use std::process::ExitCode;
 use std::time::Instant;
 use tally::Tally;
@@ -53,11 +53,12 @@ fn boundaries(all: &mut Tally) -> Result<(), String> {
     Ok(())
 }
 
-fn runs(times: u64, seeds: &mut Seeds, all: &mut Tally) -> Result<(), String> {
+fn runs(volume: Volume, seeds: &mut Seeds, all: &mut Tally) -> Result<(), String> {
     for (capacity, count, edits, deepest, original) in RUNS {
         let start = Instant::now();
         let mut tally = Tally::default();
-        for _ in 0..count * times {
+        let (count, edits) = volume.split(count, edits);
+        for _ in 0..count {
             let plan = Plan {
                 capacity,
                 edits,
@@ -68,8 +69,7 @@ fn runs(times: u64, seeds: &mut Seeds, all: &mut Tally) -> Result<(), String> {
             models::run(&plan, &mut tally)?;
         }
         println!(
-            "capacity {capacity}, {} runs, {:.1} s, {tally}",
-            count * times,
+            "capacity {capacity}, {count} runs, {:.1} s, {tally}",
             start.elapsed().as_secs_f64()
         );
         all.add(&tally);
@@ -78,11 +78,11 @@ fn runs(times: u64, seeds: &mut Seeds, all: &mut Tally) -> Result<(), String> {
 }
 
 /// Runs of capacities and depths at random.
-fn other_runs(times: u64, seeds: &mut Seeds, all: &mut Tally) -> Result<(), String> {
+fn other_runs(volume: Volume, seeds: &mut Seeds, all: &mut Tally) -> Result<(), String> {
     let start = Instant::now();
     let mut tally = Tally::default();
-    let (count, edits) = OTHER_RUNS;
-    for _ in 0..count * times {
+    let (count, edits) = (volume.of(OTHER_RUNS.0), OTHER_RUNS.1);
+    for _ in 0..count {
         let seed = seeds.another();
         let mut random = Random::new(seed);
         let most = random.one_of(&[12, 60, 400, 3_000]);
@@ -96,17 +96,16 @@ fn other_runs(times: u64, seeds: &mut Seeds, all: &mut Tally) -> Result<(), Stri
         models::run(&plan, &mut tally)?;
     }
     println!(
-        "capacities at random, {} runs, {:.1} s, {tally}",
-        count * times,
+        "capacities at random, {count} runs, {:.1} s, {tally}",
         start.elapsed().as_secs_f64()
     );
     all.add(&tally);
     Ok(())
 }
 
-fn damaged(times: u64, seeds: &mut Seeds) -> Result<(), String> {
+fn damaged(volume: Volume, seeds: &mut Seeds) -> Result<(), String> {
     let mut damages = Damages::default();
-    for _ in 0..DAMAGED * times {
+    for _ in 0..volume.of(DAMAGED) {
         damage::run(seeds.another(), &mut damages)?;
     }
     println!(
@@ -135,30 +134,24 @@ fn changes(seeds: &mut Seeds) -> Result<(), String> {
     Ok(())
 }
 
-fn compare(times: u64) -> Result<String, String> {
+fn compare(volume: Volume) -> Result<String, String> {
     let mut seeds = Seeds::new(SEED);
     let mut all = Tally::default();
     changes(&mut seeds)?;
     boundaries(&mut all)?;
-    runs(times, &mut seeds, &mut all)?;
-    other_runs(times, &mut seeds, &mut all)?;
-    damaged(times, &mut seeds)?;
+    runs(volume, &mut seeds, &mut all)?;
+    other_runs(volume, &mut seeds, &mut all)?;
+    damaged(volume, &mut seeds)?;
     Ok(all.summary())
 }
 
 fn main() -> ExitCode {
-    let arguments: Vec<String> = std::env::args().skip(1).collect();
-    let times = match arguments.iter().map(String::as_str).collect::<Vec<_>>()[..] {
-        [] => 1,
-        ["--long", n] if n.parse::<u64>().is_ok() => n.parse().unwrap(),
-        _ => {
-            eprintln!("usage: edits [--long N]");
-            return ExitCode::from(2);
-        }
+    let Some(volume) = Volume::asked("edits") else {
+        return ExitCode::from(2);
     };
     println!("seed {SEED:#018x}");
     reference::quiet();
-    match compare(times) {
+    match compare(volume) {
         Ok(summary) => {
             println!("{summary}, no difference");
             ExitCode::SUCCESS

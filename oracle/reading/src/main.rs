@@ -1,6 +1,6 @@
 //! Compares the port's lookup and expansion, linked from its static library, with document 01 and with the original.
 //!
-//!     reading [--long N]     N times as many models at random
+//!     reading [--long N | --part N]     N times as many models at random, or an Nth of them
 mod compare;
 mod model;
 mod plan;
@@ -13,7 +13,7 @@ use plan::{Cube, Plan};
 use reference::document01::{EMPTY, index};
 use reference::reading::DEEPEST;
 use reference::tables::HEIGHT;
-use reference::{Random, Seeds};
+use reference::{Random, Seeds, Volume};
 use std::process::ExitCode;
 use std::time::Instant;
 
@@ -69,9 +69,9 @@ fn read(
     Ok(())
 }
 
-fn plans(times: u64, seeds: &mut Seeds, counts: &mut Counts) -> Result<(), String> {
+fn plans(volume: Volume, seeds: &mut Seeds, counts: &mut Counts) -> Result<(), String> {
     let mut kinds: Vec<(&str, u64)> = vec![];
-    for _ in 0..PLANS * times {
+    for _ in 0..volume.of(PLANS) {
         let seed = seeds.another();
         let mut random = Random::new(seed);
         let (kind, plan) = Plan::any(&mut random);
@@ -92,8 +92,8 @@ fn plans(times: u64, seeds: &mut Seeds, counts: &mut Counts) -> Result<(), Strin
     Ok(())
 }
 
-fn edits(times: u64, seeds: &mut Seeds, counts: &mut Counts) -> Result<(), String> {
-    for _ in 0..EDITS * times {
+fn edits(volume: Volume, seeds: &mut Seeds, counts: &mut Counts) -> Result<(), String> {
+    for _ in 0..volume.of(EDITS) {
         let seed = seeds.another();
         let mut random = Random::new(seed);
         Model::of_edits(&mut random)
@@ -105,8 +105,8 @@ fn edits(times: u64, seeds: &mut Seeds, counts: &mut Counts) -> Result<(), Strin
     Ok(())
 }
 
-fn sequences(times: u64, seeds: &mut Seeds, counts: &mut Counts) -> Result<(), String> {
-    for _ in 0..SEQUENCES * times {
+fn sequences(volume: Volume, seeds: &mut Seeds, counts: &mut Counts) -> Result<(), String> {
+    for _ in 0..volume.of(SEQUENCES) {
         let seed = seeds.another();
         let mut random = Random::new(seed);
         let capacity = random.one_of(&[4, 16, 100, 400]);
@@ -126,9 +126,9 @@ fn sequences(times: u64, seeds: &mut Seeds, counts: &mut Counts) -> Result<(), S
     Ok(())
 }
 
-fn damaged(times: u64, seeds: &mut Seeds) -> Result<Counts, String> {
+fn damaged(volume: Volume, seeds: &mut Seeds) -> Result<Counts, String> {
     let mut counts = Counts::default();
-    for _ in 0..DAMAGED * times {
+    for _ in 0..volume.of(DAMAGED) {
         let seed = seeds.another();
         let mut random = Random::new(seed);
         damage::tables(&mut random, damage::well_formed)
@@ -148,7 +148,7 @@ fn numbers(counts: &[u64; 10]) -> String {
     given.join(" ")
 }
 
-fn compare_all(times: u64) -> Result<(), String> {
+fn compare_all(volume: Volume) -> Result<(), String> {
     smallest::all().map_err(|words| format!("a listed departure: {words}"))?;
     println!("the departures of reading at their smallest inputs: the port answers as listed");
     let mut seeds = Seeds::new(SEED);
@@ -159,14 +159,14 @@ fn compare_all(times: u64) -> Result<(), String> {
             .elapsed()
             .as_secs_f64()
     };
-    plans(times, &mut seeds, &mut counts)?;
+    plans(volume, &mut seeds, &mut counts)?;
     println!("    {:.1} s", lap());
-    edits(times, &mut seeds, &mut counts)?;
-    println!("models of edits: {}, {:.1} s", EDITS * times, lap());
-    sequences(times, &mut seeds, &mut counts)?;
+    edits(volume, &mut seeds, &mut counts)?;
+    println!("models of edits: {}, {:.1} s", volume.of(EDITS), lap());
+    sequences(volume, &mut seeds, &mut counts)?;
     println!(
         "models of calls at random: {}, {:.1} s",
-        SEQUENCES * times,
+        volume.of(SEQUENCES),
         lap()
     );
     println!(
@@ -187,10 +187,10 @@ fn compare_all(times: u64) -> Result<(), String> {
         "    on the original too: outside the cube {} (D9), deeper than 6 {} (D11), from a level on {} (D12), each as listed",
         counts.outside, counts.deeper, counts.from_level
     );
-    let counts = damaged(times, &mut seeds)?;
+    let counts = damaged(volume, &mut seeds)?;
     println!(
         "damaged tables: {} sets, {} calls, {:.1} s, all ended, stayed inside, left the tables alone and answered as document 01 says on what stands there; lookups by number {}, expansions {}",
-        DAMAGED * times,
+        volume.of(DAMAGED),
         counts.odd,
         lap(),
         numbers(&counts.looked),
@@ -200,18 +200,12 @@ fn compare_all(times: u64) -> Result<(), String> {
 }
 
 fn main() -> ExitCode {
-    let arguments: Vec<String> = std::env::args().skip(1).collect();
-    let times = match arguments.iter().map(String::as_str).collect::<Vec<_>>()[..] {
-        [] => 1,
-        ["--long", n] if n.parse::<u64>().is_ok() => n.parse().unwrap(),
-        _ => {
-            eprintln!("usage: reading [--long N]");
-            return ExitCode::from(2);
-        }
+    let Some(volume) = Volume::asked("reading") else {
+        return ExitCode::from(2);
     };
     println!("seed {SEED:#018x}");
     reference::quiet();
-    match compare_all(times) {
+    match compare_all(volume) {
         Ok(()) => {
             println!("no difference beyond the listed departures");
             ExitCode::SUCCESS

@@ -6,6 +6,8 @@ mod panics;
 mod random;
 pub mod reading;
 pub mod tables;
+mod volume;
 
 pub use panics::{answer_or_panic, quiet};
 pub use random::{Random, Seeds};
+pub use volume::Volume;
