@@ -17,17 +17,18 @@ use masks::branch_id;
 use nodes::HOLDS;
 use nodes::OWN;
 use nodes::fact;
-use summing::top_of;
-use summing::value_of;
+use summing::sums_of;
 use writing::put_fact;
 use writing::write_slot;
 ghost use mathlib.Core.Path.{_≡_};
+ghost use mathlib.Core.Bool.{false};
 ghost use mathlib.Core.List.{List};
 ghost use Prim.Native.Nat.{ℕ, _≤_};
+ghost use Rattle.basics.specs.Pick.{pick};
 ghost use Rattle.nodes.specs.Tally.{occ};
 ghost use Rattle.nodes.specs.Words.{nodes as nodesOf, factOf};
 ghost use Rattle.arena.specs.Calls.{made, Fair, liveOrEmpty, enoughFor, allLive, enough, noneOf, unheldKid, unheld, internBranchOf, rawIds};
-ghost use Rattle.arena.specs.Models.{settledKid, settles, branchMissBy, branchHitBy, branchAt, branchBy, branchLow, kidsNo, internBranchBy};
+ghost use Rattle.arena.specs.Models.{settledKid, settles, branchMissBy, branchHitBy, branchAt, branchBy, branchLow, kidsNo, internBranchBy, valueBy};
 ghost use Rattle.arena.specs.Tables.{tables};
 
 // Is the id EMPTY or live?
@@ -38,20 +39,6 @@ fn live_or_empty(capacity: usize, facts: &[u64], k: u64) -> bool
         return true;
     }
     is_live(capacity, facts, k)
-}
-
-// Not refusal 4: is each id EMPTY or live?
-fn all_live(capacity: usize, facts: &[u64], ks: [u64; 8]) -> bool
-    ensures { λ r. ⌜ r ≡ allLive capacity (factOf (now (facts .entry))) ks ⌝ }
-{
-    let mut i: usize = 0;
-    while i < 8 {
-        if !live_or_empty(capacity, facts, ks[i]) {
-            return false;
-        }
-        i += 1;
-    }
-    true
 }
 
 // How often y stands among the eight.
@@ -83,32 +70,36 @@ fn enough_for(facts: &[u64], ks: [u64; 8], k: u64) -> bool
     occurs(ks, k) <= h
 }
 
-// Not refusal 5: has each the holds that the call would take?
-fn has_enough(facts: &[u64], ks: [u64; 8]) -> bool
-    ensures { λ r. ⌜ r ≡ enough (factOf (now (facts .entry))) ks ⌝ }
+// Are both true?
+fn both(x: bool, y: bool) -> bool
+    ensures { λ r. ⌜ r ≡ pick x y false ⌝ }
 {
-    let mut i: usize = 0;
-    while i < 8 {
-        if !enough_for(facts, ks, ks[i]) {
-            return false;
-        }
-        i += 1;
-    }
-    true
+    if x { y } else { false }
 }
 
-// Refusal 7: are all eight EMPTY?
-fn no_kids(ks: [u64; 8]) -> bool
-    ensures { λ r. ⌜ r ≡ noneOf ks ⌝ }
+// Refusals 4, 5 and 7, in one pass: a child that is neither EMPTY nor live, one without the holds that the call would take, and eight EMPTY ones.
+fn each_no(capacity: usize, facts: &[u64], ks: [u64; 8]) -> u32
+    ensures { λ r. ⌜ r ≡ pick (allLive capacity (factOf (now (facts .entry))) ks) (pick (enough (factOf (now (facts .entry))) ks) (pick (noneOf ks) 7 0) 5) 4 ⌝ }
 {
+    let mut held = true;
+    let mut none = true;
     let mut i: usize = 0;
     while i < 8 {
-        if !BlockId(ks[i]).is_empty() {
-            return false;
+        let k = ks[i];
+        if !live_or_empty(capacity, facts, k) {
+            return 4;
         }
+        held = both(held, enough_for(facts, ks, k));
+        none = both(none, BlockId(k).is_empty());
         i += 1;
     }
-    true
+    if held {
+        if none {
+            return 7;
+        }
+        return 0;
+    }
+    5
 }
 
 // Refusals 1, 4, 5 and 7.
@@ -116,16 +107,7 @@ fn kids_no(a: Arena, kids: &[u64], facts: &[u64], find: &[u16], ks: [u64; 8]) ->
     ensures { λ r. ⌜ r ≡ kidsNo (tables a (now (kids .entry)) (now (facts .entry)) (now (find .entry))) ks ⌝ }
 {
     if fit(a.capacity, kids.len(), facts.len(), find.len()) {
-        if all_live(a.capacity, facts, ks) {
-            if has_enough(facts, ks) {
-                if no_kids(ks) {
-                    return 7;
-                }
-                return 0;
-            }
-            return 5;
-        }
-        return 4;
+        return each_no(a.capacity, facts, ks);
     }
     1
 }
@@ -247,19 +229,19 @@ fn branch_at(
     branch_hit(a, facts, ks, s)
 }
 
-// The branch of these children, whose tallest is `top` high.
+// The branch of these children, which come to the stored value v and of which the tallest is `top` high.
 fn branch(
     a: Arena,
     kids: &mut [u64],
     facts: &mut [u64],
     find: &mut [u16],
     ks: [u64; 8],
+    v: u64,
     top: u64,
 ) -> Made
-    requires { ⌜ top ≤ 6 ⌝ }
+    requires { ⌜ (v ≡ valueBy 8 (factOf (now facts)) ks) × (top ≤ 6) ⌝ }
     ensures { λ r. ⌜ made r (now (kids .exit)) (now (facts .exit)) (now (find .exit)) ≡ branchBy 8 (tables a (now (kids .entry)) (now (facts .entry)) (now (find .entry))) ks top ⌝ }
 {
-    let v = value_of(facts, ks);
     let f = search(find, kids, facts, a.capacity, ks, v);
     branch_at(a, kids, facts, find, ks, v, top + 1, f.slot, f.cell)
 }
@@ -268,9 +250,9 @@ fn branch(
 fn branch_low(a: Arena, kids: &mut [u64], facts: &mut [u64], find: &mut [u16], ks: [u64; 8]) -> Made
     ensures { λ r. ⌜ made r (now (kids .exit)) (now (facts .exit)) (now (find .exit)) ≡ branchLow 8 6 (tables a (now (kids .entry)) (now (facts .entry)) (now (find .entry))) ks ⌝ }
 {
-    let top = top_of(facts, ks);
-    if top < 6 {
-        return branch(a, kids, facts, find, ks, top);
+    let sums = sums_of(facts, ks);
+    if sums.top < 6 {
+        return branch(a, kids, facts, find, ks, sums.value, sums.top);
     }
     Made {
         no: 8,

@@ -11,15 +11,14 @@ use lib.ListN.{length, getD, set, length-set}
 use borrow.Author.Tests.{eq-eqb, ne-eqb, lt-ltb}
 use Rattle.basics.specs.Pick.{pick}
 use Rattle.ids.specs.Ids.{isLeaf, generationOf}
-use Rattle.nodes.specs.Words.{Words, own, value, places, slot, floor, wordOf, factOf, putOf, written}
+use Rattle.nodes.specs.Words.{Words, own, value, places, slot, floor, wordOf, factOf, putOf}
 use Rattle.nodes.specs.Tally.{tabFrom, occ, Live}
-use Rattle.nodes.proofs.Access.{written-kid, written-fact}
 use Rattle.nodes.proofs.Counts.{total-append, total-bound}
 use Rattle.nodes.proofs.Sums.{cases, split, sumTo-ext, tabFrom-ext, tabFrom-length, occ-nil, occ-cons, occ-here, occ-there}
 use Rattle.hashing.specs.Hash.{homeFor}
-use Rattle.finding.specs.Content.{contentIs, homeAt}
-use Rattle.finding.specs.Cells.{cell, placeOf, probe, insertAt}
-use Rattle.finding.proofs.Contents.{content-true, content-words, home-content, probe-as, tab-list}
+use Rattle.finding.specs.Content.{contentIs}
+use Rattle.finding.specs.Cells.{cell, probe, insertAt}
+use Rattle.finding.proofs.Contents.{content-true, content-words, probe-as, tab-list}
 use Rattle.tree.specs.Tree.{LiveOr0, WellMade, Cell, here, down}
 use Rattle.tree.specs.Anew.{part, replace}
 use Rattle.tree.specs.Lacks.{Need, have, lack, Plan}
@@ -27,11 +26,11 @@ use Rattle.tree.proofs.Making.{part-there, part-low, replace-same, replace-othe
 use Rattle.arena.specs.Node.{valueFor, heightFor}
 use Rattle.nodes.specs.Values.{heightAt, valueAt}
 use Rattle.arena.specs.Tables.{Tables, tablesOf, cap, W, LiveSlot, WellFormed}
-use Rattle.arena.specs.Calls.{Out, said, allOf, each, empties, freshSlot, freshFacts, named, leafSlot, branchIn, branchSlot}
+use Rattle.arena.specs.Calls.{Out, said, allOf, each, empties, freshSlot, named, leafSlot, branchIn, branchSlot}
 use Rattle.arena.specs.Models.{moreOf, cellFor, writtenAt, writtenNodes, topFor, valueBy}
 use Rattle.arena.proofs.Ids.{new-leaf, new-branch, value-zero, value-node}
 use Rattle.arena.proofs.Branches.{occ-at}
-use Rattle.arena.proofs.Inv.{Inv, Content, sized-within, wf-inv, wf-content}
+use Rattle.arena.proofs.Inv.{Inv, Content, wf-inv, wf-content}
 use Rattle.arena.proofs.Leaves.{search-hit, search-miss, no-leaf, leaf-in, leaf-slot, leaf-content}
 use Rattle.arena.proofs.Branching.{sum-wraps, more-few, height-top}
 use Rattle.arena.proofs.Make.{fresh-free}
@@ -238,34 +237,27 @@ module _ (tallest : ℕ) where
 -- ---- a fresh node
 
 -- a slot that is not live is not named, so the search for its number ends at the first empty cell from its home on
-place-named : (t : Tables) (d ks : List ℕ) (id v up h q : ℕ) → Inv t d → t .arena .live + 1 < cap t → length ks ≡ 8
-    → set (t .find) (placeOf (homeAt (cap t) (wordOf (writtenNodes t id ks v up h q))) (t .find) (freshSlot (t .arena))) (freshSlot (t .arena) % 65536)
-    ≡ named t ks v (freshSlot (t .arena))
-unfolding writtenNodes freshFacts named insertAt
-place-named t d ks id v up h q i room e =
+place-named : (t : Tables) (d ks : List ℕ) (v : ℕ) → Inv t d → t .arena .live + 1 < cap t
+    → set (t .find) (probe (eqb (freshSlot (t .arena))) (t .find) (homeFor (cap t) ks v)) (freshSlot (t .arena) % 65536) ≡ named t ks v (freshSlot (t .arena))
+unfolding named insertAt
+place-named t d ks v i room =
     let s = freshSlot (t .arena) in
-    let row = id ∷ v ∷ up ∷ h ∷ q ∷ 0 ∷ 0 ∷ [] in
     let free = fresh-free t d i room in
     let most = i .sized .most in
     let low = free .1 in
-    let within = sized-within t s (i .sized) low in
     let whole : s % 65536 ≡ s = omega arith in
-    let home : homeAt (cap t) (wordOf (written (t .nodes) s ks row)) s ≡ homeFor (cap t) ks v =
-    home-content (cap t) (wordOf (written (t .nodes) s ks row)) s ks v e (written-kid (t .nodes) s ks row e refl within)
-    (written-fact (t .nodes) s ks row e refl within 1 (omega arith)) in
     let end : probe (eqb s) (t .find) (homeFor (cap t) ks v) ≡ probe (λ x. false) (t .find) (homeFor (cap t) ks v) =
     probe-as (eqb s) (λ x. false) (t .find) (homeFor (cap t) ks v)
     (λ c a. ne-eqb s (cell (t .find) c) (λ z.
     let dead : W t (cell (t .find) c) own < floor = subst (λ (x : ℕ). W t x own < floor) z (free .2) in
     let live = i .finds .names (cell (t .find) c) a .0 (c, refl) .1 in
     omega arith)) in
-    ap₂ (λ (x y : ℕ). set (t .find) x y) (ap (probe (eqb s) (t .find)) home ∙ end) whole
+    ap₂ (λ (x y : ℕ). set (t .find) x y) end whole
 
-fresh-same : (t : Tables) (d ks : List ℕ) (id v up h q : ℕ) → Inv t d → t .arena .live + 1 < cap t → length ks ≡ 8
-    → freshBy t id ks v up h q ≡ freshNode t id ks v up h q
+fresh-same : (t : Tables) (d ks : List ℕ) (id v up h q : ℕ) → Inv t d → t .arena .live + 1 < cap t → freshBy t id ks v up h q ≡ freshNode t id ks v up h q
 unfolding freshBy freshNode writtenAt writtenNodes
-fresh-same t d ks id v up h q i room e =
-    said-path _ _ _ _ _ _ refl refl (tables-path _ _ _ _ _ _ (given-inv t d i room) refl (place-named t d ks id v up h q i room e))
+fresh-same t d ks id v up h q i room =
+    said-path _ _ _ _ _ _ refl refl (tables-path _ _ _ _ _ _ (given-inv t d i room) refl (place-named t d ks v i room))
 
 slot-whole : (t : Tables) (d : List ℕ) → Inv t d → t .arena .live + 1 < cap t → (freshSlot (t .arena) % 2 ^ 32 ≡ freshSlot (t .arena)) × (generationOf (W t (freshSlot (t .arena)) own) ≤ 0x7FFE)
 slot-whole t d i room =
@@ -280,18 +272,18 @@ leaf-same t d x h q i room =
     let z = slot-whole t d i room in
     let e = z .0 in
     let n = new-leaf (freshSlot (t .arena)) (generationOf (W t (freshSlot (t .arena)) own)) (z .1) in
-    rw (e, n) (fresh-same t d empties _ x 0 h q i room empties-length)
+    rw (e, n) (fresh-same t d empties _ x 0 h q i room)
 
-branch-same : (t : Tables) (d ks : List ℕ) (h q : ℕ) → Inv t d → t .arena .live + 1 < cap t → length ks ≡ 8
+branch-same : (t : Tables) (d ks : List ℕ) (h q : ℕ) → Inv t d → t .arena .live + 1 < cap t
     → valueBy 8 (W t) ks ≡ valueFor 8 (W t) ks → heightFor 8 (W t) ks ≤ 1000
     → branchAnewBy t ks h q ≡ branchAnew 8 t ks h q
 unfolding branchAnewBy branchAnew
-branch-same t d ks h q i room e ev low =
+branch-same t d ks h q i room ev low =
     let z = slot-whole t d i room in
     let s = z .0 in
     let n = new-branch ks (freshSlot (t .arena)) (generationOf (W t (freshSlot (t .arena)) own)) (z .1) in
     let up : moreOf (topFor (W t) ks 8) ≡ heightFor 8 (W t) ks = (let g = height-top 8 t ks in let b = more-few (topFor (W t) ks 8) (omega arith) in omega arith) in
-    rw (s, n, ev, up) (fresh-same t d ks _ (valueFor 8 (W t) ks) (heightFor 8 (W t) ks) h q i room e)
+    rw (s, n, ev, up) (fresh-same t d ks _ (valueFor 8 (W t) ks) (heightFor 8 (W t) ks) h q i room)
 
 m8 : 8 ≤ 8
 m8 = omega arith
@@ -363,7 +355,7 @@ module _ (tallest : ℕ) (high : tallest ≤ 900) (t : Tables) (w : WellFormed 8
       let ev : valueBy 8 (W v) ks ≡ valueFor 8 (W v) ks = grown-value tallest v ks n (g .inv) (g .content) in
       let hl = lowers 8 tallest t m8 two w x small d c a j h q p o l low b cell tall room few held r in
       rw (e, z, same)
-      (branch-same v (ks ++ []) ks h q (g .inv) (let y = g .lives in let k = r .grown .lives in let u = g .caps in let f = r .grown .caps in omega arith) n ev
+      (branch-same v (ks ++ []) ks h q (g .inv) (let y = g .lives in let k = r .grown .lives in let u = g .caps in let f = r .grown .caps in omega arith) ev
       (omega arith))
 
   -- the code's making is the definition's

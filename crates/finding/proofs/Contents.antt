@@ -7,16 +7,17 @@ use Prim.Native.Nat.{ℕ, zero, suc, _+_, _-_, _<_}
 use native.Mathlib.Decide.{ℕ-discrete}
 use native.Mathlib.Omega.{arith}
 use lib.Dec.{eqb}
-use lib.ListN.{length, getD}
+use lib.ListN.{length, getD, getD-replicate}
 use borrow.Author.Tests.{eq-eqb, ne-eqb, eqb-true}
 use Rattle.basics.specs.Pick.{pick}
 use Rattle.hashing.specs.Hash.{homeFor}
 use Rattle.nodes.specs.Tally.{tabFrom, kidsOf}
-use Rattle.nodes.specs.Words.{Words, value, own, height}
+use Rattle.nodes.specs.Words.{Words, nodes, kidOf, factOf, wordOf, value, own, height}
+use Rattle.nodes.proofs.Access.{word-fact}
 use Rattle.nodes.proofs.Counts.{kids-same}
 use Rattle.nodes.proofs.Sums.{cases}
 use Rattle.finding.specs.Cells.{stops, probeN, probe, cell}
-use Rattle.finding.specs.Content.{agree, contentIs, homeAt}
+use Rattle.finding.specs.Content.{noKids, agree, contentIs, homeAt}
 
 -- an element of a table
 pub tab-at : (k i : ℕ) (f : ℕ → ℕ) (j : ℕ) → j < k → getD (tabFrom k i f) j 0 ≡ f (i + j)
@@ -24,6 +25,11 @@ unfolding tabFrom
 tab-at zero i f j h = absurd (omega arith)
 tab-at (suc k) i f zero h = let e : i + 0 ≡ i = omega arith in ap f (sym e)
 tab-at (suc k) i f (suc j) h = let e : suc i + j ≡ i + suc j = omega arith in tab-at k (suc i) f j (omega arith) ∙ ap f e
+
+-- the children of slot s, read at once
+pub own-at : (j : ℕ) → j < 8 → (U : Words) (s : ℕ) (own : List ℕ) → own ≡ kidsOf 8 U s → getD own j 0 ≡ U s j
+unfolding kidsOf
+own-at j l U s own is = let z : 0 + j ≡ j = omega arith in ap (λ (x : List ℕ). getD x j 0) is ∙ tab-at 8 0 (U s) j l ∙ ap (U s) z
 
 -- a list is the table of its elements
 pub tab-list : (ks : List ℕ) (i : ℕ) (f : ℕ → ℕ) → ((j : ℕ) → j < length ks → f (i + j) ≡ getD ks j 0) → tabFrom (length ks) i f ≡ ks
@@ -72,6 +78,50 @@ content-words W ks v s n a = go (eqb (W s value) v) refl a
     go : (b : Bool) → eqb (W s value) v ≡ b → pick b (agree W s 0 ks) false ≡ true → ((i : ℕ) → i < 8 → W s i ≡ getD ks i 0) × (W s value ≡ v)
     go true e q = ((λ i m. let z : 0 + i ≡ i = omega arith in ap (W s) (sym z) ∙ agree-words W s 0 ks q i (omega arith)), eqb-true (W s value) v e)
     go false e q = absurd (true≢false (sym q))
+
+-- the value first: w is the value of slot s
+module _ (k f : List ℕ) (s : ℕ) (ks : List ℕ) (v w : ℕ) (is : w ≡ factOf f s value) where
+  pub content-other : (w ≡ v → ⊥) → false ≡ contentIs (wordOf (nodes k f)) ks v s
+  unfolding contentIs
+  content-other n = rw (ne-eqb (wordOf (nodes k f) s value) v (λ e. n (is ∙ sym (word-fact (nodes k f) s value (omega arith)) ∙ e)))
+
+  pub content-start : w ≡ v → contentIs (wordOf (nodes k f)) ks v s ≡ agree (wordOf (nodes k f)) s 0 ks
+  unfolding contentIs
+  content-start e = rw (eq-eqb (wordOf (nodes k f) s value) v (word-fact (nodes k f) s value (omega arith) ∙ sym is ∙ e))
+
+-- ---- no children: `own` are those of slot s
+pub some-kid : (j : ℕ) → j < 8 → (U : Words) (s : ℕ) (own : List ℕ) → own ≡ kidsOf 8 U s → (getD own j 0 ≡ 0 → ⊥) → false ≡ agree U s 0 noKids
+some-kid j l U s own is n = go (agree U s 0 noKids) refl
+  where
+    go : (b : Bool) → agree U s 0 noKids ≡ b → false ≡ b
+    go false e = refl
+    go true e =
+        let z : 0 + j ≡ j = omega arith in
+        absurd (n (own-at j l U s own is ∙ ap (U s) (sym z) ∙ agree-words U s 0 noKids e j l ∙ getD-replicate 8 j 0 0 l))
+
+module _ (U : Words) (s : ℕ) (own : List ℕ) (is : own ≡ kidsOf 8 U s) where
+  no-kid : (j : ℕ) → j < 8 → getD own j 0 ≡ 0 → eqb (U s j) 0 ≡ true
+  no-kid j l z = eq-eqb (U s j) 0 (sym (own-at j l U s own is) ∙ z)
+
+  pub no-kids : getD own 0 0 ≡ 0 → getD own 1 0 ≡ 0 → getD own 2 0 ≡ 0 → getD own 3 0 ≡ 0 → getD own 4 0 ≡ 0 → getD own 5 0 ≡ 0 → getD own 6 0 ≡ 0
+      → getD own 7 0 ≡ 0 → true ≡ agree U s 0 noKids
+  unfolding agree
+  no-kids a b c d e f g h =
+      rw (
+        no-kid 0 (omega arith) a,
+        no-kid 1 (omega arith) b,
+        no-kid 2 (omega arith) c,
+        no-kid 3 (omega arith) d,
+        no-kid 4 (omega arith) e,
+        no-kid 5 (omega arith) f,
+        no-kid 6 (omega arith) g,
+        no-kid 7 (omega arith) h,
+      )
+
+-- the words of a slot begin with its children
+pub kids-agree : (k f : List ℕ) (s : ℕ) → agree (kidOf k) s 0 noKids ≡ agree (wordOf (nodes k f)) s 0 noKids
+unfolding agree wordOf
+kids-agree k f s = refl
 
 -- ---- homes
 

@@ -1,16 +1,19 @@
 -- One step of a probe and of a shift, as the code's loops take them.
 use Prim.Native.Nat.{ℕ, zero, suc, _+_, _-_, _≤_, _<_}
 use mathlib.Core.Bool.{Bool, true, false}
-use mathlib.Core.Path.{_≡_, refl, sym, _∙_}
+use mathlib.Core.Path.{_≡_, refl, sym, ap, _∙_}
 use mathlib.Core.List.{List}
 use native.Mathlib.Numerals.{add-one}
 use native.Mathlib.Omega.{arith}
-use lib.ListN.{length, getD, set, length-set}
+use lib.ListN.{length, getD, set, length-set, List·getD-eq-default}
 use lib.Seq.{set-out}
 use lib.Dec.{eqb, leb}
 use borrow.Author.Tests.{eq-eqb, ne-eqb, le-leb, lt-leb}
 use Rattle.basics.specs.Pick.{pick}
-use Rattle.finding.specs.Cells.{stops, probeN, probe, shiftN, shift, erase, remove}
+use Rattle.hashing.specs.Hash.{homeFor}
+use Rattle.nodes.specs.Words.{Words}
+use Rattle.finding.specs.Cells.{stops, probeN, probe, cellOf, shiftN, shift, erase, remove}
+use Rattle.finding.specs.Content.{contentIs}
 
 -- ---- where a probe stops, and where not
 pub stops-empty : (same : ℕ → Bool) (x : ℕ) → x ≡ 0 → stops same x ≡ true
@@ -43,6 +46,31 @@ probe-here same t i h e = probe-step same t i h ∙ rw e
 
 pub probe-on : (same : ℕ → Bool) (t : List ℕ) (i : ℕ) → i < length t → stops same (getD t i 0) ≡ false → probe same t i ≡ probe same t (i + 1)
 probe-on same t i h e = probe-step same t i h ∙ rw e
+
+-- ---- a search's steps: u is the cell where it ends, and i the cell that it has come to
+pub search-start : (t : List ℕ) (cap : ℕ) (W : Words) (ks : List ℕ) (v h : ℕ) → h ≡ homeFor cap ks v → cellOf t cap W ks v ≡ probe (contentIs W ks v) t h
+unfolding cellOf
+search-start t cap W ks v h e = ap (probe (contentIs W ks v) t) (sym e)
+
+module _ (same : ℕ → Bool) (t : List ℕ) (u i : ℕ) (e : u ≡ probe same t i) where
+  pub search-on : (s : ℕ) (b : Bool) → i < length t → s ≡ getD t i 0 → (s ≡ 0 → ⊥) → b ≡ same s → b ≡ false → u ≡ probe same t (i + 1)
+  search-on s b l d n q z = e ∙ probe-on same t i l (stops-not same (getD t i 0) (λ y. n (d ∙ y)) (ap same (sym d) ∙ sym q ∙ z))
+
+  pub search-end : length t ≤ i → i ≡ u
+  search-end l = sym (e ∙ probe-end same t i l)
+
+  pub search-empty : (s : ℕ) → i < length t → s ≡ getD t i 0 → s ≡ 0 → i ≡ u
+  search-empty s l d z = sym (e ∙ probe-here same t i l (stops-empty same (getD t i 0) (sym d ∙ z)))
+
+  pub search-hit : (s : ℕ) (b : Bool) → i < length t → s ≡ getD t i 0 → b ≡ same s → b ≡ true → i ≡ u
+  search-hit s b l d q z = sym (e ∙ probe-here same t i l (stops-same same (getD t i 0) (ap same (sym d) ∙ sym q ∙ z)))
+
+-- the cell where it ends names no slot
+pub none-past : (t : List ℕ) (i : ℕ) → length t ≤ i → 0 ≡ getD t i 0
+none-past t i l = sym (List·getD-eq-default t 0 l)
+
+pub none-empty : (t : List ℕ) (i s : ℕ) → s ≡ getD t i 0 → s ≡ 0 → 0 ≡ getD t i 0
+none-empty t i s d z = sym z ∙ d
 
 -- ---- a shift's steps
 pub shift-end : (home : ℕ → ℕ) (t : List ℕ) (i j : ℕ) → length t ≤ j → shift home t i j ≡ set t i 0

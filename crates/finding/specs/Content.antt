@@ -20,6 +20,10 @@ agree W s i (k ∷ ks) = pick (eqb (W s i) k) (agree W s (i + 1) ks) false
 unfoldable pub contentIs : Words → List ℕ → ℕ → ℕ → Bool
 contentIs W ks v s = pick (eqb (W s value) v) (agree W s 0 ks) false
 
+-- the children of a leaf: eight EMPTY ids
+abbrev pub noKids : List ℕ
+noKids = 0 ∷ 0 ∷ 0 ∷ 0 ∷ 0 ∷ 0 ∷ 0 ∷ 0 ∷ []
+
 -- ## The home: its first cell to look at
 
 -- the home of the node in slot s

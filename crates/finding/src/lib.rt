@@ -6,9 +6,12 @@ use nodes::fact;
 ghost use mathlib.Core.Path.{_≡_};
 ghost use Prim.Native.Nat.{_%_};
 ghost use lib.ListN.{getD, set};
-ghost use Rattle.nodes.specs.Words.{nodes, wordOf};
-ghost use Rattle.finding.specs.Content.{contentIs};
+ghost use Rattle.nodes.specs.Words.{nodes, kidOf, wordOf};
+ghost use Rattle.finding.specs.Content.{noKids, agree, contentIs};
 ghost use Rattle.finding.specs.Cells.{cellOf};
+
+// Eight EMPTY children.
+const NONE: [u64; 8] = [0, 0, 0, 0, 0, 0, 0, 0];
 
 // Where a search ended: the cell, and the slot that it names, 0 for none.
 pub struct Found {
@@ -87,6 +90,74 @@ pub fn search(
         }
         if content_is(kids, facts, ks, v, s) {
             break s;
+        }
+        i += 1;
+    };
+    Found {
+        slot: slot,
+        cell: i,
+    }
+}
+
+// ---- the search for a leaf
+
+// Is each of the eight children of slot s EMPTY?
+fn childless(kids: &[u64], s: usize) -> bool
+    ensures { λ r. ⌜ r ≡ agree (kidOf (now (kids .entry))) s 0 noKids ⌝ }
+{
+    let own = children(kids, s);
+    if own[0] != 0 {
+        return false;
+    }
+    if own[1] != 0 {
+        return false;
+    }
+    if own[2] != 0 {
+        return false;
+    }
+    if own[3] != 0 {
+        return false;
+    }
+    if own[4] != 0 {
+        return false;
+    }
+    if own[5] != 0 {
+        return false;
+    }
+    if own[6] != 0 {
+        return false;
+    }
+    if own[7] != 0 {
+        return false;
+    }
+    true
+}
+
+// Has slot s the value v and eight EMPTY children?
+fn is_leaf_of(kids: &[u64], facts: &[u64], v: u64, s: usize) -> bool
+    ensures { λ r. ⌜ r ≡ contentIs (wordOf (nodes (now (kids .entry)) (now (facts .entry)))) noKids v s ⌝ }
+{
+    if fact(facts, s, VALUE) == v {
+        return childless(kids, s);
+    }
+    false
+}
+
+// Searches for the leaf of value v: answers what `search` does of eight EMPTY children and v.
+pub fn search_leaf(find: &[u16], kids: &[u64], facts: &[u64], capacity: usize, v: u64) -> Found
+    ensures { λ r. ⌜ (r .cell ≡ cellOf (now (find .entry)) capacity (wordOf (nodes (now (kids .entry)) (now (facts .entry)))) noKids v) × (r .slot ≡ getD (now (find .entry)) (r .cell) 0) ⌝ }
+{
+    let mut i = home_for(capacity, NONE, v);
+    let slot = loop {
+        if find.len() <= i {
+            break 0;
+        }
+        let named = wide(find[i]);
+        if named == 0 {
+            break 0;
+        }
+        if is_leaf_of(kids, facts, v, named) {
+            break named;
         }
         i += 1;
     };

@@ -4,7 +4,7 @@ use arena::Made;
 use arena::fit;
 use arena::less;
 use finding::put_cell;
-use finding::search;
+use finding::search_leaf;
 use ids::BlockId;
 use making::fresh_slot;
 use making::give;
@@ -97,7 +97,7 @@ fn leaf_at(
 fn leaf(a: Arena, kids: &mut [u64], facts: &mut [u64], find: &mut [u16], v: u64) -> Made
     ensures { λ r. ⌜ made r (now (kids .exit)) (now (facts .exit)) (now (find .exit)) ≡ leafBy (tables a (now (kids .entry)) (now (facts .entry)) (now (find .entry))) v ⌝ }
 {
-    let f = search(find, kids, facts, a.capacity, NONE, v);
+    let f = search_leaf(find, kids, facts, a.capacity, v);
     leaf_at(a, kids, facts, find, v, f.slot, f.cell)
 }
 

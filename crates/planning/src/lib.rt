@@ -2,6 +2,7 @@
 use arena::Arena;
 use arena::slot_of;
 use finding::search;
+use finding::search_leaf;
 use ids::BlockId;
 use nodes::OWN;
 use nodes::children;
@@ -22,9 +23,6 @@ ghost use Rattle.planning.specs.Models.{eightParts, leafKids, slotPlan, 
 
 // The lowest id of a leaf: bit 63 is the leaf flag.
 const LEAF: u64 = 0x8000_0000_0000_0000;
-
-// Eight EMPTY children.
-const NONE: [u64; 8] = [0, 0, 0, 0, 0, 0, 0, 0];
 
 // What a dry run found: how many nodes are to be made, and the part below them that is there.
 pub struct Plan {
@@ -92,7 +90,7 @@ fn plan_cell(a: Arena, kids: &[u64], facts: &[u64], find: &[u16], v: u64) -> Pla
             id: BlockId::EMPTY.0,
         };
     }
-    let f = search(find, kids, facts, a.capacity, NONE, v);
+    let f = search_leaf(find, kids, facts, a.capacity, v);
     plan_slot(facts, f.slot, BlockId::EMPTY.0)
 }
 

@@ -1,26 +1,30 @@
 -- One place taken from a node, as the code takes it, is one step of `dropPlace`.
-use mathlib.Core.Path.{_≡_, refl, sym, ap, _∙_}
+use mathlib.Core.Path.{_≡_, refl, sym, ap, ap₂, _∙_}
 use mathlib.Core.Bool.{Bool, true, false, true≢false}
 use mathlib.Core.List.{List, [], _∷_}
-use Prim.Native.Nat.{ℕ, zero, suc, _+_, _-_, _≤_, _<_}
+use Prim.Native.Nat.{ℕ, zero, suc, _+_, _-_, _*_, _≤_, _<_}
 use native.Mathlib.Decide.{ℕ-discrete}
 use native.Mathlib.Numerals.{add-one}
 use native.Mathlib.Omega.{arith}
 use lib.Dec.{eqb, ltb}
-use lib.ListN.{length, getD, drop}
-use borrow.Author.Tests.{eq-eqb, ne-eqb, ltb-true, ltb-false}
+use lib.ListN.{length, getD, drop, set}
+use lib.Seq.{set-out}
+use borrow.Author.Tests.{eq-eqb, eqb-true, ne-eqb, lt-ltb, le-ltb, ltb-true, ltb-false}
 use Rattle.basics.specs.Pick.{pick}
 use Rattle.nodes.specs.Tally.{kidsOf}
-use Rattle.nodes.specs.Words.{Words, factOf, factPut, holds, kidOf, nodes, places, putOf, slot, wordOf}
-use Rattle.nodes.proofs.Access.{kids-word}
+use Rattle.nodes.specs.Words.{Words, factOf, factPut, holds, kidOf, nodes, places, putOf, slot, value, wordOf}
+use Rattle.nodes.proofs.Access.{fact-at, fact-out, kids-word, put-in, word-fact}
 use Rattle.nodes.proofs.Sums.{cases}
-use Rattle.arena.specs.Calls.{each, recycled}
+use Rattle.hashing.specs.Hash.{homeFor}
+use Rattle.finding.specs.Content.{homeAt}
+use Rattle.arena.specs.Calls.{allOf, each, noneOf, recycled}
 use Rattle.arena.specs.Models.{dropPlace, moreOf, releaseBy, settled, settledN, step, stepOf, unplaced}
 use Rattle.arena.specs.Tables.{Tables, W, tables}
 use Rattle.arena.specs.declared.Arena.{Arena}
 use Rattle.arena.proofs.Dropping.{one-step, step-empty, step-held, step-last, step-more}
 use Rattle.arena.proofs.Eight.{drop-at, drop-none}
-use Rattle.releasing.specs.Drop.{stateOf, staysOf, lastOf, takenOf, dropSlot}
+use Rattle.arena.proofs.Fits.{both}
+use Rattle.releasing.specs.Drop.{stateOf, staysOf, lastAt, takenAt, lastOf, takenOf, dropSlot}
 
 -- ---- who stays
 
@@ -50,6 +54,97 @@ module _ (t : Tables) (id : ℕ) (d : id ≡ 0 → ⊥) where
       (λ (z : W t (slot id) holds ≡ 0). step-last t id d z (ltb-false 1 (W t (slot id) places) (sym (stays-bare (W t) (slot id) z) ∙ e)))
       (λ z. absurd (true≢false (sym (stays-held (W t) (slot id) z) ∙ e)))
 
+-- ---- the answers of `take_place`
+
+module _ (f : List ℕ) (s : ℕ) where
+  last-stays : staysOf (factOf f) s ≡ true → false ≡ lastAt (factOf f) s
+  unfolding lastAt
+  last-stays e = rw e
+
+  last-goes : staysOf (factOf f) s ≡ false → true ≡ lastAt (factOf f) s
+  unfolding lastAt
+  last-goes e = rw e
+
+  taken-stays : (v : ℕ) → staysOf (factOf f) s ≡ true → v ≡ factOf f s places - 1 → set f (7 * s + 4) v ≡ takenAt f s
+  unfolding takenAt
+  taken-stays v e ev = rw (e, ev) (sym (put-in f s places (factOf f s places - 1) (omega arith) (omega arith)))
+
+  taken-goes : staysOf (factOf f) s ≡ false → f ≡ takenAt f s
+  unfolding takenAt
+  taken-goes e = rw e
+
+  placed-at : getD f (7 * s + 4) 0 ≡ factOf f s places
+  placed-at = fact-at f s places (omega arith) (omega arith)
+
+  held-at : getD f (7 * s + 3) 0 ≡ factOf f s holds
+  held-at = fact-at f s holds (omega arith) (omega arith)
+
+  -- another place is left
+  module _ (more : 1 < getD f (7 * s + 4) 0) where
+    more-stays : staysOf (factOf f) s ≡ true
+    more-stays =
+        cases (ℕ-discrete (factOf f s holds) 0)
+        (λ (z : factOf f s holds ≡ 0). let q = placed-at in stays-bare (factOf f) s z ∙ lt-ltb 1 (factOf f s places) (omega arith))
+        (λ z. stays-held (factOf f) s z)
+
+    pub more-last : false ≡ lastAt (factOf f) s
+    more-last = last-stays more-stays
+
+    pub more-taken : set f (7 * s + 4) (getD f (7 * s + 4) 0 - 1) ≡ takenAt f s
+    more-taken = taken-stays (getD f (7 * s + 4) 0 - 1) more-stays (ap (λ (x : ℕ). x - 1) placed-at)
+
+  -- none is left, but a hold
+  module _ (none : getD f (7 * s + 4) 0 ≤ 1) (held : getD f (7 * s + 3) 0 ≡ 0 → ⊥) where
+    held-stays : staysOf (factOf f) s ≡ true
+    held-stays = stays-held (factOf f) s (λ z. held (held-at ∙ z))
+
+    pub held-last : false ≡ lastAt (factOf f) s
+    held-last = last-stays held-stays
+
+    pub held-taken : set f (7 * s + 4) 0 ≡ takenAt f s
+    held-taken = let q = placed-at in taken-stays 0 held-stays (omega arith)
+
+  -- nothing is left
+  module _ (none : getD f (7 * s + 4) 0 ≤ 1) (bare : getD f (7 * s + 3) 0 ≡ 0) where
+    gone-stays : staysOf (factOf f) s ≡ false
+    gone-stays = let q = placed-at in stays-bare (factOf f) s (sym held-at ∙ bare) ∙ le-ltb 1 (factOf f s places) (omega arith)
+
+    pub gone-last : true ≡ lastAt (factOf f) s
+    gone-last = last-goes gone-stays
+
+    pub gone-taken : f ≡ takenAt f s
+    gone-taken = taken-goes gone-stays
+
+  -- the table has no places of that slot
+  module _ (short : length f ≤ 7 * s + 4) where
+    none-placed : 0 ≡ factOf f s places
+    none-placed = fact-out f s places short
+
+    out-stays : staysOf (factOf f) s ≡ pick (eqb (factOf f s holds) 0) false true
+    unfolding staysOf
+    out-stays = rw (sym none-placed)
+
+    pub out-last : (h : ℕ) → h ≡ factOf f s holds → eqb h 0 ≡ lastAt (factOf f) s
+    unfolding lastAt
+    out-last h e = rw (out-stays, e) (twice (eqb (factOf f s holds) 0))
+      where
+        twice : (b : Bool) → b ≡ pick (pick b false true) false true
+        twice true = refl
+        twice false = refl
+
+    pub absent-last : length f ≤ s → true ≡ lastAt (factOf f) s
+    absent-last l = out-last 0 (fact-out f s holds (omega arith))
+
+    pub out-taken : f ≡ takenAt f s
+    unfolding takenAt
+    out-taken =
+        let e = put-in f s places (factOf f s places - 1) (omega arith) (omega arith) ∙ set-out f (7 * s + 4) (factOf f s places - 1) short in
+        by (staysOf (factOf f) s) (sym e)
+      where
+        by : {m : List ℕ} (b : Bool) → f ≡ m → f ≡ pick b m f
+        by true q = q
+        by false q = refl
+
 -- ---- the answers of `is_last`
 
 module _ (f : List ℕ) (id : ℕ) where
@@ -61,25 +156,14 @@ module _ (f : List ℕ) (id : ℕ) where
   unfolding takenOf
   taken-empty z = rw (eq-eqb id 0 z)
 
-  module _ (s : ℕ) (r : Bool) (d : id ≡ 0 → ⊥) (es : s ≡ slot id) (er : r ≡ staysOf (factOf f) s) where
-    stays-is : staysOf (factOf f) (slot id) ≡ r
-    stays-is = sym (er ∙ ap (staysOf (factOf f)) es)
-
-    pub last-stays : r ≡ true → false ≡ lastOf (factOf f) id
+  module _ (s : ℕ) (d : id ≡ 0 → ⊥) (es : s ≡ slot id) where
+    pub last-slot : (r : Bool) → r ≡ lastAt (factOf f) s → r ≡ lastOf (factOf f) id
     unfolding lastOf
-    last-stays z = rw (ne-eqb id 0 d, stays-is ∙ z)
+    last-slot r er = rw (ne-eqb id 0 d) (er ∙ ap (lastAt (factOf f)) es)
 
-    pub last-goes : r ≡ false → true ≡ lastOf (factOf f) id
-    unfolding lastOf
-    last-goes z = rw (ne-eqb id 0 d, stays-is ∙ z)
-
-    pub taken-stays : (m : List ℕ) → r ≡ true → m ≡ factPut f s places (factOf f s places - 1) → m ≡ takenOf f id
+    pub taken-slot : (m : List ℕ) → m ≡ takenAt f s → m ≡ takenOf f id
     unfolding takenOf
-    taken-stays m z em = rw (ne-eqb id 0 d, stays-is ∙ z) (em ∙ ap (λ (x : ℕ). factPut f x places (factOf f x places - 1)) es)
-
-    pub taken-goes : r ≡ false → f ≡ takenOf f id
-    unfolding takenOf
-    taken-goes z = rw (ne-eqb id 0 d, stays-is ∙ z)
+    taken-slot m em = rw (ne-eqb id 0 d) (em ∙ ap (takenAt f) es)
 
 -- ---- and what they come to
 
@@ -95,7 +179,7 @@ module _ (left : ℕ) (a : Arena) (k f e : List ℕ) (id : ℕ) where
 
   -- it stays, or is EMPTY
   pub drop-taken : (r : Bool) (m : List ℕ) → r ≡ lastOf (factOf f) id → m ≡ takenOf f id → r ≡ false → tables a k m e ≡ dropPlace (left + 1) (tables a k f e) id
-  unfolding lastOf takenOf each unplaced putOf wordOf
+  unfolding lastOf takenOf takenAt each unplaced putOf wordOf
   drop-taken r m er em z =
       ap (λ (x : List ℕ). tables a k x e) em
       ∙ cases (ℕ-discrete id 0)
@@ -105,7 +189,7 @@ module _ (left : ℕ) (a : Arena) (k f e : List ℕ) (id : ℕ) where
       by-stays : (id ≡ 0 → ⊥) → (b : Bool) → staysOf (factOf f) (slot id) ≡ b → tables a k (takenOf f id) e ≡ dropPlace (left + 1) (tables a k f e) id
       by-stays d true q =
           rw (ne-eqb id 0 d, q) (sym (drop-step (unplaced (tables a k f e) (slot id)) [] (step-stays (tables a k f e) id d (stays-word k f (slot id) ∙ q))))
-      by-stays d false q = absurd (true≢false (last-goes f id (slot id) false d refl (sym q) refl ∙ sym er ∙ z))
+      by-stays d false q = absurd (true≢false (last-slot f id (slot id) d refl true (last-goes f (slot id) q) ∙ sym er ∙ z))
 
   -- it goes
   pub drop-last : (r : Bool) (m : List ℕ) (s : ℕ) (x : Tables) → r ≡ lastOf (factOf f) id → m ≡ takenOf f id → r ≡ true → s ≡ slot id
@@ -117,18 +201,44 @@ module _ (left : ℕ) (a : Arena) (k f e : List ℕ) (id : ℕ) where
       (λ d. by-stays d (staysOf (factOf f) (slot id)) refl)
     where
       by-stays : (id ≡ 0 → ⊥) → (b : Bool) → staysOf (factOf f) (slot id) ≡ b → x ≡ dropPlace (left + 1) (tables a k f e) id
-      by-stays d true q = absurd (true≢false (sym z ∙ er ∙ sym (last-stays f id (slot id) true d refl (sym q) refl)))
+      by-stays d true q = absurd (true≢false (sym z ∙ er ∙ sym (last-slot f id (slot id) d refl false (last-stays f (slot id) q))))
       by-stays d false q =
-          ex ∙ ap (λ (y : List ℕ). dropSlot left (tables a k y e) s) (em ∙ sym (taken-goes f id (slot id) false d refl (sym q) refl))
+          ex ∙ ap (λ (y : List ℕ). dropSlot left (tables a k y e) s) (em ∙ sym (taken-slot f id (slot id) d refl f (taken-goes f (slot id) q)))
           ∙ ap (dropSlot left (tables a k f e)) es
           ∙ sym (drop-step (recycled (tables a k f e) (slot id)) (kidsOf 8 (wordOf (nodes k f)) (slot id)) (step-goes (tables a k f e) id d (stays-word k f (slot id) ∙ q)))
 
+-- one place taken from EMPTY, and from nothing else
+drop-empty : (left : ℕ) (t : Tables) → dropPlace left t 0 ≡ t
+unfolding dropPlace each
+drop-empty zero t = refl
+drop-empty (suc j) t = one-step t 0 (dropPlace j) (stepOf t []) (step-empty t 0 refl)
+
+each-empty : (left : ℕ) (t : Tables) (l : List ℕ) → noneOf l ≡ true → each (dropPlace left) t l ≡ t
+unfolding noneOf allOf each
+each-empty left t [] e = refl
+each-empty left t (x ∷ l) e =
+    let b = both (eqb x 0) (allOf (λ k. eqb k 0) l) e in
+    let z : dropPlace left t x ≡ t = rw (eqb-true x 0 (b .0)) (drop-empty left t) in
+    ap (λ (u : Tables). each (dropPlace left) u l) z ∙ each-empty left t l (b .1)
+
 -- ---- a slot, then its children
+
+-- the home worked out from the content at hand
+pub home-known : (c s : ℕ) (k f l : List ℕ) (v h : ℕ) → l ≡ kidsOf 8 (kidOf k) s → v ≡ factOf f s value → h ≡ homeFor c l v → h ≡ homeAt c (wordOf (nodes k f)) s
+unfolding homeAt
+home-known c s k f l v h el ev eh =
+    eh ∙ ap₂ (homeFor c) (el ∙ kids-word 8 (nodes k f) s (omega arith)) (ev ∙ sym (word-fact (nodes k f) s value (omega arith)))
 
 module _ (left s : ℕ) (a : Arena) (k f e : List ℕ) (u : Tables) (eu : u ≡ recycled (tables a k f e) s) where
   pub slot-none : left ≡ 0 → u ≡ dropSlot left (tables a k f e) s
   unfolding dropSlot
   slot-none z = eu ∙ rw z (sym (each-zero (recycled (tables a k f e) s) (kidsOf 8 (wordOf (nodes k f)) s)))
+
+  pub slot-bare : (l : List ℕ) (r : Bool) → l ≡ kidsOf 8 (kidOf k) s → r ≡ noneOf l → r ≡ true → u ≡ dropSlot left (tables a k f e) s
+  unfolding dropSlot
+  slot-bare l r el er z =
+      eu ∙ sym (each-empty left (recycled (tables a k f e) s) l (sym er ∙ z))
+      ∙ ap (each (dropPlace left) (recycled (tables a k f e) s)) (el ∙ kids-word 8 (nodes k f) s (omega arith))
 
   pub slot-all : (l : List ℕ) (x : Tables) → (left ≡ 0 → ⊥) → l ≡ kidsOf 8 (kidOf k) s → x ≡ each (dropPlace (left - 1 + 1)) u l → x ≡ dropSlot left (tables a k f e) s
   unfolding dropSlot

@@ -20,13 +20,20 @@ stateOf c n top live = record { capacity = c; next = n; top = top; live = live }
 unfoldable pub staysOf : Words → ℕ → Bool
 staysOf W s = pick (eqb (W s holds) 0) (ltb 1 (W s places)) true
 
--- one place taken from the node of id leaves it neither a hold nor a place
-unfoldable pub lastOf : Words → ℕ → Bool
-lastOf W id = pick (eqb id 0) false (pick (staysOf W (slot id)) false true)
+-- one place taken from the node in slot s leaves it neither a hold nor a place
+unfoldable pub lastAt : Words → ℕ → Bool
+lastAt W s = pick (staysOf W s) false true
 
--- one place taken from the node of id, if it stays
+-- one place taken from the node in slot s, if it stays
+unfoldable pub takenAt : List ℕ → ℕ → List ℕ
+takenAt f s = pick (staysOf (factOf f) s) (factPut f s places (factOf f s places - 1)) f
+
+-- the same of the node of id
+unfoldable pub lastOf : Words → ℕ → Bool
+lastOf W id = pick (eqb id 0) false (lastAt W (slot id))
+
 unfoldable pub takenOf : List ℕ → ℕ → List ℕ
-takenOf f id = pick (eqb id 0) f (pick (staysOf (factOf f) (slot id)) (factPut f (slot id) places (factOf f (slot id) places - 1)) f)
+takenOf f id = pick (eqb id 0) f (takenAt f (slot id))
 
 -- slot s recycled, and its children dropped in turn
 unfoldable pub dropSlot : ℕ → Tables → ℕ → Tables

@@ -6,26 +6,28 @@ use arena::is_live;
 use arena::less;
 use arena::settle;
 use arena::slot_of;
+use hashing::home_for;
 use ids::BlockId;
 use nodes::HOLDS;
 use nodes::OWN;
 use nodes::PLACES;
+use nodes::VALUE;
 use nodes::children;
 use nodes::fact;
-use removing::remove_slot;
-use writing::put_fact;
+use removing::remove_from;
 use writing::write_slot;
 ghost use mathlib.Core.Path.{_≡_};
-ghost use Prim.Native.Nat.{ℕ, _+_, _*_, _-_, _^_, _≤_};
+ghost use Prim.Native.Nat.{ℕ, _+_, _*_, _^_, _≤_};
 ghost use lib.Dec.{eqb};
 ghost use Rattle.basics.specs.Pick.{pick};
 ghost use Rattle.ids.specs.Ids.{generationOf};
-ghost use Rattle.nodes.specs.Words.{own as ownWord, places as placesWord, nodes as nodesOf, factOf, factPut, written, slot};
-ghost use Rattle.arena.specs.Calls.{answered, Fair, empties, deadFacts, recycled, each, releaseNo, releaseOf, enough};
+ghost use Rattle.nodes.specs.Words.{own as ownWord, nodes as nodesOf, factOf, wordOf, written, slot};
+ghost use Rattle.finding.specs.Content.{homeAt};
+ghost use Rattle.arena.specs.Calls.{answered, Fair, empties, deadFacts, recycled, each, releaseNo, releaseOf, enough, noneOf};
 ghost use Rattle.arena.specs.Models.{dropPlace, releaseBy, releaseAny};
 ghost use Rattle.arena.specs.Node.{nextGeneration};
 ghost use Rattle.arena.specs.Tables.{tables};
-ghost use Rattle.releasing.specs.Drop.{stateOf, staysOf, lastOf, takenOf, dropSlot};
+ghost use Rattle.releasing.specs.Drop.{stateOf, lastAt, takenAt, lastOf, takenOf, dropSlot};
 
 // Eight EMPTY children.
 const NONE: [u64; 8] = [0, 0, 0, 0, 0, 0, 0, 0];
@@ -56,7 +58,7 @@ fn clear_slot(kids: &mut [u64], facts: &mut [u64], s: usize, top: usize)
     write_slot(kids, facts, s, NONE, [o, 0, 0, 0, 0, top as u64, 0]);
 }
 
-// Clears slot s and puts it on top of the freed ones; the finding table no longer names it.
+// Clears slot s and puts it on top of the freed ones; the finding table no longer names it. `from` is the home of its content.
 fn recycle(
     capacity: usize,
     a: Slots,
@@ -64,10 +66,12 @@ fn recycle(
     facts: &mut [u64],
     find: &mut [u16],
     s: usize,
+    from: usize,
 ) -> Slots
+    requires { ⌜ from ≡ homeAt capacity (wordOf (nodesOf (now kids) (now facts))) s ⌝ }
     ensures { λ r. ⌜ tables (stateOf capacity (r .next) (r .top) (r .live)) (now (kids .exit)) (now (facts .exit)) (now (find .exit)) ≡ recycled (tables (stateOf capacity (a .next) (a .top) (a .live)) (now (kids .entry)) (now (facts .entry)) (now (find .entry))) s ⌝ }
 {
-    remove_slot(find, kids, facts, capacity, s);
+    remove_from(find, kids, facts, capacity, s, from);
     clear_slot(kids, facts, s, a.top);
     Slots {
         next: a.next,
@@ -76,22 +80,28 @@ fn recycle(
     }
 }
 
-// One place less of the node in slot s.
-fn unplace(facts: &mut [u64], s: usize)
-    ensures { λ _. ⌜ now (facts .exit) ≡ factPut (now (facts .entry)) s placesWord (factOf (now (facts .entry)) s placesWord - 1) ⌝ }
+// Takes one place from the node in slot s if it then stays, by a hold or another place, and answers whether it goes instead. A table that has its places
+// has its holds too, just before them.
+fn take_place(facts: &mut [u64], s: usize) -> bool
+    ensures { λ r. ⌜ (r ≡ lastAt (factOf (now (facts .entry))) s) × (now (facts .exit) ≡ takenAt (now (facts .entry)) s) ⌝ }
 {
-    let p = fact(facts, s, PLACES);
-    put_fact(facts, s, PLACES, less(p));
-}
-
-// Has the node in slot s a hold, or a place besides the one that is owed?
-fn stays(facts: &[u64], s: usize) -> bool
-    ensures { λ r. ⌜ r ≡ staysOf (factOf (now (facts .entry))) s ⌝ }
-{
-    if fact(facts, s, HOLDS) == 0 {
-        return 1 < fact(facts, s, PLACES);
+    if facts.len() <= s {
+        return true;
     }
-    true
+    let placed = 7 * s + (PLACES - OWN);
+    if facts.len() <= placed {
+        return fact(facts, s, HOLDS) == 0;
+    }
+    let p = facts[placed];
+    if 1 < p {
+        facts[placed] = p - 1;
+        return false;
+    }
+    if facts[7 * s + (HOLDS - OWN)] == 0 {
+        return true;
+    }
+    facts[placed] = 0;
+    false
 }
 
 // Takes one place from the node of `id` if it then stays, and answers whether it goes instead. EMPTY: nothing.
@@ -101,10 +111,19 @@ fn is_last(facts: &mut [u64], id: u64) -> bool
     if id == 0 {
         return false;
     }
-    let s = slot_of(id);
-    if stays(facts, s) {
-        unplace(facts, s);
-        return false;
+    take_place(facts, slot_of(id))
+}
+
+// Are all eight EMPTY, as a leaf's are?
+fn no_kids(ks: [u64; 8]) -> bool
+    ensures { λ r. ⌜ r ≡ noneOf ks ⌝ }
+{
+    let mut at: usize = 0;
+    while at < 8 {
+        if !BlockId(ks[at]).is_empty() {
+            return false;
+        }
+        at += 1;
     }
     true
 }
@@ -122,7 +141,11 @@ fn drop_slot(
     ensures { λ r. ⌜ tables (stateOf capacity (r .next) (r .top) (r .live)) (now (kids .exit)) (now (facts .exit)) (now (find .exit)) ≡ dropSlot left (tables (stateOf capacity (a .next) (a .top) (a .live)) (now (kids .entry)) (now (facts .entry)) (now (find .entry))) s ⌝ }
 {
     let below = children(kids, s);
-    let b = recycle(capacity, a, kids, facts, find, s);
+    let from = home_for(capacity, below, fact(facts, s, VALUE));
+    let b = recycle(capacity, a, kids, facts, find, s, from);
+    if no_kids(below) {
+        return b;
+    }
     if left == 0 {
         return b;
     }

@@ -8,7 +8,7 @@ ghost use mathlib.Core.Path.{_≡_};
 ghost use lib.Dec.{eqb};
 ghost use Rattle.nodes.specs.Words.{nodes, wordOf};
 ghost use Rattle.finding.specs.Content.{homeAt};
-ghost use Rattle.finding.specs.Cells.{probe, placeOf, erase, remove};
+ghost use Rattle.finding.specs.Cells.{probe, erase};
 
 // The first cell to look at for the content of slot s.
 fn home_at(kids: &[u64], facts: &[u64], capacity: usize, s: usize) -> usize
@@ -18,7 +18,7 @@ fn home_at(kids: &[u64], facts: &[u64], capacity: usize, s: usize) -> usize
 }
 
 // The first cell from `from` on that is empty or names s, or the table's end.
-fn number_from(find: &[u16], s: usize, from: usize) -> usize
+pub fn number_from(find: &[u16], s: usize, from: usize) -> usize
     ensures { λ r. ⌜ r ≡ probe (eqb s) (now (find .entry)) from ⌝ }
 {
     let mut i = from;
@@ -33,14 +33,6 @@ fn number_from(find: &[u16], s: usize, from: usize) -> usize
         i += 1;
     }
     i
-}
-
-// The cell where the search for the slot number s ends, from the home of its content on.
-pub fn place_of(find: &[u16], kids: &[u64], facts: &[u64], capacity: usize, s: usize) -> usize
-    ensures { λ r. ⌜ r ≡ placeOf (homeAt capacity (wordOf (nodes (now (kids .entry)) (now (facts .entry))))) (now (find .entry)) s ⌝ }
-{
-    let from = home_at(kids, facts, capacity, s);
-    number_from(find, s, from)
 }
 
 // Cell `at` taken out: what stands above it and can be nearer to its home moves down, so that no search ends too early.
@@ -72,10 +64,17 @@ fn erase_at(find: &mut [u16], kids: &[u64], facts: &[u64], capacity: usize, at: 
     }
 }
 
-// Takes slot s out of the finding table. Its content has to be there still.
-pub fn remove_slot(find: &mut [u16], kids: &[u64], facts: &[u64], capacity: usize, s: usize)
-    ensures { λ _. ⌜ now (find .exit) ≡ remove (homeAt capacity (wordOf (nodes (now (kids .entry)) (now (facts .entry))))) (now (find .entry)) s ⌝ }
+// Takes out of the finding table the cell where the probe for the number s from the cell `from` on ends. The contents have to be there still.
+pub fn remove_from(
+    find: &mut [u16],
+    kids: &[u64],
+    facts: &[u64],
+    capacity: usize,
+    s: usize,
+    from: usize,
+)
+    ensures { λ _. ⌜ now (find .exit) ≡ erase (homeAt capacity (wordOf (nodes (now (kids .entry)) (now (facts .entry))))) (now (find .entry)) (probe (eqb s) (now (find .entry)) from) ⌝ }
 {
-    let at = place_of(find, kids, facts, capacity, s);
+    let at = number_from(find, s, from);
     erase_at(find, kids, facts, capacity, at);
 }

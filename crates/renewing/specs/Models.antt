@@ -5,15 +5,15 @@ use lib.Dec.{eqb, leb}
 use lib.ListN.{set}
 use Rattle.basics.specs.Pick.{pick}
 use Rattle.ids.specs.Ids.{generationOf, newLeaf, newBranch}
-use Rattle.nodes.specs.Words.{factOf, factPut, wordOf, own, places, slot}
-use Rattle.finding.specs.Content.{homeAt}
-use Rattle.finding.specs.Cells.{placeOf}
+use Rattle.nodes.specs.Words.{factOf, factPut, own, places, slot}
+use Rattle.hashing.specs.Hash.{homeFor}
+use Rattle.finding.specs.Cells.{probe}
 use Rattle.tree.specs.Cells.{cubePath}
 use Rattle.tree.specs.Anew.{part}
 use Rattle.arena.specs.Node.{kidTypes, kidMask}
 use Rattle.arena.specs.Tables.{Tables, tables, cap, W}
 use Rattle.arena.specs.Calls.{Out, said, refused, freshSlot, empties}
-use Rattle.arena.specs.Models.{moreOf, writtenNodes, writtenAt, topFor, valueBy}
+use Rattle.arena.specs.Models.{moreOf, writtenAt, topFor, valueBy}
 use Rattle.planning.specs.Models.{eightParts}
 
 -- one place more for the node s; EMPTY: nothing
@@ -29,7 +29,7 @@ owedBy t ks = tables (t .arena) (t .nodes .kids) (oweAll (t .nodes .facts) ks) (
 
 unfoldable pub freshBy : Tables → ℕ → List ℕ → ℕ → ℕ → ℕ → ℕ → Out
 freshBy t id ks v up h q =
-    let at = placeOf (homeAt (cap t) (wordOf (writtenNodes t id ks v up h q))) (t .find) (freshSlot (t .arena)) in
+    let at = probe (eqb (freshSlot (t .arena))) (t .find) (homeFor (cap t) ks v) in
     said 0 id (writtenAt t id ks v up h q at)
 
 unfoldable pub leafAnewBy : Tables → ℕ → ℕ → ℕ → Out

@@ -3,6 +3,7 @@ use arena::Arena;
 use arena::Made;
 use arena::slot_of;
 use finding::put_cell;
+use hashing::home_for;
 use ids::BlockId;
 use making::fresh_slot;
 use making::give;
@@ -13,10 +14,9 @@ use nodes::PLACES;
 use nodes::fact;
 use paths::octant;
 use planning::parts;
-use removing::place_of;
+use removing::number_from;
 use std::num::wrapping_add_u64;
-use summing::top_of;
-use summing::value_of;
+use summing::sums_of;
 use writing::put_fact;
 use writing::write_slot;
 ghost use mathlib.Core.Path.{_≡_};
@@ -67,9 +67,9 @@ fn fresh_node(
     ensures { λ r. ⌜ made r (now (kids .exit)) (now (facts .exit)) (now (find .exit)) ≡ freshBy (tables a (now (kids .entry)) (now (facts .entry)) (now (find .entry))) id ks v up h q ⌝ }
 {
     let s = fresh_slot(a);
+    let at = number_from(find, s, home_for(a.capacity, ks, v));
     let b = give(a, facts);
     write_slot(kids, facts, s, ks, [id, v, up, h, q, 0, 0]);
-    let at = place_of(find, kids, facts, a.capacity, s);
     put_cell(find, at, s);
     Made {
         no: 0,
@@ -107,9 +107,9 @@ fn branch_anew(
 {
     let s = fresh_slot(a);
     let id = branch_id(ks, s, fact(facts, s, OWN));
-    let v = value_of(facts, ks);
-    let up = wrapping_add_u64(top_of(facts, ks), 1);
-    fresh_node(a, kids, facts, find, id, ks, v, up, h, q)
+    let sums = sums_of(facts, ks);
+    let up = wrapping_add_u64(sums.top, 1);
+    fresh_node(a, kids, facts, find, id, ks, sums.value, up, h, q)
 }
 
 // The branch over the part `low`, number c, which has its place; the others get theirs.

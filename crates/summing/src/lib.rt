@@ -10,6 +10,12 @@ ghost use Rattle.nodes.specs.Words.{factOf};
 ghost use Rattle.nodes.specs.Values.{valueAt, heightAt};
 ghost use Rattle.arena.specs.Models.{topFor, valueBy};
 
+// The stored value of a branch, and the height of the tallest of its children.
+pub struct Sums {
+    pub value: u64,
+    pub top: u64,
+}
+
 // The stored value of an id; 0 of EMPTY.
 pub fn value_at(facts: &[u64], id: u64) -> u64
     ensures { λ r. ⌜ r ≡ valueAt (factOf (now (facts .entry))) id ⌝ }
@@ -50,15 +56,24 @@ fn larger(x: u64, y: u64) -> u64
     if x < y { y } else { x }
 }
 
-// The height of the tallest of the children.
-pub fn top_of(facts: &[u64], ks: [u64; 8]) -> u64
-    ensures { λ r. ⌜ r ≡ topFor (factOf (now (facts .entry))) ks 8 ⌝ }
+// The stored value of a branch with these children, and the height of the tallest of them, in one pass. EMPTY adds nothing to either.
+pub fn sums_of(facts: &[u64], ks: [u64; 8]) -> Sums
+    ensures { λ r. ⌜ (r .value ≡ valueBy 8 (factOf (now (facts .entry))) ks) × (r .top ≡ topFor (factOf (now (facts .entry))) ks 8) ⌝ }
 {
+    let mut sum: u64 = 0;
     let mut top: u64 = 0;
     let mut i: usize = 0;
     while i < 8 {
-        top = larger(top, height_at(facts, ks[i]));
+        let k = ks[i];
+        if k != 0 {
+            let s = slot_of(k);
+            sum += fact(facts, s, VALUE) % 65536;
+            top = larger(top, fact(facts, s, HEIGHT));
+        }
         i += 1;
     }
-    top
+    Sums {
+        value: sum / 8,
+        top: top,
+    }
 }

@@ -4,7 +4,8 @@ use mathlib.Core.Bool.{Bool, true, false}
 use mathlib.Core.List.{List}
 use Prim.Native.Nat.{ℕ}
 use lib.ListN.{length}
-use Rattle.nodes.specs.Words.{factOf, nodes, wordOf}
+use Rattle.basics.specs.Pick.{pick}
+use Rattle.nodes.specs.Words.{factOf, wordOf}
 use Rattle.arena.specs.Calls.{allLive, enough, enoughFor, fitOf, liveOf, liveOrEmpty, noneOf}
 use Rattle.arena.specs.Models.{kidsNo}
 use Rattle.arena.specs.Tables.{tables}
@@ -17,36 +18,12 @@ module _ (a : Arena) (k f e ks : List ℕ) (r : Bool) (er : r ≡ fitOf (a .capa
   unfolding kidsNo
   unsized z = rw (sym er ∙ z)
 
-  module _ (q : Bool) (z : r ≡ true) (eq : q ≡ allLive (a .capacity) (factOf f) ks) where
-    live : allLive (a .capacity) (wordOf (nodes k f)) ks ≡ q
-    unfolding liveOrEmpty liveOf wordOf
-    live = sym eq
+  sized : (x : ℕ) → r ≡ true → x ≡ pick (allLive (a .capacity) (factOf f) ks) (pick (enough (factOf f) ks) (pick (noneOf ks) 7 0) 5) 4
+      → x ≡ kidsNo (tables a k f e) ks
+  unfolding kidsNo liveOrEmpty liveOf enoughFor wordOf
+  sized x z h = rw (sym er ∙ z) h
 
-    dead : q ≡ false → 4 ≡ kidsNo (tables a k f e) ks
-    unfolding kidsNo
-    dead y = rw (sym er ∙ z, live ∙ y)
-
-    module _ (o : Bool) (y : q ≡ true) (eo : o ≡ enough (factOf f) ks) where
-      held : enough (wordOf (nodes k f)) ks ≡ o
-      unfolding enoughFor wordOf
-      held = sym eo
-
-      few : o ≡ false → 5 ≡ kidsNo (tables a k f e) ks
-      unfolding kidsNo
-      few x = rw (sym er ∙ z, live ∙ y, held ∙ x)
-
-      none : (b : Bool) → o ≡ true → b ≡ noneOf ks → b ≡ true → 7 ≡ kidsNo (tables a k f e) ks
-      unfolding kidsNo
-      none b x eb u = rw (sym er ∙ z, live ∙ y, held ∙ x, sym eb ∙ u)
-
-      fine : (b : Bool) → o ≡ true → b ≡ noneOf ks → b ≡ false → 0 ≡ kidsNo (tables a k f e) ks
-      unfolding kidsNo
-      fine b x eb u = rw (sym er ∙ z, live ∙ y, held ∙ x, sym eb ∙ u)
-
-ruleset mine = (unsized, dead, few, none, fine)
+ruleset mine = (unsized, sized)
 
 pub kids-no-spec : {M : Type 1} → statement M
-kids-no-spec =
-    tie.close
-    (tie.spec (λ c κs. search needs) (λ c κs. search needs) (λ c κs. search needs) (λ c κs. search needs) (λ c. search mine)
-    (λ c. search mine) (λ c. search mine) (λ c. search mine) (λ c. search mine))
+kids-no-spec = tie.close (tie.spec (λ c κs. search needs) (λ c κs. search needs) (λ c. search mine) (λ c. search mine))

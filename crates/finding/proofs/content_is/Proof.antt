@@ -9,10 +9,10 @@ use lib.ListN.{length, getD, drop, drop-of-length-le}
 use lib.Seq.{drop-cons}
 use borrow.Author.Tests.{eq-eqb, ne-eqb}
 use Rattle.nodes.specs.Tally.{kidsOf}
-use Rattle.nodes.specs.Words.{Words, nodes, value, kidOf, factOf, wordOf}
-use Rattle.nodes.proofs.Access.{word-fact, word-kid}
+use Rattle.nodes.specs.Words.{Words, nodes, kidOf, wordOf}
+use Rattle.nodes.proofs.Access.{word-kid}
 use Rattle.finding.specs.Content.{agree, contentIs}
-use Rattle.finding.proofs.Contents.{tab-at}
+use Rattle.finding.proofs.Contents.{own-at, content-other, content-start}
 use Rattle.finding.proofs.content_is.Statement.{statement}
 use Rattle.finding.proofs.content_is.Tie as tie
 
@@ -20,21 +20,8 @@ module _ (k f : List ℕ) (s : ℕ) where
   abbrev W : Words
   W = wordOf (nodes k f)
 
-  -- the children, read at once
   word-is : (own : List ℕ) (j : ℕ) → own ≡ kidsOf 8 (kidOf k) s → j < 8 → getD own j 0 ≡ W s j
-  unfolding kidsOf
-  word-is own j e l =
-      let z : 0 + j ≡ j = omega arith in
-      ap (λ (x : List ℕ). getD x j 0) e ∙ tab-at 8 0 (kidOf k s) j l ∙ ap (kidOf k s) z ∙ sym (word-kid (nodes k f) s j l)
-
-  module _ (ks : List ℕ) (v w : ℕ) (is : w ≡ factOf f s value) where
-    other : (w ≡ v → ⊥) → false ≡ contentIs W ks v s
-    unfolding contentIs
-    other n = rw (ne-eqb (W s value) v (λ e. n (is ∙ sym (word-fact (nodes k f) s value (omega arith)) ∙ e)))
-
-    start : w ≡ v → contentIs W ks v s ≡ agree W s 0 (drop 0 ks)
-    unfolding contentIs
-    start e = rw (eq-eqb (W s value) v (word-fact (nodes k f) s value (omega arith) ∙ sym is ∙ e))
+  word-is own j e l = own-at j l (kidOf k) s own e ∙ sym (word-kid (nodes k f) s j l)
 
   module _ (own ks : List ℕ) (j : ℕ) (b : Bool) (is : own ≡ kidsOf 8 (kidOf k) s) (e : b ≡ agree W s j (drop j ks)) where
     step : length ks ≡ 8 → j < 8 → getD own j 0 ≡ getD ks j 0 → b ≡ agree W s (j + 1) (drop (j + 1) ks)
@@ -63,7 +50,7 @@ abbrev μ-loop : tie.MeasureT-loop
 pub content-is-spec : {M : Type 1} → statement M
 content-is-spec =
     tie.close
-    (tie.spec Inv-loop μ-loop (λ c κs. search needs) (λ c. search other) (λ c κs. search needs)
-    (λ c. (search needs, search needs, search needs, search needs, search start)) (λ c. search needs) (λ c. search needs)
+    (tie.spec Inv-loop μ-loop (λ c κs. search needs) (λ c. search content-other) (λ c κs. search needs)
+    (λ c. (search needs, search needs, search needs, search needs, search content-start)) (λ c. search needs) (λ c. search needs)
     (λ c. search needs) (λ c. search needs) (λ c. search stop) (λ c. search needs) (λ c. search needs)
     (λ c. (search needs, search needs, search needs, search needs, search step)) (λ c. search last))

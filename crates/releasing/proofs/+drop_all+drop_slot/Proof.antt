@@ -6,7 +6,7 @@ use Rattle.arena.specs.Calls.{each}
 use Rattle.arena.specs.Models.{dropPlace}
 use Rattle.arena.specs.Tables.{tables}
 use Rattle.releasing.specs.Drop.{stateOf}
-use Rattle.releasing.proofs.Dropping.{again-last, again-taken, each-end, slot-all, slot-none}
+use Rattle.releasing.proofs.Dropping.{again-last, again-taken, each-end, home-known, slot-all, slot-bare, slot-none}
 use borrow.Fn.Kinds.{In}
 use borrow.Fn.PlainCycle.{Measures, is, falls, and}
 use Rattle.releasing.proofs.drop_all.Reads as drop-all
@@ -17,8 +17,11 @@ use Rattle.releasing.proofs.drop_slot.Kinds as drop-slot-kinds
 use Rattle.releasing.proofs.+drop_all+drop_slot.Lts-drop_slot as drop-slot-lts
 use Rattle.arena.proofs.slot_of.Reads as slot-of-reads
 use Rattle.nodes.proofs.children.Reads as children-reads
+use Rattle.nodes.proofs.fact.Reads as fact-reads
+use Rattle.hashing.proofs.home_for.Reads as home-for-reads
 use Rattle.releasing.proofs.is_last.Reads as is-last-reads
 use Rattle.releasing.proofs.recycle.Reads as recycle-reads
+use Rattle.releasing.proofs.no_kids.Reads as no-kids-reads
 use Rattle.releasing.proofs.+drop_all+drop_slot.{statement}
 use Rattle.releasing.proofs.+drop_all+drop_slot.Tie.{close}
 
@@ -48,7 +51,7 @@ drop-all-Inv-loop capacity kids₀ facts₀ find₀ left below b₀ i₀ kids fa
 abbrev drop-all-μ-loop : drop-all-lts.MeasureT-loop
 drop-all-μ-loop capacity kids₀ facts₀ find₀ left below b₀ i₀ kids facts find b i = 8 - i
 
--- src/lib.rt:146:5
+-- src/lib.rt:152:5
 drop-all-loop-holds : (t : ℕ) → drop-all-lts.Need-loop-holds (
   is-last-reads.Asked,
   is-last-reads.Learnt,
@@ -59,7 +62,7 @@ drop-all-loop-holds : (t : ℕ) → drop-all-lts.Need-loop-holds (
 ) (drop-all-at t) drop-all.Post drop-all-Inv-loop drop-all-μ-loop
 drop-all-loop-holds t c = (search needs, search needs, search needs, search needs, search needs, refl)
 
--- src/lib.rt:147:18
+-- src/lib.rt:153:18
 drop-all-mul-id : (t : ℕ) → drop-all-lts.Need-mul-id (
   is-last-reads.Asked,
   is-last-reads.Learnt,
@@ -70,7 +73,7 @@ drop-all-mul-id : (t : ℕ) → drop-all-lts.Need-mul-id (
 ) (drop-all-at t) drop-all.Post drop-all-Inv-loop drop-all-μ-loop
 drop-all-mul-id t c = search needs
 
--- src/lib.rt:147:18
+-- src/lib.rt:153:18
 drop-all-array-read-id : (t : ℕ) → drop-all-lts.Need-array-read-id (
   is-last-reads.Asked,
   is-last-reads.Learnt,
@@ -81,7 +84,7 @@ drop-all-array-read-id : (t : ℕ) → drop-all-lts.Need-array-read-id (
 ) (drop-all-at t) drop-all.Post drop-all-Inv-loop drop-all-μ-loop
 drop-all-array-read-id t c = search needs
 
--- src/lib.rt:148:9
+-- src/lib.rt:154:9
 drop-all-add-i : (t : ℕ) → drop-all-lts.Need-add-i (
   is-last-reads.Asked,
   is-last-reads.Learnt,
@@ -92,7 +95,7 @@ drop-all-add-i : (t : ℕ) → drop-all-lts.Need-add-i (
 ) (drop-all-at t) drop-all.Post drop-all-Inv-loop drop-all-μ-loop
 drop-all-add-i t c = search needs
 
--- src/lib.rt:149:12
+-- src/lib.rt:155:12
 drop-all-is-last-requires : (t : ℕ) → drop-all-lts.Need-is-last-requires (
   is-last-reads.Asked,
   is-last-reads.Learnt,
@@ -103,7 +106,7 @@ drop-all-is-last-requires : (t : ℕ) → drop-all-lts.Need-is-last-requires (
 ) (drop-all-at t) drop-all.Post drop-all-Inv-loop drop-all-μ-loop
 drop-all-is-last-requires t c κs = search needs
 
--- src/lib.rt:150:59
+-- src/lib.rt:156:59
 drop-all-slot-of-requires : (t : ℕ) → drop-all-lts.Need-slot-of-requires (
   is-last-reads.Asked,
   is-last-reads.Learnt,
@@ -114,7 +117,7 @@ drop-all-slot-of-requires : (t : ℕ) → drop-all-lts.Need-slot-of-requires (
 ) (drop-all-at t) drop-all.Post drop-all-Inv-loop drop-all-μ-loop
 drop-all-slot-of-requires t c κs = search needs
 
--- src/lib.rt:150:13
+-- src/lib.rt:156:13
 drop-all-drop-slot-requires : (t : ℕ) → drop-all-lts.Need-drop-slot-requires (
   is-last-reads.Asked,
   is-last-reads.Learnt,
@@ -125,7 +128,7 @@ drop-all-drop-slot-requires : (t : ℕ) → drop-all-lts.Need-drop-slot-requires
 ) (drop-all-at t) drop-all.Post drop-all-Inv-loop drop-all-μ-loop
 drop-all-drop-slot-requires t c κs = search needs
 
--- src/lib.rt:146:5
+-- src/lib.rt:152:5
 drop-all-loop-less : (t : ℕ) → drop-all-lts.Need-loop-less (
   is-last-reads.Asked,
   is-last-reads.Learnt,
@@ -136,7 +139,7 @@ drop-all-loop-less : (t : ℕ) → drop-all-lts.Need-loop-less (
 ) (drop-all-at t) drop-all.Post drop-all-Inv-loop drop-all-μ-loop
 drop-all-loop-less t c = search needs
 
--- src/lib.rt:146:5
+-- src/lib.rt:152:5
 drop-all-loop-again : (t : ℕ) → drop-all-lts.Need-loop-again (
   is-last-reads.Asked,
   is-last-reads.Learnt,
@@ -147,7 +150,7 @@ drop-all-loop-again : (t : ℕ) → drop-all-lts.Need-loop-again (
 ) (drop-all-at t) drop-all.Post drop-all-Inv-loop drop-all-μ-loop
 drop-all-loop-again t c = (search needs, search needs, search needs, search needs, search needs, search again-last)
 
--- src/lib.rt:146:5
+-- src/lib.rt:152:5
 drop-all-loop-less-2 : (t : ℕ) → drop-all-lts.Need-loop-less-2 (
   is-last-reads.Asked,
   is-last-reads.Learnt,
@@ -158,7 +161,7 @@ drop-all-loop-less-2 : (t : ℕ) → drop-all-lts.Need-loop-less-2 (
 ) (drop-all-at t) drop-all.Post drop-all-Inv-loop drop-all-μ-loop
 drop-all-loop-less-2 t c = search needs
 
--- src/lib.rt:146:5
+-- src/lib.rt:152:5
 drop-all-loop-again-2 : (t : ℕ) → drop-all-lts.Need-loop-again-2 (
   is-last-reads.Asked,
   is-last-reads.Learnt,
@@ -169,7 +172,7 @@ drop-all-loop-again-2 : (t : ℕ) → drop-all-lts.Need-loop-again-2 (
 ) (drop-all-at t) drop-all.Post drop-all-Inv-loop drop-all-μ-loop
 drop-all-loop-again-2 t c = (search needs, search needs, search needs, search needs, search needs, search again-taken)
 
--- src/lib.rt:133:1
+-- src/lib.rt:139:1
 drop-all-same-length : (t : ℕ) → drop-all-lts.Need-same-length (
   is-last-reads.Asked,
   is-last-reads.Learnt,
@@ -180,7 +183,7 @@ drop-all-same-length : (t : ℕ) → drop-all-lts.Need-same-length (
 ) (drop-all-at t) drop-all.Post drop-all-Inv-loop drop-all-μ-loop
 drop-all-same-length t c = search needs
 
--- src/lib.rt:133:1
+-- src/lib.rt:139:1
 drop-all-same-length-2 : (t : ℕ) → drop-all-lts.Need-same-length-2 (
   is-last-reads.Asked,
   is-last-reads.Learnt,
@@ -191,7 +194,7 @@ drop-all-same-length-2 : (t : ℕ) → drop-all-lts.Need-same-length-2 (
 ) (drop-all-at t) drop-all.Post drop-all-Inv-loop drop-all-μ-loop
 drop-all-same-length-2 t c = search needs
 
--- src/lib.rt:133:1
+-- src/lib.rt:139:1
 drop-all-same-length-3 : (t : ℕ) → drop-all-lts.Need-same-length-3 (
   is-last-reads.Asked,
   is-last-reads.Learnt,
@@ -202,7 +205,7 @@ drop-all-same-length-3 : (t : ℕ) → drop-all-lts.Need-same-length-3 (
 ) (drop-all-at t) drop-all.Post drop-all-Inv-loop drop-all-μ-loop
 drop-all-same-length-3 t c = search needs
 
--- src/lib.rt:133:1
+-- src/lib.rt:139:1
 drop-all-returns : (t : ℕ) → drop-all-lts.Need-returns (
   is-last-reads.Asked,
   is-last-reads.Learnt,
@@ -213,137 +216,328 @@ drop-all-returns : (t : ℕ) → drop-all-lts.Need-returns (
 ) (drop-all-at t) drop-all.Post drop-all-Inv-loop drop-all-μ-loop
 drop-all-returns t c = search each-end
 
--- src/lib.rt:124:9
+-- src/lib.rt:143:17
 drop-slot-children-requires : (t : ℕ) → drop-slot-lts.Need-children-requires (
   children-reads.Asked,
   children-reads.Learnt,
+  fact-reads.Asked,
+  fact-reads.Learnt,
+  home-for-reads.Asked,
+  home-for-reads.Learnt,
   recycle-reads.Asked,
   recycle-reads.Learnt,
+  no-kids-reads.Asked,
+  no-kids-reads.Learnt,
   drop-all-below t,
   drop-all.Post,
 ) (drop-slot-at t) drop-slot.Post
 drop-slot-children-requires t c κs = search needs
 
--- src/lib.rt:125:9
-drop-slot-recycle-requires : (t : ℕ) → drop-slot-lts.Need-recycle-requires (
+-- src/lib.rt:144:42
+drop-slot-fact-requires : (t : ℕ) → drop-slot-lts.Need-fact-requires (
   children-reads.Asked,
   children-reads.Learnt,
+  fact-reads.Asked,
+  fact-reads.Learnt,
+  home-for-reads.Asked,
+  home-for-reads.Learnt,
   recycle-reads.Asked,
   recycle-reads.Learnt,
+  no-kids-reads.Asked,
+  no-kids-reads.Learnt,
   drop-all-below t,
   drop-all.Post,
 ) (drop-slot-at t) drop-slot.Post
-drop-slot-recycle-requires t c κs = search needs
+drop-slot-fact-requires t c κs = search needs
 
--- src/lib.rt:127:9
+-- src/lib.rt:144:16
+drop-slot-home-for-requires : (t : ℕ) → drop-slot-lts.Need-home-for-requires (
+  children-reads.Asked,
+  children-reads.Learnt,
+  fact-reads.Asked,
+  fact-reads.Learnt,
+  home-for-reads.Asked,
+  home-for-reads.Learnt,
+  recycle-reads.Asked,
+  recycle-reads.Learnt,
+  no-kids-reads.Asked,
+  no-kids-reads.Learnt,
+  drop-all-below t,
+  drop-all.Post,
+) (drop-slot-at t) drop-slot.Post
+drop-slot-home-for-requires t c κs = search needs
+
+-- src/lib.rt:145:13
+drop-slot-recycle-requires : (t : ℕ) → drop-slot-lts.Need-recycle-requires (
+  children-reads.Asked,
+  children-reads.Learnt,
+  fact-reads.Asked,
+  fact-reads.Learnt,
+  home-for-reads.Asked,
+  home-for-reads.Learnt,
+  recycle-reads.Asked,
+  recycle-reads.Learnt,
+  no-kids-reads.Asked,
+  no-kids-reads.Learnt,
+  drop-all-below t,
+  drop-all.Post,
+) (drop-slot-at t) drop-slot.Post
+drop-slot-recycle-requires t c κs = search home-known
+
+-- src/lib.rt:146:8
+drop-slot-no-kids-requires : (t : ℕ) → drop-slot-lts.Need-no-kids-requires (
+  children-reads.Asked,
+  children-reads.Learnt,
+  fact-reads.Asked,
+  fact-reads.Learnt,
+  home-for-reads.Asked,
+  home-for-reads.Learnt,
+  recycle-reads.Asked,
+  recycle-reads.Learnt,
+  no-kids-reads.Asked,
+  no-kids-reads.Learnt,
+  drop-all-below t,
+  drop-all.Post,
+) (drop-slot-at t) drop-slot.Post
+drop-slot-no-kids-requires t c κs = search needs
+
+-- src/lib.rt:147:9
 drop-slot-same-length : (t : ℕ) → drop-slot-lts.Need-same-length (
   children-reads.Asked,
   children-reads.Learnt,
+  fact-reads.Asked,
+  fact-reads.Learnt,
+  home-for-reads.Asked,
+  home-for-reads.Learnt,
   recycle-reads.Asked,
   recycle-reads.Learnt,
+  no-kids-reads.Asked,
+  no-kids-reads.Learnt,
   drop-all-below t,
   drop-all.Post,
 ) (drop-slot-at t) drop-slot.Post
 drop-slot-same-length t c = search needs
 
--- src/lib.rt:127:9
+-- src/lib.rt:147:9
 drop-slot-same-length-2 : (t : ℕ) → drop-slot-lts.Need-same-length-2 (
   children-reads.Asked,
   children-reads.Learnt,
+  fact-reads.Asked,
+  fact-reads.Learnt,
+  home-for-reads.Asked,
+  home-for-reads.Learnt,
   recycle-reads.Asked,
   recycle-reads.Learnt,
+  no-kids-reads.Asked,
+  no-kids-reads.Learnt,
   drop-all-below t,
   drop-all.Post,
 ) (drop-slot-at t) drop-slot.Post
 drop-slot-same-length-2 t c = search needs
 
--- src/lib.rt:127:9
+-- src/lib.rt:147:9
 drop-slot-same-length-3 : (t : ℕ) → drop-slot-lts.Need-same-length-3 (
   children-reads.Asked,
   children-reads.Learnt,
+  fact-reads.Asked,
+  fact-reads.Learnt,
+  home-for-reads.Asked,
+  home-for-reads.Learnt,
   recycle-reads.Asked,
   recycle-reads.Learnt,
+  no-kids-reads.Asked,
+  no-kids-reads.Learnt,
   drop-all-below t,
   drop-all.Post,
 ) (drop-slot-at t) drop-slot.Post
 drop-slot-same-length-3 t c = search needs
 
--- src/lib.rt:127:9
+-- src/lib.rt:147:9
 drop-slot-returns : (t : ℕ) → drop-slot-lts.Need-returns (
   children-reads.Asked,
   children-reads.Learnt,
+  fact-reads.Asked,
+  fact-reads.Learnt,
+  home-for-reads.Asked,
+  home-for-reads.Learnt,
   recycle-reads.Asked,
   recycle-reads.Learnt,
+  no-kids-reads.Asked,
+  no-kids-reads.Learnt,
   drop-all-below t,
   drop-all.Post,
 ) (drop-slot-at t) drop-slot.Post
-drop-slot-returns t c = search (slot-none, slot-all)
+drop-slot-returns t c = search slot-bare
 
--- src/lib.rt:129:53
-drop-slot-sub-drop-all : (t : ℕ) → drop-slot-lts.Need-sub-drop-all (
-  children-reads.Asked,
-  children-reads.Learnt,
-  recycle-reads.Asked,
-  recycle-reads.Learnt,
-  drop-all-below t,
-  drop-all.Post,
-) (drop-slot-at t) drop-slot.Post
-drop-slot-sub-drop-all t c = search needs
-
--- src/lib.rt:129:5
-drop-slot-drop-all-requires : (t : ℕ) → drop-slot-lts.Need-drop-all-requires (
-  children-reads.Asked,
-  children-reads.Learnt,
-  recycle-reads.Asked,
-  recycle-reads.Learnt,
-  drop-all-below t,
-  drop-all.Post,
-) (drop-slot-at t) drop-slot.Post
-drop-slot-drop-all-requires t c κs = search needs
-
--- src/lib.rt:113:1
+-- src/lib.rt:150:9
 drop-slot-same-length-4 : (t : ℕ) → drop-slot-lts.Need-same-length-4 (
   children-reads.Asked,
   children-reads.Learnt,
+  fact-reads.Asked,
+  fact-reads.Learnt,
+  home-for-reads.Asked,
+  home-for-reads.Learnt,
   recycle-reads.Asked,
   recycle-reads.Learnt,
+  no-kids-reads.Asked,
+  no-kids-reads.Learnt,
   drop-all-below t,
   drop-all.Post,
 ) (drop-slot-at t) drop-slot.Post
 drop-slot-same-length-4 t c = search needs
 
--- src/lib.rt:113:1
+-- src/lib.rt:150:9
 drop-slot-same-length-5 : (t : ℕ) → drop-slot-lts.Need-same-length-5 (
   children-reads.Asked,
   children-reads.Learnt,
+  fact-reads.Asked,
+  fact-reads.Learnt,
+  home-for-reads.Asked,
+  home-for-reads.Learnt,
   recycle-reads.Asked,
   recycle-reads.Learnt,
+  no-kids-reads.Asked,
+  no-kids-reads.Learnt,
   drop-all-below t,
   drop-all.Post,
 ) (drop-slot-at t) drop-slot.Post
 drop-slot-same-length-5 t c = search needs
 
--- src/lib.rt:113:1
+-- src/lib.rt:150:9
 drop-slot-same-length-6 : (t : ℕ) → drop-slot-lts.Need-same-length-6 (
   children-reads.Asked,
   children-reads.Learnt,
+  fact-reads.Asked,
+  fact-reads.Learnt,
+  home-for-reads.Asked,
+  home-for-reads.Learnt,
   recycle-reads.Asked,
   recycle-reads.Learnt,
+  no-kids-reads.Asked,
+  no-kids-reads.Learnt,
   drop-all-below t,
   drop-all.Post,
 ) (drop-slot-at t) drop-slot.Post
 drop-slot-same-length-6 t c = search needs
 
--- src/lib.rt:113:1
+-- src/lib.rt:150:9
 drop-slot-returns-2 : (t : ℕ) → drop-slot-lts.Need-returns-2 (
   children-reads.Asked,
   children-reads.Learnt,
+  fact-reads.Asked,
+  fact-reads.Learnt,
+  home-for-reads.Asked,
+  home-for-reads.Learnt,
   recycle-reads.Asked,
   recycle-reads.Learnt,
+  no-kids-reads.Asked,
+  no-kids-reads.Learnt,
   drop-all-below t,
   drop-all.Post,
 ) (drop-slot-at t) drop-slot.Post
-drop-slot-returns-2 t c = search (slot-none, slot-all)
+drop-slot-returns-2 t c = search slot-none
+
+-- src/lib.rt:152:53
+drop-slot-sub-drop-all : (t : ℕ) → drop-slot-lts.Need-sub-drop-all (
+  children-reads.Asked,
+  children-reads.Learnt,
+  fact-reads.Asked,
+  fact-reads.Learnt,
+  home-for-reads.Asked,
+  home-for-reads.Learnt,
+  recycle-reads.Asked,
+  recycle-reads.Learnt,
+  no-kids-reads.Asked,
+  no-kids-reads.Learnt,
+  drop-all-below t,
+  drop-all.Post,
+) (drop-slot-at t) drop-slot.Post
+drop-slot-sub-drop-all t c = search needs
+
+-- src/lib.rt:152:5
+drop-slot-drop-all-requires : (t : ℕ) → drop-slot-lts.Need-drop-all-requires (
+  children-reads.Asked,
+  children-reads.Learnt,
+  fact-reads.Asked,
+  fact-reads.Learnt,
+  home-for-reads.Asked,
+  home-for-reads.Learnt,
+  recycle-reads.Asked,
+  recycle-reads.Learnt,
+  no-kids-reads.Asked,
+  no-kids-reads.Learnt,
+  drop-all-below t,
+  drop-all.Post,
+) (drop-slot-at t) drop-slot.Post
+drop-slot-drop-all-requires t c κs = search needs
+
+-- src/lib.rt:132:1
+drop-slot-same-length-7 : (t : ℕ) → drop-slot-lts.Need-same-length-7 (
+  children-reads.Asked,
+  children-reads.Learnt,
+  fact-reads.Asked,
+  fact-reads.Learnt,
+  home-for-reads.Asked,
+  home-for-reads.Learnt,
+  recycle-reads.Asked,
+  recycle-reads.Learnt,
+  no-kids-reads.Asked,
+  no-kids-reads.Learnt,
+  drop-all-below t,
+  drop-all.Post,
+) (drop-slot-at t) drop-slot.Post
+drop-slot-same-length-7 t c = search needs
+
+-- src/lib.rt:132:1
+drop-slot-same-length-8 : (t : ℕ) → drop-slot-lts.Need-same-length-8 (
+  children-reads.Asked,
+  children-reads.Learnt,
+  fact-reads.Asked,
+  fact-reads.Learnt,
+  home-for-reads.Asked,
+  home-for-reads.Learnt,
+  recycle-reads.Asked,
+  recycle-reads.Learnt,
+  no-kids-reads.Asked,
+  no-kids-reads.Learnt,
+  drop-all-below t,
+  drop-all.Post,
+) (drop-slot-at t) drop-slot.Post
+drop-slot-same-length-8 t c = search needs
+
+-- src/lib.rt:132:1
+drop-slot-same-length-9 : (t : ℕ) → drop-slot-lts.Need-same-length-9 (
+  children-reads.Asked,
+  children-reads.Learnt,
+  fact-reads.Asked,
+  fact-reads.Learnt,
+  home-for-reads.Asked,
+  home-for-reads.Learnt,
+  recycle-reads.Asked,
+  recycle-reads.Learnt,
+  no-kids-reads.Asked,
+  no-kids-reads.Learnt,
+  drop-all-below t,
+  drop-all.Post,
+) (drop-slot-at t) drop-slot.Post
+drop-slot-same-length-9 t c = search needs
+
+-- src/lib.rt:132:1
+drop-slot-returns-3 : (t : ℕ) → drop-slot-lts.Need-returns-3 (
+  children-reads.Asked,
+  children-reads.Learnt,
+  fact-reads.Asked,
+  fact-reads.Learnt,
+  home-for-reads.Asked,
+  home-for-reads.Learnt,
+  recycle-reads.Asked,
+  recycle-reads.Learnt,
+  no-kids-reads.Asked,
+  no-kids-reads.Learnt,
+  drop-all-below t,
+  drop-all.Post,
+) (drop-slot-at t) drop-slot.Post
+drop-slot-returns-3 t c = search slot-all
 
 pub +drop-all+drop-slot-spec : {M : Type 1} → statement M
 +drop-all+drop-slot-spec = close μ-drop-all μ-drop-slot (λ t. drop-all-lts.spec (
@@ -376,22 +570,35 @@ pub +drop-all+drop-slot-spec : {M : Type 1} → statement M
     λ t. drop-slot-lts.spec (
       children-reads.Asked,
       children-reads.Learnt,
+      fact-reads.Asked,
+      fact-reads.Learnt,
+      home-for-reads.Asked,
+      home-for-reads.Learnt,
       recycle-reads.Asked,
       recycle-reads.Learnt,
+      no-kids-reads.Asked,
+      no-kids-reads.Learnt,
       drop-all-below t,
       drop-all.Post,
     )
     (drop-slot-at t)
     drop-slot.Post
     (drop-slot-children-requires t)
+    (drop-slot-fact-requires t)
+    (drop-slot-home-for-requires t)
     (drop-slot-recycle-requires t)
+    (drop-slot-no-kids-requires t)
     (drop-slot-same-length t)
     (drop-slot-same-length-2 t)
     (drop-slot-same-length-3 t)
     (drop-slot-returns t)
-    (drop-slot-sub-drop-all t)
-    (drop-slot-drop-all-requires t)
     (drop-slot-same-length-4 t)
     (drop-slot-same-length-5 t)
     (drop-slot-same-length-6 t)
     (drop-slot-returns-2 t)
+    (drop-slot-sub-drop-all t)
+    (drop-slot-drop-all-requires t)
+    (drop-slot-same-length-7 t)
+    (drop-slot-same-length-8 t)
+    (drop-slot-same-length-9 t)
+    (drop-slot-returns-3 t)

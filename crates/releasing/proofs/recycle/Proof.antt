@@ -1,9 +1,10 @@
 use borrow.Author.Needs.{needs}
-use mathlib.Core.Path.{_≡_, refl}
+use mathlib.Core.Path.{_≡_, refl, ap, _∙_}
 use mathlib.Core.List.{List}
 use Prim.Native.Nat.{ℕ, _-_}
+use lib.Dec.{eqb}
 use Rattle.nodes.specs.Words.{factOf, nodes, own, wordOf, written}
-use Rattle.finding.specs.Cells.{remove}
+use Rattle.finding.specs.Cells.{erase, probe, remove}
 use Rattle.finding.specs.Content.{homeAt}
 use Rattle.arena.specs.Calls.{deadFacts, empties, recycled}
 use Rattle.arena.specs.Tables.{Tables, tables}
@@ -12,11 +13,14 @@ use Rattle.releasing.specs.Drop.{stateOf}
 use Rattle.releasing.proofs.recycle.Statement.{statement}
 use Rattle.releasing.proofs.recycle.Tie as tie
 
-done : (c n t v : ℕ) (k f e k′ f′ e′ : List ℕ) (s l : ℕ) → e′ ≡ remove (homeAt c (wordOf (nodes k f))) e s
+done : (c n t v : ℕ) (k f e k′ f′ e′ : List ℕ) (s from l : ℕ) → from ≡ homeAt c (wordOf (nodes k f)) s
+    → e′ ≡ erase (homeAt c (wordOf (nodes k f))) e (probe (eqb s) e from)
     → nodes k′ f′ ≡ written (nodes k f) s empties (deadFacts (factOf f s own) t) → l ≡ v - 1
     → _≡_ {A = Tables} (tables (stateOf c n s l) k′ f′ e′) (recycled (tables (stateOf c n t v) k f e) s)
-unfolding recycled wordOf
-done c n t v k f e k′ f′ e′ s l ee em el = tables-path _ _ _ _ _ _ (arena-path _ _ _ _ _ _ _ _ refl refl refl el) em ee
+unfolding recycled wordOf remove
+done c n t v k f e k′ f′ e′ s from l eh ee em el =
+    tables-path _ _ _ _ _ _ (arena-path _ _ _ _ _ _ _ _ refl refl refl el) em
+    (ee ∙ ap (λ (h : ℕ). erase (homeAt c (wordOf (nodes k f))) e (probe (eqb s) e h)) eh)
 
 pub recycle-spec : {M : Type 1} → statement M
 recycle-spec =

@@ -2,10 +2,11 @@ use borrow.Author.Needs.{needs}
 use mathlib.Core.Path.{_≡_, refl, ap, ap₂, _∙_}
 use mathlib.Core.List.{List, [], _∷_}
 use Prim.Native.Nat.{ℕ, _%_}
+use lib.Dec.{eqb}
 use lib.ListN.{set}
-use Rattle.nodes.specs.Words.{Nodes, factOf, nodes, wordOf, written}
-use Rattle.finding.specs.Content.{homeAt}
-use Rattle.finding.specs.Cells.{placeOf}
+use Rattle.nodes.specs.Words.{factOf, nodes, wordOf, written}
+use Rattle.hashing.specs.Hash.{homeFor}
+use Rattle.finding.specs.Cells.{probe}
 use Rattle.arena.specs.Calls.{freshFacts, freshSlot, said}
 use Rattle.arena.specs.Models.{givenOut, writtenAt, writtenNodes}
 use Rattle.arena.specs.Tables.{tables}
@@ -15,24 +16,17 @@ use Rattle.renewing.specs.Models.{freshBy}
 use Rattle.renewing.proofs.fresh_node.Statement.{statement}
 use Rattle.renewing.proofs.fresh_node.Tie as tie
 
-fresh : (a : Arena) (k f e ks : List ℕ) (id v up h q s at : ℕ) (b : Arena) (k′ f′ e′ : List ℕ) → s ≡ freshSlot a → b ≡ givenOut a (factOf f)
-    → nodes k′ f′ ≡ written (nodes k f) s ks (id ∷ v ∷ up ∷ h ∷ q ∷ 0 ∷ 0 ∷ []) → at ≡ placeOf (homeAt (a .capacity) (wordOf (nodes k′ f′))) e s
+fresh : (a : Arena) (k f e ks : List ℕ) (id v up h q s from at : ℕ) (b : Arena) (k′ f′ e′ : List ℕ) → s ≡ freshSlot a → from ≡ homeFor (a .capacity) ks v
+    → at ≡ probe (eqb s) e from → b ≡ givenOut a (factOf f) → nodes k′ f′ ≡ written (nodes k f) s ks (id ∷ v ∷ up ∷ h ∷ q ∷ 0 ∷ 0 ∷ [])
     → e′ ≡ set e at (s % 65536) → said 0 id (tables b k′ f′ e′) ≡ freshBy (tables a k f e) id ks v up h q
 unfolding freshBy writtenNodes writtenAt givenOut wordOf freshFacts
-fresh a k f e ks id v up h q s at b k′ f′ e′ es eb em ea ee =
-    let m = em ∙ ap (λ (x : ℕ). written (nodes k f) x ks (id ∷ v ∷ up ∷ h ∷ q ∷ 0 ∷ 0 ∷ [])) es in
+fresh a k f e ks id v up h q s from at b k′ f′ e′ es eo ea eb em ee =
     said-path _ _ _ _ _ _ refl refl
-    (tables-path _ _ _ _ _ _ eb m
-    (ee ∙ ap₂ (λ (x y : ℕ). set e x (y % 65536)) (ea ∙ ap₂ (λ (n : Nodes) (x : ℕ). placeOf (homeAt (a .capacity) (wordOf n)) e x) m es) es))
+    (tables-path _ _ _ _ _ _ eb (em ∙ ap (λ (x : ℕ). written (nodes k f) x ks (id ∷ v ∷ up ∷ h ∷ q ∷ 0 ∷ 0 ∷ [])) es)
+    (ee ∙ ap₂ (λ (x y : ℕ). set e x (y % 65536)) (ea ∙ ap₂ (λ (x y : ℕ). probe (eqb x) e y) es eo) es))
 
 pub fresh-node-spec : {M : Type 1} → statement M
 fresh-node-spec =
     tie.close
-    (tie.spec (λ c κs. search needs) (λ c κs. search needs) (λ c κs. search needs) (λ c κs. search needs) (λ c κs. search needs)
-    (λ c. search needs) (λ c. search needs) (λ c. search needs)
-    (λ c.
-    let found = c .before .before .before .before in
-    let wrote = found .before .before .before .before .before .before .before .before in
-    let gave = wrote .before .before .before in
-    fresh _ _ _ _ _ _ _ _ _ _ _ _ _ _ _ _ (gave .before .before .fresh-slot .ensures) (gave .give .ensures) (wrote .write-slot .ensures)
-    (found .place-of .ensures) (c .before .before .put-cell .ensures)))
+    (tie.spec (λ c κs. search needs) (λ c κs. search needs) (λ c κs. search needs) (λ c κs. search needs) (λ c κs. search needs) (λ c κs. search needs)
+    (λ c. search needs) (λ c. search needs) (λ c. search needs) (λ c. search fresh))

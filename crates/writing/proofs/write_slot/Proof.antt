@@ -14,5 +14,5 @@ rows k f k′ f′ s ks fs p q = nodes-path k′ (putsFrom k (8 * s) ks) f′ (p
 pub write-slot-spec : {M : Type 1} → statement M
 write-slot-spec =
     tie.close
-    (tie.spec (λ c. search needs) (λ c κs. search needs) (λ c. search needs) (λ c κs. search needs) (λ c. search needs)
+    (tie.spec (λ c κs. search needs) (λ c κs. search needs) (λ c. search needs)
     (λ c. search needs) (λ c. search rows))

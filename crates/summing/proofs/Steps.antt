@@ -1,0 +1,70 @@
+-- The two sums over the children, one child after the other.
+use mathlib.Core.Path.{_≡_, refl, ap, _∙_}
+use mathlib.Core.List.{List}
+use Prim.Native.Nat.{ℕ, _+_, _/_, _%_, _≤_, max}
+use native.Mathlib.Numerals.{add-one}
+use native.Mathlib.Omega.{arith}
+use borrow.Author.Tests.{eq-eqb, ne-eqb}
+use lib.ListN.{getD}
+use Rattle.basics.specs.Sums.{sumTo}
+use Rattle.nodes.specs.Words.{Words, height, slot, value}
+use Rattle.nodes.specs.Values.{heightAt, maxTo, valueAt}
+use Rattle.arena.specs.Models.{topFor, valueBy, wrapSum}
+
+module _ (U : Words) (y : ℕ) where
+  pub value-none : y ≡ 0 → 0 ≡ valueAt U y
+  unfolding valueAt
+  value-none e = rw (eq-eqb y 0 e)
+
+  pub value-node : (s w : ℕ) → (y ≡ 0 → ⊥) → s ≡ slot y → w ≡ U s value → w ≡ valueAt U y
+  unfolding valueAt
+  value-node s w d es ew = rw (ne-eqb y 0 d) (ew ∙ ap (λ (x : ℕ). U x value) es)
+
+  pub height-none : y ≡ 0 → 0 ≡ heightAt U y
+  unfolding heightAt
+  height-none e = rw (eq-eqb y 0 e)
+
+  pub height-node : (s w : ℕ) → (y ≡ 0 → ⊥) → s ≡ slot y → w ≡ U s height → w ≡ heightAt U y
+  unfolding heightAt
+  height-node s w d es ew = rw (ne-eqb y 0 d) (ew ∙ ap (λ (x : ℕ). U x height) es)
+
+module _ (U : Words) (ks : List ℕ) where
+  pub sum-start : 0 ≡ wrapSum U ks 0
+  unfolding wrapSum sumTo
+  sum-start = refl
+
+  pub sum-step : (sum i v : ℕ) → sum ≡ wrapSum U ks i → v ≡ valueAt U (getD ks i 0) → sum + v % 65536 ≡ wrapSum U ks (i + 1)
+  unfolding wrapSum sumTo
+  sum-step sum i v e ev = rw (add-one i, e, ev)
+
+  pub sum-last : (sum i : ℕ) → sum ≡ wrapSum U ks i → i ≤ 8 → 8 ≤ i → sum / 8 ≡ valueBy 8 U ks
+  unfolding valueBy
+  sum-last sum i e a b = let q : i ≡ 8 = omega arith in ap (λ (x : ℕ). x / 8) (rw q at e)
+
+  pub top-start : 0 ≡ topFor U ks 0
+  unfolding topFor maxTo
+  top-start = refl
+
+  pub top-step : (top i v : ℕ) → top ≡ topFor U ks i → v ≡ heightAt U (getD ks i 0) → max top v ≡ topFor U ks (i + 1)
+  unfolding topFor maxTo
+  top-step top i v e ev = rw (add-one i, e, ev)
+
+  pub top-last : (top i : ℕ) → top ≡ topFor U ks i → i ≤ 8 → 8 ≤ i → top ≡ topFor U ks 8
+  top-last top i e a b = let q : i ≡ 8 = omega arith in rw q at e
+
+module _ (U : Words) (ks : List ℕ) (i : ℕ) where
+  -- an EMPTY child is passed over
+  pub sum-none : (sum x : ℕ) → sum ≡ wrapSum U ks i → getD ks i 0 ≡ 0 → x ≡ sum → x ≡ wrapSum U ks (i + 1)
+  sum-none sum x e z ex = let w = sum-step U ks sum i 0 e (value-none U (getD ks i 0) z) in omega arith
+
+  pub top-none : (top x : ℕ) → top ≡ topFor U ks i → getD ks i 0 ≡ 0 → x ≡ top → x ≡ topFor U ks (i + 1)
+  top-none top x e z ex = let w = top-step U ks top i 0 e (height-none U (getD ks i 0) z) in omega arith
+
+  -- the node of another adds its two facts
+  pub sum-node : (sum x s v : ℕ) → sum ≡ wrapSum U ks i → (getD ks i 0 ≡ 0 → ⊥) → s ≡ slot (getD ks i 0) → v ≡ U s value → x ≡ sum + v % 65536
+      → x ≡ wrapSum U ks (i + 1)
+  sum-node sum x s v e d es ev ex = ex ∙ sum-step U ks sum i v e (value-node U (getD ks i 0) s v d es ev)
+
+  pub top-node : (top x m s v : ℕ) → top ≡ topFor U ks i → (getD ks i 0 ≡ 0 → ⊥) → s ≡ slot (getD ks i 0) → v ≡ U s height → m ≡ max top v
+      → x ≡ m → x ≡ topFor U ks (i + 1)
+  top-node top x m s v e d es ev em ex = ex ∙ em ∙ top-step U ks top i v e (height-node U (getD ks i 0) s v d es ev)
