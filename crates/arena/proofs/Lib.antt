@@ -1,4 +1,5 @@
 pub mod Ids
+pub mod Bits
 pub mod Rows
 pub mod Eight
 pub mod Inv

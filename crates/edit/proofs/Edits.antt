@@ -132,7 +132,7 @@ granted-well t r w (inr l) e =
     rw (granted-node t r d) (held-kept 8 6 t (slot r) (omega arith) w (l .low, omega arith) (not-full t r d e))
 
 -- what is lacking is at least one node
-lack-one : {B k : ℕ} {b : planning.Plan} {r : Need} → Agree B b r → r ≡ lack k → 1 ≤ k
+pub lack-one : {B k : ℕ} {b : planning.Plan} {r : Need} → Agree B b r → r ≡ lack k → 1 ≤ k
 lack-one agree-have e = absurd (have-lack e)
 lack-one (agree-lack {k = j} one most) e = let z = lack-inj e in omega arith
 

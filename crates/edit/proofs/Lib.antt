@@ -8,5 +8,8 @@ pub mod Law
 pub mod Edits
 pub mod Expanding
 pub mod Theorems
+pub mod Lacking
 pub mod Cubes
+pub mod Between
 pub mod Holds
+pub mod Generations

@@ -12,9 +12,9 @@ use Rattle.nodes.specs.Words.{Words, slot}
 use Rattle.nodes.proofs.Sums.{cases, split}
 use Rattle.paths.specs.declared.IVec3.{IVec3}
 use Rattle.paths.specs.Paths.{whole}
-use Rattle.tree.specs.Tree.{LiveOr0, WellMade, Cell, Root, look, Extends}
+use Rattle.tree.specs.Tree.{LiveOr0, WellMade, Root, look, Extends}
 use Rattle.tree.specs.Anew.{Anew}
-use Rattle.tree.specs.Edits.{Edited, Later}
+use Rattle.tree.specs.Edits.{Edited}
 use Rattle.tree.specs.Demand.{At, way, Apart, TwoChanged}
 use Rattle.tree.specs.Lacks.{Need, have, lack, Lacks}
 use Rattle.tree.proofs.Canon.{canon}
@@ -22,16 +22,18 @@ use Rattle.tree.proofs.CellLaws.{cube-cell, cube-one, cube-onto}
 use Rattle.tree.proofs.Grow.{extends-keeps, look-later, there-later}
 use Rattle.tree.proofs.Demand.{demand-3}
 use Rattle.tree.proofs.Plan.{plan-lack}
+use Rattle.tree.proofs.Room.{tables-bare, there-more, made-more, plan-wider}
 use Rattle.arena.specs.Tables.{Tables, cap, W, WellFormed}
 use Rattle.arena.specs.Calls.{fullOf}
 use Rattle.reading.specs.Calls.{lookNo, looked, lookOf, expandOf}
 use Rattle.reading.specs.declared.Looked.{Looked}
 use Rattle.reading.proofs.Meaning.{wf-made}
 use Rattle.edit.specs.Edit.{planOf, resultOf, grantNo, cellAt, editNo}
-use Rattle.edit.specs.Promises.{spot, standsAt, then, gives, Reads, BothOrders}
+use Rattle.edit.specs.Promises.{spot, standsAt, then, gives, Reads, Unreleased, BothOrders}
 use Rattle.edit.proofs.Planning.{plan-is}
 use Rattle.edit.proofs.Law.{root-there}
 use Rattle.edit.proofs.Edits.{accepted-past, edit-right}
+use Rattle.edit.proofs.Between.{unreleased-keeps-all, all-kept-later}
 use Rattle.edit.proofs.Expanding.{look-at, way-one, stands-apart, one-set, expand-at, expand-list}
 
 -- ## Refusal 11
@@ -54,13 +56,15 @@ unfolding grantNo
 short-eleven t k h = rw (lt-leb k (cap t - 1 - t .arena .live) h)
 
 module _ (t : Tables) (w : WellFormed 8 6 t) (root d : ℕ) (p : IVec3) (v : ℕ) (n : lookNo t root d p ≡ 0) (low : heightAt (W t) root ≤ d) where
-  -- if the dry run lacks k nodes, then wherever the result r is made, exactly k of its nodes are not live now
-  pub lack-right : (k r : ℕ) (W′ : Words) → Cell 8 d (cellAt d p) → planOf 8 t v (cellAt d p) root ≡ lack k → WellMade 8 (cap t) W′ → Extends 8 (cap t) (W t) W′
-      → Anew 8 (cap t) W′ v (cellAt d p) root r → Lacks 8 (cap t) (W t) W′ r k
-  lack-right k r W′ c e w′ g a =
+  -- if the dry run lacks k nodes, then wherever the result r is made, in tables of that size or of any larger one, exactly k of its nodes are not live now
+  pub lack-right : (k r c : ℕ) (W′ : Words) → planOf 8 t v (cellAt d p) root ≡ lack k → cap t ≤ c → WellMade 8 c W′ → Extends 8 c (W t) W′
+      → Anew 8 c W′ v (cellAt d p) root r → Lacks 8 c (W t) W′ r k
+  lack-right k r c W′ e h w′ g a =
       let there = root-there t root d p n in
-      plan-lack 8 (cap t) (omega arith) (W t) W′ (wf-made 8 6 t (omega arith) w) w′ g v there low c
-      (rw e at (plan-is 8 6 t (omega arith) (omega arith) w v root there low c)) a
+      let cell = cube-cell d (whole (p .x)) (whole (p .y)) (whole (p .z)) in
+      let bare = tables-bare (t .nodes) (cap t) (w .sized .facts) in
+      plan-lack 8 c (omega arith) (W t) W′ (made-more h bare (wf-made 8 6 t (omega arith) w)) w′ g v (there-more h there) low cell
+      (plan-wider h bare (rw e at (plan-is 8 6 t (omega arith) (omega arith) w v root there low cell))) a
 
   past-no : editNo t root d p v ≡ grantNo t (resultOf 8 t v (cellAt d p) root)
   unfolding editNo
@@ -110,9 +114,6 @@ cell-edited {d} c₀ t w e a c v h ok =
 apart-way : {d : ℕ} (c e : At d) → Apart c e → way c ≢ way e
 apart-way {d} c e h k = h (cube-one d (c .in-x) (c .in-y) (c .in-z) (e .in-x) (e .in-y) (e .in-z) k)
 
-same-later : {cap : ℕ} {W : Words} → WellMade 8 cap W → Later 8 cap W W
-same-later w = record { grows = λ a m. record { still = m; kids = λ i k. refl; value = refl; height = refl }; made = w }
-
 -- ## Lookup after an accepted edit
 
 pub edit-reads : {d : ℕ} (t : Tables) → WellFormed 8 6 t → d ≤ 6 → (a : ℕ) (c : At d) (v : ℕ) → v ≤ 65535 → editNo t a d (spot c) v ≡ 0
@@ -146,10 +147,10 @@ edit-reads {d} t w h a c v high ok =
     }
 
 -- In a well-formed arena take EMPTY or a live tidy root no taller than the depth, two different cells and a value for each. Make both edits from that root in
--- one order, then from the same root in the other, all four accepted, nothing released: both end in the same id, whose cube is the old one with those
--- two cells changed.
+-- one order, then from the same root in the other, all four accepted; between them come any calls that release nothing: t₁ to t₄ are what the four edits
+-- leave, u₁ to u₃ what the calls after the first three leave. Both end in the same id, whose cube is the old one with those two cells changed.
 module _ {d : ℕ} (t₀ : Tables) (w : WellFormed 8 6 t₀) (deep-enough : d ≤ 6) (root : ℕ) (tidy : Root 8 (cap t₀) d (W t₀) root) (p q : At d) (apart : Apart p q)
-    (i j : ℕ) (hi : i ≤ 65535) (hj : j ≤ 65535) where
+    (i j : ℕ) (hi : i ≤ 65535) (hj : j ≤ 65535) (u₁ u₂ u₃ : Tables) where
   abbrev pub t₁ : Tables
   t₁ = then t₀ root p i
 
@@ -157,40 +158,47 @@ module _ {d : ℕ} (t₀ : Tables) (w : WellFormed 8 6 t₀) (deep-enough : d �
   r₁ = gives t₀ root p i
 
   abbrev pub t₂ : Tables
-  t₂ = then t₁ r₁ q j
+  t₂ = then u₁ r₁ q j
 
   abbrev pub r₂ : ℕ
-  r₂ = gives t₁ r₁ q j
+  r₂ = gives u₁ r₁ q j
 
   abbrev pub t₃ : Tables
-  t₃ = then t₂ root q j
+  t₃ = then u₂ root q j
 
   abbrev pub r₃ : ℕ
-  r₃ = gives t₂ root q j
+  r₃ = gives u₂ root q j
 
   abbrev pub t₄ : Tables
-  t₄ = then t₃ r₃ p i
+  t₄ = then u₃ r₃ p i
 
   abbrev pub r₄ : ℕ
-  r₄ = gives t₃ r₃ p i
+  r₄ = gives u₃ r₃ p i
 
-  pub both-orders : editNo t₀ root d (spot p) i ≡ 0 → editNo t₁ r₁ d (spot q) j ≡ 0 → editNo t₂ root d (spot q) j ≡ 0 → editNo t₃ r₃ d (spot p) i ≡ 0
+  pub both-orders : editNo t₀ root d (spot p) i ≡ 0 → Unreleased t₁ u₁ → editNo u₁ r₁ d (spot q) j ≡ 0 → Unreleased t₂ u₂
+      → editNo u₂ root d (spot q) j ≡ 0 → Unreleased t₃ u₃ → editNo u₃ r₃ d (spot p) i ≡ 0
       → BothOrders d t₀ root p i q j t₄ r₂ r₄
-  both-orders ok₁ ok₂ ok₃ ok₄ =
+  both-orders ok₁ calls₁ ok₂ calls₂ ok₃ calls₃ ok₄ =
       let s₁ = edit-right t₀ w root d (spot p) i hi ok₁ in
-      let s₂ = edit-right t₁ (s₁ .well) r₁ d (spot q) j hj ok₂ in
-      let s₃ = edit-right t₂ (s₂ .well) root d (spot q) j hj ok₃ in
-      let s₄ = edit-right t₃ (s₃ .well) r₃ d (spot p) i hi ok₄ in
-      let z₁ = s₁ .size in
-      let z₂ : cap t₂ ≡ cap t₀ = s₂ .size ∙ z₁ in
-      let z₃ : cap t₃ ≡ cap t₀ = s₃ .size ∙ z₂ in
-      let z₄ : cap t₄ ≡ cap t₀ = s₄ .size ∙ z₃ in
+      let k₁ = unreleased-keeps-all (s₁ .well) calls₁ in
+      let s₂ = edit-right u₁ (k₁ .well) r₁ d (spot q) j hj ok₂ in
+      let k₂ = unreleased-keeps-all (s₂ .well) calls₂ in
+      let s₃ = edit-right u₂ (k₂ .well) root d (spot q) j hj ok₃ in
+      let k₃ = unreleased-keeps-all (s₃ .well) calls₃ in
+      let s₄ = edit-right u₃ (k₃ .well) r₃ d (spot p) i hi ok₄ in
+      let z₁ : cap t₁ ≡ cap t₀ = s₁ .size in
+      let y₁ : cap u₁ ≡ cap t₀ = k₁ .size ∙ z₁ in
+      let z₂ : cap t₂ ≡ cap t₀ = s₂ .size ∙ y₁ in
+      let y₂ : cap u₂ ≡ cap t₀ = k₂ .size ∙ z₂ in
+      let z₃ : cap t₃ ≡ cap t₀ = s₃ .size ∙ y₂ in
+      let y₃ : cap u₃ ≡ cap t₀ = k₃ .size ∙ z₃ in
+      let z₄ : cap t₄ ≡ cap t₀ = s₄ .size ∙ y₃ in
       let e₁ = cell-edited (cap t₀) t₀ w refl root p i hi ok₁ in
-      let e₂ = cell-edited (cap t₀) t₁ (s₁ .well) z₁ r₁ q j hj ok₂ in
-      let e₃ = cell-edited (cap t₀) t₂ (s₂ .well) z₂ root q j hj ok₃ in
-      let e₄ = cell-edited (cap t₀) t₃ (s₃ .well) z₃ r₃ p i hi ok₄ in
+      let e₂ = cell-edited (cap t₀) u₁ (k₁ .well) y₁ r₁ q j hj ok₂ in
+      let e₃ = cell-edited (cap t₀) u₂ (k₂ .well) y₂ root q j hj ok₃ in
+      let e₄ = cell-edited (cap t₀) u₃ (k₃ .well) y₃ r₃ p i hi ok₄ in
       let b : TwoChanged d (W t₀) root p i q j (W t₄) r₂ r₄ =
-      demand-3 p q (wf-made 8 6 t₀ (omega arith) w) tidy apart e₁ (same-later (e₁ .made)) e₂ (same-later (e₂ .made)) e₃ (same-later (e₃ .made)) e₄ in
+      demand-3 p q (wf-made 8 6 t₀ (omega arith) w) tidy apart e₁ (all-kept-later (cap t₀) z₁ k₁) e₂ (all-kept-later (cap t₀) z₂ k₂) e₃ (all-kept-later (cap t₀) z₃ k₃) e₄ in
       let there : LiveOr0 (cap t₄) (W t₄) r₄ = subst (λ (k : ℕ). LiveOr0 k (W t₄) r₄) (sym z₄) (e₄ .there) in
       record {
         one = b .one;

@@ -1,27 +1,29 @@
 -- What a caller may rely on, over the calls themselves: what an edit does, demand 3, and the plain cube. The theorems are in proofs/.
 use mathlib.Core.Path.{_≡_}
 use mathlib.Core.Logic.{_≢_, _⊎_}
-use mathlib.Core.Bool.{Bool, false}
+use mathlib.Core.Bool.{Bool, true, false}
 use mathlib.Core.List.{List}
 use Prim.Native.Nat.{ℕ, _+_, _*_, _^_, _≤_, _<_}
 use lib.Dec.{eqb}
 use lib.ListN.{length, getD, set}
 use Rattle.basics.specs.Pick.{pick}
-use Rattle.nodes.specs.Words.{holds, slot}
+use Rattle.nodes.specs.Words.{Words, holds, slot}
 use Rattle.nodes.specs.Values.{heightAt}
-use Rattle.nodes.specs.Tally.{Live}
+use Rattle.nodes.specs.Tally.{Live, occ}
 use Rattle.paths.specs.declared.IVec3.{IVec3}
-use Rattle.paths.specs.Paths.{place}
-use Rattle.tree.specs.Tree.{LiveOr0, Root, Keeps, Below}
+use Rattle.paths.specs.Paths.{place, inside}
+use Rattle.tree.specs.Tree.{LiveOr0, Root, Keeps, Below, WellMade, Extends}
+use Rattle.tree.specs.Anew.{Answer}
 use Rattle.tree.specs.Edits.{Edited}
-use Rattle.tree.specs.Lacks.{Lacks}
+use Rattle.tree.specs.Lacks.{Lacks, Newly}
 use Rattle.tree.specs.Demand.{At, Apart}
 use Rattle.arena.specs.Tables.{Tables, cap, W, WellFormed}
-use Rattle.arena.specs.Calls.{Out, freshOf}
+use Rattle.arena.specs.Calls.{Out, freshOf, internBranchOf, holdOf, releaseOf, countsOf}
 use Rattle.ledger.specs.Ledger as ledger
-use Rattle.ledger.specs.Ledger.{on, ifAccepted, holdsOn}
+use Rattle.ledger.specs.Ledger.{leaf, branch, hold, release, on, ifAccepted, holdsOn}
+use Rattle.ledger.specs.Fates.{ended}
 use Rattle.reading.specs.Calls.{looked, lookOf, expandOf}
-use Rattle.edit.specs.Edit.{editNo, editOf}
+use Rattle.edit.specs.Edit.{cellAt, editNo, editOf}
 
 -- ## Cells
 
@@ -74,7 +76,37 @@ pub record Reads {d : ℕ} (t : Tables) (a : ℕ) (c : At d) (v : ℕ) (u : Tabl
   pub root : Root 8 (cap t) d (W t) a → Root 8 (cap u) d (W u) r
   pub others : (b : ℕ) → LiveOr0 (cap t) (W t) b → (e : ℕ) → e ≤ 6 → (s : At e) → lookOf u b e (spot s) ≡ lookOf t b e (spot s)
 
+-- ## Calls
+
+-- the calls that change an arena: intern leaf, intern branch, hold and release, as the ledger has them, and the edit of a root at a depth
+pub data Call : Type 0 where
+  arena : ledger.Call → Call
+  voxel : ℕ → ℕ → IVec3 → ℕ → Call
+
+-- what can be handed to a call: a 16-bit value, eight ids
+abbrev pub Handed : Call → Type 0
+Handed (arena c) = ledger.Handed 8 c
+Handed (voxel b e p v) = v ≤ 65535
+
+-- what it answers and leaves
+abbrev pub outcome : Tables → Call → Out
+outcome t (arena c) = ledger.outcome 8 6 t c
+outcome t (voxel b e p v) = editOf t b e p v
+
 -- ## Demand 3: two edits in both orders
+
+-- a call that is no release
+abbrev pub NoRelease : Call → Type 0
+NoRelease (arena (leaf v)) = Unit
+NoRelease (arena (branch ks)) = Unit
+NoRelease (arena (hold b)) = Unit
+NoRelease (arena (release b)) = ⊥
+NoRelease (voxel b e p v) = Unit
+
+-- From t to u nothing is released: u is t itself, or what any calls from t on leave, accepted or refused, none of them a release.
+pub data Unreleased : Tables → Tables → Type 0 where
+  none : {t : Tables} → Unreleased t t
+  call : {t u : Tables} (c : Call) → Handed c → NoRelease c → Unreleased (outcome t c .after) u → Unreleased t u
 
 -- Both ends are the same id, whose cube is the old one with those two cells changed, as lookup answers and as expansion writes (into lent lists l and m).
 pub record BothOrders (d : ℕ) (t₀ : Tables) (root : ℕ) (p : At d) (i : ℕ) (q : At d) (j : ℕ) (t₄ : Tables) (r₂ r₄ : ℕ) : Type 0 where
@@ -110,21 +142,6 @@ pub record Kept (t u : Tables) (a : ℕ) : Type 0 where
 abbrev pub Held : Tables → ℕ → Type 0
 Held t a = (a ≡ 0) ⊎ (1 ≤ holdsOn t a)
 
--- the calls that change an arena: intern leaf, intern branch, hold and release, as the ledger has them, and the edit of a root at a depth
-pub data Call : Type 0 where
-  arena : ledger.Call → Call
-  voxel : ℕ → ℕ → IVec3 → ℕ → Call
-
--- what can be handed to a call: a 16-bit value, eight ids
-abbrev pub Handed : Call → Type 0
-Handed (arena c) = ledger.Handed 8 c
-Handed (voxel b e p v) = v ≤ 65535
-
--- what it answers and leaves
-abbrev pub outcome : Tables → Call → Out
-outcome t (arena c) = ledger.outcome 8 6 t c
-outcome t (voxel b e p v) = editOf t b e p v
-
 -- ## The plain cube
 
 -- The root a stands for the cube F of depth d in the tables t. It was EMPTY in a fresh arena; or it was held in a well-formed arena, no taller than the
@@ -154,3 +171,47 @@ pub data History : Tables → (ℕ → ℕ) → (ℕ → ℕ) → Type 0 where
   begin : (c : ℕ) (k f e : List ℕ) → freshOf c k f e .no ≡ 0 → History (freshOf c k f e .after) (λ y. 0) (λ y. 0)
   next : {t : Tables} {granted taken : ℕ → ℕ} → History t granted taken → (c : Call) → Handed c
       → History (outcome t c .after) (λ y. granted y + grants (outcome t c) c y) (λ y. taken y + takesOf (outcome t c) c y)
+
+-- ## Refusal 11
+
+-- The result r of the edit, in an arena imagined with c slots, as many as it takes: its words W′ are well made, every node that lives in t is there as it
+-- was, and r is the answer of the edit (the old root if the cell has the value, else the root with the cell made anew).
+pub record Imagined (t : Tables) (root d : ℕ) (p : IVec3) (v c : ℕ) (W′ : Words) (r : ℕ) : Type 0 where
+  pub size : cap t ≤ c
+  pub made : WellMade 8 c W′
+  pub grows : Extends 8 c (W t) W′
+  pub answer : Answer 8 c (W t) W′ root (cellAt d p) v r
+
+-- k nodes of the result are not live in t
+pub record Missing (t : Tables) (root d : ℕ) (p : IVec3) (v k : ℕ) : Type 0 where
+  pub slots : ℕ
+  pub words : Words
+  pub result : ℕ
+  pub imagined : Imagined t root d p v slots words result
+  pub newly : Newly 8 slots (W t) words result k
+
+-- ## Old ids
+
+-- u is reached from t by calls, edits among them, which have recycled each slot so often
+pub data Later (t : Tables) : Tables → (ℕ → ℕ) → Type 0 where
+  now : Later t t (λ s. 0)
+  onward : {u : Tables} {times : ℕ → ℕ} → Later t u times → (c : Call) → Handed c
+      → Later t (outcome u c .after) (λ s. times s + ended u (outcome u c .after) s)
+
+-- a depth, and a position inside its cube: refusals 2 and 3 do not apply
+abbrev pub Inside : ℕ → IVec3 → Type 0
+Inside d p = (d ≤ 6) × (inside d (p .x) ≡ true) × (inside d (p .y) ≡ true) × (inside d (p .z) ≡ true)
+
+-- refused with a number up to 4, and with 4 itself where no lower number applies
+abbrev pub ByFour : ℕ → Type 0 → Type 0
+ByFour k fit = (1 ≤ k) × (k ≤ 4) × (fit → k ≡ 4)
+
+-- Every call that is handed the id refuses it.
+pub record Refused (t : Tables) (y : ℕ) : Type 0 where
+  pub hold : holdOf t y .no ≡ 4
+  pub release : releaseOf t y .no ≡ 4
+  pub counts : countsOf t y .no ≡ 4
+  pub child : (ks : List ℕ) → 1 ≤ occ y ks → internBranchOf 8 6 t ks .no ≡ 4
+  pub lookup : (d : ℕ) (p : IVec3) → ByFour (lookOf t y d p .no) (Inside d p)
+  pub expansion : (d : ℕ) (l : List ℕ) → ByFour (expandOf t y d l .no) (d ≤ 6)
+  pub edit : (d : ℕ) (p : IVec3) (v : ℕ) → ByFour (editOf t y d p v .no) (Inside d p)

@@ -29,7 +29,7 @@ use Rattle.ledger.proofs.Writes.{held-word}
 
 -- ---- the count of the generations
 
-turned-zero : (g : ℕ) → turned 0 g ≡ g
+pub turned-zero : (g : ℕ) → turned 0 g ≡ g
 unfolding turned
 turned-zero g = refl
 
@@ -174,7 +174,7 @@ pub other-generation : (t : Tables) (y : ℕ) → generationOf y ≢ generationO
 other-generation t y d v = d (sym (ap generationOf (v .is)))
 
 -- the id of a node follows from its slot, its generation and its children alone
-id-same : (n tallest : ℕ) (t u : Tables) (s : ℕ) → n ≤ 8 → Node n tallest (cap t) (W t) s → Node n tallest (cap u) (W u) s
+pub id-same : (n tallest : ℕ) (t u : Tables) (s : ℕ) → n ≤ 8 → Node n tallest (cap t) (W t) s → Node n tallest (cap u) (W u) s
     → generationOf (W u s own) ≡ generationOf (W t s own) → ((i : ℕ) → i < 8 → W u s i ≡ W t s i) → W u s own ≡ W t s own
 id-same n tallest t u s m a b g k =
     ⊎-elim
@@ -205,7 +205,7 @@ module _ (n tallest : ℕ) (m : n ≤ 8) (pos : 1 ≤ n) (low : tallest ≤ 6) (
       let e : generationOf (W u (slot y) own) ≡ generationOf y = ap generationOf (l .is) in
       omega arith
 
-  -- An old id is refused after 1 to 32,765 recyclings of its slot: refusal 4, wherever it is handed in.
+  -- An old id is refused after 1 to 32,765 recyclings of its slot: refusal 4 of hold, release, counts and, as a child, intern branch.
   pub old-refused : 1 ≤ times (slot y) → times (slot y) ≤ 32765
       → (holdOf u y .no ≡ 4) × (releaseOf u y .no ≡ 4) × (countsOf u y .no ≡ 4) × ((ks : List ℕ) → 1 ≤ occ y ks → internBranchOf n tallest u ks .no ≡ 4)
   old-refused a b = dead-refused n tallest u y (later-well n tallest m pos low w k .sized) (live-nonzero v) (old-ended a b)

@@ -493,7 +493,7 @@ fresh-refusals c k f e =
     (λ r q. exactly-as (FreshWhy c k f e) (freshOf c k f e .no) 1 (ap (λ (o : Out). o .no) q) (lowest-exactly (FreshWhy c k f e) 1 (omega arith)
     (record { this = unsizedFresh (not-sized (tables (fresh c) k f e) r); lower = λ j l w. fresh-why c k f e j w (λ p u. omega arith) })))
 
--- An id that is neither EMPTY nor live is refused wherever it is handed in: refusal 4.
+-- An id that is neither EMPTY nor live is refused by hold, release, counts and, as a child, by intern branch: refusal 4.
 pub dead-refused : (n tallest : ℕ) (t : Tables) (y : ℕ) → Sized t → y ≢ 0 → (Lives t y → ⊥)
     → (holdOf t y .no ≡ 4) × (releaseOf t y .no ≡ 4) × (countsOf t y .no ≡ 4) × ((ks : List ℕ) → 1 ≤ occ y ks → internBranchOf n tallest t ks .no ≡ 4)
 dead-refused n tallest t y z d dead = (

@@ -7,4 +7,5 @@ pub mod Plan
 pub mod CellLaws
 pub mod Demand
 pub mod OneNode
+pub mod Room
 pub mod Sample

@@ -30,6 +30,14 @@ pub record Lacks (n cap : ℕ) (W W′ : Words) (r k : ℕ) : Type 0 where
   pub many : length nodes ≡ k
   pub new : NewNodes n cap W W′ r nodes
 
+-- the same where r itself may be live in W: then there are none
+pub record Newly (n cap : ℕ) (W W′ : Words) (r k : ℕ) : Type 0 where
+  pub nodes : List ℕ
+  pub many : length nodes ≡ k
+  pub new : (t : ℕ) → List·Memᴰ t nodes → Below n W′ r t × Live cap W′ t × ¬ (Live cap W t)
+  pub all : (b : ℕ) → Below n W′ r b → Live cap W′ b → Live cap W b ⊎ List·Memᴰ b nodes
+  pub once : Once nodes
+
 -- ## What a dry run finds, going up from the leaf
 
 -- what is to be had of a wanted node: it is there (or is EMPTY), or it and so many nodes in all are still to be made
