@@ -173,7 +173,8 @@ fenpiling_answer fenpiling_hold(fenpiling_arena arena, const uint64_t *kids, siz
                                 const uint16_t *find, size_t find_length, uint64_t id);
 
 /* Takes one of the caller's holds. A node with no hold and no place left is recycled, its slot put on top of the freed ones, and then its children
- * lose a place each, in octant order, and go the same way; the slot freed last is given out first. EMPTY is accepted and changes nothing. Refusals: 1, 4, 5. */
+ * lose a place each, in octant order, and go the same way; the slot freed last is given out first. EMPTY is accepted and changes nothing.
+ * Refusals: 1, 4, 5. */
 fenpiling_answer fenpiling_release(fenpiling_arena arena, uint64_t *kids, size_t kids_length, uint64_t *facts, size_t facts_length,
                                    uint16_t *find, size_t find_length, uint64_t id);
 
