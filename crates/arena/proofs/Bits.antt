@@ -17,7 +17,7 @@ use Rattle.ids.proofs.Packing.{Has, packed-fields}
 use Rattle.nodes.specs.Tally.{oneIf, kidsOf, Live}
 use Rattle.nodes.specs.Words.{Words, own, slot}
 use Rattle.nodes.proofs.Sums.{split, tabFrom-length}
-use Rattle.finding.proofs.Contents.{tab-at}
+use Rattle.find.proofs.Contents.{tab-at}
 use Rattle.arena.specs.Node.{bitsOf, kidMask, kidTypes, branchId, Node}
 use Rattle.arena.specs.Tables.{Tables, cap, W, WellFormed}
 use Rattle.arena.proofs.Ids.{gen-small, node-leaf, node-branch}

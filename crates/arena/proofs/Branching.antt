@@ -18,10 +18,10 @@ use Rattle.nodes.specs.Tally.{kidsOf, Live, occ, same}
 use Rattle.nodes.specs.Words.{own, value, height, holds, places, link, spare, Nodes, nodes, written, slot, floor, Words, wordOf}
 use Rattle.nodes.proofs.Counts.{live-same, kid-placed}
 use Rattle.nodes.proofs.Sums.{cases, split, occ-nil, occ-there, sumTo-ext, sumTo-mono, sumTo-const}
-use Rattle.hashing.specs.Hash.{homeFor}
-use Rattle.finding.specs.Cells.{cellOf}
-use Rattle.finding.specs.Content.{contentIs, agree}
-use Rattle.finding.proofs.Contents.{content-true, content-words, agree-true, agree-words, probe-as, kids-are}
+use Rattle.find_hash.specs.Hash.{homeFor}
+use Rattle.find.specs.Cells.{cellOf}
+use Rattle.find.specs.Content.{contentIs, agree}
+use Rattle.find.proofs.Contents.{content-true, content-words, agree-true, agree-words, probe-as, kids-are}
 use Rattle.arena.specs.Calls.{rawIds, freshFacts, Out, said, refused, fits, Fair, fullOf, roomOf, heldAt, freshSlot, slotGiven, allLive, enough, noneOf, branchIn, branchSlot, internBranchNo, unheld, placed, branchMade, internBranchOf}
 use Rattle.arena.specs.Models.{branchLow, branchAt, topFor, cellFor, moreOf, givenOut, writtenNodes, writtenAt, madeNodes, madeAt, ownFor, wrapSum, valueBy, heldBy, branchMissBy, branchHitBy, branchBy, kidsNo, internBranchBy}
 use Rattle.arena.specs.Node.{branchId, valueFor, heightFor, Node}

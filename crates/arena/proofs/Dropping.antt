@@ -15,11 +15,11 @@ use Rattle.nodes.proofs.Counts.{floor-pos, Others, recycle-counts, total-append
 use Rattle.nodes.proofs.Frame.{Frame, frame-refl, frame-trans}
 use Rattle.nodes.proofs.Freeing.{push, live-upd, live-one, live-zero}
 use Rattle.nodes.proofs.Sums.{cases, same-refl, occ-cons, occ-here, occ-there}
-use Rattle.finding.specs.Cells.{remove, Finds}
-use Rattle.finding.specs.Content.{homeAt}
-use Rattle.finding.proofs.Contents.{home-same}
-use Rattle.finding.proofs.Finding.{finds-as, finds-remove}
-use Rattle.finding.proofs.Steps.{remove-length}
+use Rattle.find.specs.Cells.{remove, Finds}
+use Rattle.find.specs.Content.{homeAt}
+use Rattle.find.proofs.Contents.{home-same}
+use Rattle.find.proofs.Finding.{finds-as, finds-remove}
+use Rattle.find.proofs.Steps.{remove-length}
 use Rattle.arena.specs.Calls.{deadFacts, empties, recycled, each}
 use Rattle.arena.specs.Models.{unplaced, Step, stepOf, step, dropOne, dropPlace}
 use Rattle.arena.specs.Node.{nextGeneration}

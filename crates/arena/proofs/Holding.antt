@@ -15,8 +15,8 @@ use Rattle.nodes.specs.Words.{kidOf, factOf, own, link, spare, nodes, slot, flo
 use Rattle.nodes.proofs.Counts.{floor-pos}
 use Rattle.nodes.proofs.Freeing.{none-live}
 use Rattle.nodes.proofs.Sums.{cases, occ-nil}
-use Rattle.finding.specs.Content.{homeAt}
-use Rattle.finding.proofs.Finding.{finds-fresh, finds-as}
+use Rattle.find.specs.Content.{homeAt}
+use Rattle.find.proofs.Finding.{finds-fresh, finds-as}
 use Rattle.arena.specs.Calls.{fitOf, fits, heldAt, holdNo, holdOf, fresh, freshOf}
 use Rattle.arena.specs.Tables.{tables, Tables, LiveSlot, Sized, WellFormed}
 use Rattle.arena.proofs.Fits.{live-is, hold-live, fits-sized}

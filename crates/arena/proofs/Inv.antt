@@ -14,10 +14,10 @@ use Rattle.nodes.proofs.Frame.{Frame}
 use Rattle.nodes.proofs.Freeing.{freed-same, live-keep}
 use Rattle.nodes.proofs.Local.{Slots, slots-counts, counts-slots}
 use Rattle.nodes.proofs.Sums.{cases, sumTo-ext}
-use Rattle.finding.specs.Cells.{Finds}
-use Rattle.finding.specs.Content.{homeAt}
-use Rattle.finding.proofs.Contents.{home-same}
-use Rattle.finding.proofs.Finding.{finds-as}
+use Rattle.find.specs.Cells.{Finds}
+use Rattle.find.specs.Content.{homeAt}
+use Rattle.find.proofs.Contents.{home-same}
+use Rattle.find.proofs.Finding.{finds-as}
 use Rattle.arena.specs.Node.{leafId, branchId, LeafNode, BranchNode, Node}
 use Rattle.nodes.specs.Values.{valueAt, heightAt}
 use Rattle.arena.specs.Tables.{tablesOf, Tables, cap, W, LiveSlot, Sized, Cleared, WellFormed}

@@ -15,11 +15,11 @@ use Rattle.nodes.specs.Words.{own, value, holds, places, nodes, written, floor,
 use Rattle.nodes.proofs.Access.{put-same, put-field}
 use Rattle.nodes.proofs.Counts.{floor-pos, live-own}
 use Rattle.nodes.proofs.Sums.{cases, split, occ-nil, occ-append}
-use Rattle.hashing.specs.Hash.{homeFor}
-use Rattle.finding.specs.Cells.{insertAt, cellOf, probe, cell}
-use Rattle.finding.specs.Content.{contentIs, homeAt}
-use Rattle.finding.proofs.Contents.{content-true, content-words, probe-as, home-content}
-use Rattle.finding.proofs.Finding.{finds-hit, finds-miss}
+use Rattle.find_hash.specs.Hash.{homeFor}
+use Rattle.find.specs.Cells.{insertAt, cellOf, probe, cell}
+use Rattle.find.specs.Content.{contentIs, homeAt}
+use Rattle.find.proofs.Contents.{content-true, content-words, probe-as, home-content}
+use Rattle.find.proofs.Finding.{finds-hit, finds-miss}
 use Rattle.arena.specs.Calls.{allOf, freshFacts, empties, Out, said, refused, fits, Fair, fullOf, roomOf, heldAt, freshSlot, slotGiven, named, leafIn, leafSlot, internLeafNo, leafMade, internLeafOf, noneOf}
 use Rattle.arena.specs.Models.{leafAt, cellFor, givenOut, idOf, writtenNodes, writtenAt, madeNodes, madeAt, hitBy, leafMissBy, leafBy, internLeafBy}
 use Rattle.arena.specs.Node.{leafId, Node, LeafNode}

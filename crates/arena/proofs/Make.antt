@@ -16,12 +16,12 @@ use Rattle.nodes.proofs.Access.{Within, SameSize, written-size, written-others,
 use Rattle.nodes.proofs.Counts.{floor-pos, Others, fresh-counts}
 use Rattle.nodes.proofs.Freeing.{pop-top, top-free, bump, freed-length, live-upd, live-one, live-zero}
 use Rattle.nodes.proofs.Sums.{cases, split, occ-here}
-use Rattle.hashing.specs.Hash.{homeFor}
-use Rattle.hashing.proofs.Homes.{home-for-below}
-use Rattle.finding.specs.Cells.{cellOf, probe, insertAt, Finds}
-use Rattle.finding.specs.Content.{contentIs, homeAt}
-use Rattle.finding.proofs.Contents.{kids-are, home-same, content-true}
-use Rattle.finding.proofs.Finding.{finds-as, finds-insert}
+use Rattle.find_hash.specs.Hash.{homeFor}
+use Rattle.find_hash.proofs.Homes.{home-for-below}
+use Rattle.find.specs.Cells.{cellOf, probe, insertAt, Finds}
+use Rattle.find.specs.Content.{contentIs, homeAt}
+use Rattle.find.proofs.Contents.{kids-are, home-same, content-true}
+use Rattle.find.proofs.Finding.{finds-as, finds-insert}
 use Rattle.arena.specs.Calls.{allOf, freshFacts, noneOf, freshSlot}
 use Rattle.arena.specs.Models.{cellFor, moreOf, givenOut, idOf, writtenNodes, writtenAt, madeNodes, madeAt}
 use Rattle.arena.specs.Node.{kidMask, bitsOf, leafId, branchId, Node}

@@ -15,9 +15,9 @@ use Rattle.nodes.proofs.Access.{Within, put-size, size-trans, within-size, writ
 use Rattle.nodes.proofs.Counts.{floor-pos, kids-same, Counts, live-same, total-bound}
 use Rattle.nodes.proofs.Frame.{Frame, Under, lives-iff, here, down}
 use Rattle.nodes.proofs.Sums.{cases, occ-nil, occ-here, occ-there}
-use Rattle.finding.specs.Cells.{remove}
-use Rattle.finding.specs.Content.{homeAt}
-use Rattle.finding.proofs.Contents.{home-same}
+use Rattle.find.specs.Cells.{remove}
+use Rattle.find.specs.Content.{homeAt}
+use Rattle.find.proofs.Contents.{home-same}
 use Rattle.arena.specs.Calls.{deadFacts, empties, Out, did, fits, Fair, recycled, lessOf, unusedOf, each, takes, releaseNo, releaseOf}
 use Rattle.arena.specs.Models.{settledN, unplaced, dropOne, dropPlace, moreOf, settled, releaseBy, releaseAny}
 use Rattle.arena.specs.Tables.{tablesOf, Tables, cap, W, WellFormed}

@@ -11,9 +11,9 @@ use Rattle.ids.specs.Ids.{empty, invalid, isLeaf, generationOf}
 use Rattle.nodes.specs.Tally.{occ, kidsOf}
 use Rattle.ids.specs.declared.BlockId.{BlockId}
 use Rattle.nodes.specs.Words.{Nodes, nodes, Words, wordOf, putOf, written, own, value, holds, places, link, slot, floor}
-use Rattle.hashing.specs.Hash.{homeFor}
-use Rattle.finding.specs.Cells.{insertAt, remove}
-use Rattle.finding.specs.Content.{agree, homeAt}
+use Rattle.find_hash.specs.Hash.{homeFor}
+use Rattle.find.specs.Cells.{insertAt, remove}
+use Rattle.find.specs.Content.{agree, homeAt}
 use Rattle.arena.specs.Node.{nextGeneration, leafId, branchId, valueFor, heightFor}
 use Rattle.arena.specs.Tables.{Tables, tablesOf, tables, cap, W, WellFormed}
 use Rattle.arena.specs.declared.Answer.{Answer}

@@ -8,7 +8,7 @@ use Rattle.basics.specs.Sums.{sumTo}
 use Rattle.ids.specs.Ids.{generationOf, newLeaf, newBranch}
 use Rattle.nodes.specs.Tally.{kidsOf}
 use Rattle.nodes.specs.Words.{Nodes, Words, wordOf, putOf, written, own, holds, places, link, slot}
-use Rattle.finding.specs.Cells.{cellOf}
+use Rattle.find.specs.Cells.{cellOf}
 use Rattle.arena.specs.Calls.{Out, said, refused, did, fits, fullOf, roomOf, heldAt, freshSlot, freshFacts, empties, recycled, each, releaseNo, noneOf, unheld, allLive, enough}
 use Rattle.arena.specs.Node.{leafId, branchId, kidTypes, kidMask}
 use Rattle.nodes.specs.Values.{valueAt, heightAt, maxTo}

@@ -7,8 +7,8 @@ use lib.ListN.{length}
 use Rattle.ids.specs.Ids.{generationOf}
 use Rattle.nodes.specs.Tally.{tally, Free, Freed, liveCount}
 use Rattle.nodes.specs.Words.{Nodes, Words, wordOf, own, value, holds, places, link, spare, floor, nodes as nodesOf}
-use Rattle.finding.specs.Cells.{Finds}
-use Rattle.finding.specs.Content.{homeAt}
+use Rattle.find.specs.Cells.{Finds}
+use Rattle.find.specs.Content.{homeAt}
 use Rattle.arena.specs.Node.{Node}
 use Rattle.arena.specs.declared.Arena.{Arena}
 

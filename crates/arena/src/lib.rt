@@ -1,13 +1,13 @@
 // The arena: its state, which goes by value beside three lent tables, `kids` and `facts` with the nodes (crate nodes) and `find`, which says what
-// slot has a content (crate finding); and what the calls on it share. What each call answers and leaves is in specs/Calls.antt; a fresh arena, hold
-// and counts are in the crate holding, intern leaf in leaves, intern branch in branches, release in releasing.
+// slot has a content (crate find); and what the calls on it share. What each call answers and leaves is in specs/Calls.antt; a fresh arena, hold
+// and counts are in the crate arena_hold, intern leaf in leaves, intern branch in branches, release in releasing.
 use ids::BlockId;
 use nodes::HOLDS;
 use nodes::OWN;
 use nodes::PLACES;
 use nodes::fact;
 use std::num::wrapping_add_u64;
-use writing::put_fact;
+use nodes_write::put_fact;
 ghost use mathlib.Core.Path.{_≡_};
 ghost use Prim.Native.Nat.{_-_};
 ghost use Rattle.nodes.specs.Words.{holds as holdsWord, places as placesWord, factOf, factPut, slot};

@@ -37,7 +37,7 @@ fn say_number(n: u64) {
 }
 
 fn say_id(id: BlockId) {
-    let text = naming::text(id);
+    let text = ids_text::text(id);
     let bytes = text.bytes;
     say_start(&bytes, text.len);
 }
@@ -75,7 +75,7 @@ fn cell(x: i32) -> IVec3 {
 }
 
 fn fresh(kids: &mut [u64], facts: &mut [u64], find: &mut [u16]) -> Arena {
-    let answer = holding::fresh(SLOTS, kids, facts, find);
+    let answer = arena_hold::fresh(SLOTS, kids, facts, find);
     answer.arena
 }
 
@@ -97,7 +97,7 @@ fn edit_cell(
 
 // Looks a cell of the x axis up at depth 6.
 fn look(asked: &[u8], a: Arena, kids: &[u64], facts: &[u64], find: &[u16], root: BlockId, x: i32) {
-    let looked = reading::get_at_depth(a, kids, facts, find, root, DEPTH, cell(x));
+    let looked = read_cell::get_at_depth(a, kids, facts, find, root, DEPTH, cell(x));
     say_refusal(asked, looked.no);
     say(b" ");
     say_number(looked.value as u64);
@@ -112,13 +112,13 @@ fn intern(
     find: &mut [u16],
     value: u16,
 ) -> Made {
-    let made = leaves::intern_leaf(a, kids, facts, find, value);
+    let made = arena_leaf::intern_leaf(a, kids, facts, find, value);
     say_made(asked, made);
     made
 }
 
 fn count(asked: &[u8], a: Arena, kids: &[u64], facts: &[u64], find: &[u16], id: BlockId) {
-    let counted = holding::counts(a, kids, facts, find, id);
+    let counted = arena_hold::counts(a, kids, facts, find, id);
     say_refusal(asked, counted.no);
     say(b" holds ");
     say_number(counted.holds);
@@ -197,9 +197,9 @@ fn full_leaves(a: Arena, kids: &mut [u64], facts: &mut [u64], find: &mut [u16]) 
 
 // Interns a leaf and releases it: its slot is recycled.
 fn recycle_once(a: Arena, kids: &mut [u64], facts: &mut [u64], find: &mut [u16]) -> Arena {
-    let made = leaves::intern_leaf(a, kids, facts, find, 5);
+    let made = arena_leaf::intern_leaf(a, kids, facts, find, 5);
     let id = made.id;
-    let released = releasing::release(made.arena, kids, facts, find, id);
+    let released = arena_release::release(made.arena, kids, facts, find, id);
     released.arena
 }
 
@@ -226,7 +226,7 @@ fn last_generation(a: Arena, kids: &mut [u64], facts: &mut [u64], find: &mut [u1
 
 fn next_generation(last: Made, kids: &mut [u64], facts: &mut [u64], find: &mut [u16]) {
     let id = last.id;
-    let released = releasing::release(last.arena, kids, facts, find, id);
+    let released = arena_release::release(last.arena, kids, facts, find, id);
     say_answer(b"release it", released.no);
     let first = intern(b"leaf after one more", released.arena, kids, facts, find, 5);
     count(
@@ -259,7 +259,7 @@ fn hold_times(
     let mut no: u32 = 0;
     let mut i: u32 = 0;
     while i < times {
-        let held = holding::hold(a, kids, facts, find, id);
+        let held = arena_hold::hold(a, kids, facts, find, id);
         no = held.no;
         i += 1;
     }
@@ -295,7 +295,7 @@ fn leaf_again(a: Arena, kids: &mut [u64], facts: &mut [u64], find: &mut [u16], i
 
 // One given back, and one more again.
 fn back_and_again(a: Arena, kids: &mut [u64], facts: &mut [u64], find: &mut [u16], id: BlockId) {
-    let released = releasing::release(a, kids, facts, find, id);
+    let released = arena_release::release(a, kids, facts, find, id);
     let b = released.arena;
     say_answer(b"release", released.no);
     let no = hold_times(b, kids, facts, find, id, 1);

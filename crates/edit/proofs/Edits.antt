@@ -24,8 +24,8 @@ use Rattle.arena.specs.Tables.{Tables, cap, W, WellFormed}
 use Rattle.arena.specs.Calls.{Out, refused, fullOf, heldAt}
 use Rattle.arena.proofs.Inv.{inv-wf, sized-within}
 use Rattle.arena.proofs.Leaves.{held-kept}
-use Rattle.reading.specs.Calls.{lookNo}
-use Rattle.reading.proofs.Meaning.{wf-made}
+use Rattle.read_cell.specs.Calls.{lookNo}
+use Rattle.read_cell.proofs.Meaning.{wf-made}
 use Rattle.edit.specs.Edit.{planOf, resultOf, freshNode, leafAnew, branchAnew, makeOf, grantNo, granted, answerOf, cellAt, editNo, editOf}
 use Rattle.edit.specs.Promises.{Effect, Right}
 use Rattle.edit.proofs.Growing.{grown-extends}
@@ -33,7 +33,7 @@ use Rattle.edit.proofs.Planning.{plan-is}
 use Rattle.edit.proofs.Wholes.{content-made}
 use Rattle.edit.proofs.Upward.{Done, make-done, have-lack, lack-inj}
 use Rattle.edit.proofs.Mirror.{Agree, agree-have, agree-lack, plan-agree}
-use Rattle.planning.specs.declared.Plan as planning
+use Rattle.edit_plan.specs.declared.Plan as planning
 use Rattle.edit.proofs.Law.{deep, root-there}
 
 make-no : (n : ℕ) (t : Tables) (x : ℕ) (p : List ℕ) (a h q : ℕ) → makeOf n t x p a h q .no ≡ 0
@@ -136,6 +136,33 @@ pub lack-one : {B k : ℕ} {b : planning.Plan} {r : Need} → Agree B b r → r 
 lack-one agree-have e = absurd (have-lack e)
 lack-one (agree-lack {k = j} one most) e = let z = lack-inj e in omega arith
 
+-- ---- the number, on any tables
+
+module _ (t : Tables) (root d : ℕ) (p : IVec3) (v : ℕ) where
+  -- what the number 0 says
+  pub accepted-past : editNo t root d p v ≡ 0 → (lookNo t root d p ≡ 0) × (heightAt (W t) root ≤ d) × (grantNo t (resultOf 8 t v (cellAt d p) root) ≡ 0)
+  unfolding editNo
+  accepted-past e = cases (ℕ-discrete (lookNo t root d p) 0)
+      (λ n. cases (decLe (heightAt (W t) root) d)
+      (λ l. (n, l, (rw (eq-eqb (lookNo t root d p) 0 n, le-leb (heightAt (W t) root) d l) at e)))
+      (λ l. absurd (let z : _≡_ {A = ℕ} 8 0 = (rw (eq-eqb (lookNo t root d p) 0 n, lt-leb (heightAt (W t) root) d (omega arith)) at e) in omega arith)))
+      (λ n. absurd (n (rw (ne-eqb (lookNo t root d p) 0 n) at e)))
+
+  accepted-is : editNo t root d p v ≡ 0 → editOf t root d p v ≡ answerOf t (resultOf 8 t v (cellAt d p) root) (makeOf 8 t v (cellAt d p) root 1 0)
+  unfolding editOf
+  accepted-is e = rw (eq-eqb (editNo t root d p v) 0 e)
+
+  -- a refused one changes nothing
+  pub edit-refused : editNo t root d p v ≢ 0 → editOf t root d p v ≡ refused (editNo t root d p v) t
+  unfolding editOf
+  edit-refused e = rw (ne-eqb (editNo t root d p v) 0 e)
+
+  -- the answer's number is the lowest refusal that applies, or 0
+  pub edit-number : editOf t root d p v .no ≡ editNo t root d p v
+  edit-number = cases (ℕ-discrete (editNo t root d p v) 0)
+      (λ e. ap (λ (o : Out). o .no) (accepted-is e) ∙ answer-no t (resultOf 8 t v (cellAt d p) root) (makeOf 8 t v (cellAt d p) root 1 0) (make-no 8 t v (cellAt d p) root 1 0) ∙ sym e)
+      (λ e. ap (λ (o : Out). o .no) (edit-refused e))
+
 -- ---- an accepted edit
 
 module _ (t : Tables) (w : WellFormed 8 6 t) (root d : ℕ) (p : IVec3) (v : ℕ) (high : v ≤ 65535) where
@@ -158,6 +185,7 @@ module _ (t : Tables) (w : WellFormed 8 6 t) (root d : ℕ) (p : IVec3) (v : ℕ
       size = size;
       edited = edited (omega arith) made-t there low cell ext (subst (λ (c : ℕ). WellMade 8 c (W u)) size (wf-made 8 6 u (omega arith) wu)) ans;
       effect = eff;
+      answer = ans;
     }
 
     -- the old root
@@ -220,38 +248,14 @@ module _ (t : Tables) (w : WellFormed 8 6 t) (root d : ℕ) (p : IVec3) (v : ℕ
         (λ z. rw (eq-eqb (look (W t) here root) v z) (old z (rw (eq-eqb (look (W t) here root) v z) at g)))
         (λ z. rw (ne-eqb (look (W t) here root) v z) (answer-right (planOf 8 t v here root) z refl (rw (ne-eqb (look (W t) here root) v z) at g)))
 
-  -- what the number 0 says
-  pub accepted-past : editNo t root d p v ≡ 0 → (lookNo t root d p ≡ 0) × (heightAt (W t) root ≤ d) × (grantNo t (resultOf 8 t v here root) ≡ 0)
-  unfolding editNo
-  accepted-past e = cases (ℕ-discrete (lookNo t root d p) 0)
-      (λ n. cases (decLe (heightAt (W t) root) d)
-      (λ l. (n, l, (rw (eq-eqb (lookNo t root d p) 0 n, le-leb (heightAt (W t) root) d l) at e)))
-      (λ l. absurd (let z : _≡_ {A = ℕ} 8 0 = (rw (eq-eqb (lookNo t root d p) 0 n, lt-leb (heightAt (W t) root) d (omega arith)) at e) in omega arith)))
-      (λ n. absurd (n (rw (ne-eqb (lookNo t root d p) 0 n) at e)))
-
-  accepted-is : editNo t root d p v ≡ 0 → editOf t root d p v ≡ answerOf t (resultOf 8 t v here root) (makeOf 8 t v here root 1 0)
-  unfolding editOf
-  accepted-is e = rw (eq-eqb (editNo t root d p v) 0 e)
-
   -- an accepted edit of well-formed tables is right
   pub edit-right : editNo t root d p v ≡ 0 → Right t root d here v (editOf t root d p v .after) (editOf t root d p v .id)
   edit-right e =
-      let a = accepted-past e in
-      subst (λ (o : Out). Right t root d here v (o .after) (o .id)) (sym (accepted-is e)) (result-right (a .0) (a .1) (a .2))
-
-  -- a refused one changes nothing
-  pub edit-refused : editNo t root d p v ≢ 0 → editOf t root d p v ≡ refused (editNo t root d p v) t
-  unfolding editOf
-  edit-refused e = rw (ne-eqb (editNo t root d p v) 0 e)
-
-  -- the answer's number is the lowest refusal that applies, or 0
-  pub edit-number : editOf t root d p v .no ≡ editNo t root d p v
-  edit-number = cases (ℕ-discrete (editNo t root d p v) 0)
-      (λ e. ap (λ (o : Out). o .no) (accepted-is e) ∙ answer-no t (resultOf 8 t v here root) (makeOf 8 t v here root 1 0) (make-no 8 t v here root 1 0) ∙ sym e)
-      (λ e. ap (λ (o : Out). o .no) (edit-refused e))
+      let a = accepted-past t root d p v e in
+      subst (λ (o : Out). Right t root d here v (o .after) (o .id)) (sym (accepted-is t root d p v e)) (result-right (a .0) (a .1) (a .2))
 
   -- so every edit keeps well-formed tables well formed
   pub edit-well : WellFormed 8 6 (editOf t root d p v .after)
   edit-well = cases (ℕ-discrete (editNo t root d p v) 0)
       (λ e. edit-right e .well)
-      (λ e. subst (λ (o : Out). WellFormed 8 6 (o .after)) (sym (edit-refused e)) w)
+      (λ e. subst (λ (o : Out). WellFormed 8 6 (o .after)) (sym (edit-refused t root d p v e)) w)

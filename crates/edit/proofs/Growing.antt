@@ -13,10 +13,10 @@ use Rattle.nodes.specs.Words.{own, value, height, holds, places, spare, nodes, 
 use Rattle.nodes.proofs.Access.{put-same, put-slot, put-field}
 use Rattle.nodes.proofs.Counts.{live-nonzero}
 use Rattle.nodes.proofs.Sums.{cases, split, occ-nil, occ-cons, occ-here, occ-there, occ-append}
-use Rattle.hashing.specs.Hash.{homeFor}
-use Rattle.finding.specs.Cells.{insertAt, cellOf, cell}
-use Rattle.finding.specs.Content.{contentIs}
-use Rattle.finding.proofs.Contents.{content-words, probe-as}
+use Rattle.find_hash.specs.Hash.{homeFor}
+use Rattle.find.specs.Cells.{insertAt, cellOf, cell}
+use Rattle.find.specs.Content.{contentIs}
+use Rattle.find.proofs.Contents.{content-words, probe-as}
 use Rattle.tree.specs.Tree.{LiveOr0, Extends}
 use Rattle.arena.specs.Node.{Node}
 use Rattle.nodes.specs.Values.{heightAt, valueAt}

@@ -1,5 +1,5 @@
--- The ledger with the edit: over any sequence of calls since the fresh arena the holds on every node are those granted less those returned or used.
-use mathlib.Core.Path.{_≡_, refl, sym, ap, _∙_, subst}
+-- The holds in an edit: one on the answer if it was accepted, none on EMPTY, and no other.
+use mathlib.Core.Path.{_≡_, sym, ap, _∙_, subst}
 use mathlib.Core.Logic.{_≢_, _⊎_, inl, inr}
 use mathlib.Core.List.{List}
 use Prim.Native.Nat.{ℕ, _+_, _≤_, _<_}
@@ -12,19 +12,14 @@ use Rattle.nodes.proofs.Sums.{cases}
 use Rattle.paths.specs.declared.IVec3.{IVec3}
 use Rattle.tree.specs.Tree.{LiveOr0}
 use Rattle.arena.specs.Tables.{Tables, cap, W, LiveSlot, WellFormed}
-use Rattle.arena.specs.Calls.{Out, freshOf}
-use Rattle.ledger.specs.Ledger as ledger
+use Rattle.arena.specs.Calls.{Out}
 use Rattle.ledger.specs.Ledger.{on, ifAccepted, holdsOn}
 use Rattle.ledger.specs.Fates.{Lives}
 use Rattle.ledger.proofs.Effects.{by-life, holds-live, holds-dead, on-zero, on-same, on-diff, accepted, unaccepted}
 use Rattle.ledger.proofs.Found.{slot-own, slot-lives}
-use Rattle.ledger.proofs.Balance.{fresh-bare, call-effect, history-well}
 use Rattle.edit.specs.Edit.{editNo, editOf}
-use Rattle.edit.specs.Promises.{Right, Call, arena, voxel, Handed, outcome, grants, takesOf, History, begin, next}
+use Rattle.edit.specs.Promises.{Right}
 use Rattle.edit.proofs.Edits.{edit-right, edit-refused, edit-number}
-use Rattle.edit.proofs.Cubes.{call-keeps}
-
--- ## One edit: one hold on the answer if it was accepted, none on EMPTY, and no other
 
 module _ (t : Tables) (w : WellFormed 8 6 t) (u : Tables) (r : ℕ) {root d : ℕ} {cell : List ℕ} {v : ℕ} (e : Right t root d cell v u r) where
   there : LiveOr0 (cap u) (W u) r
@@ -79,26 +74,9 @@ pub edit-balance : (t : Tables) → WellFormed 8 6 t → (b e : ℕ) (p : IVec3)
     → holdsOn (editOf t b e p v .after) y ≡ holdsOn t y + ifAccepted (editOf t b e p v) (on y (editOf t b e p v .id))
 edit-balance t w b e p v h y =
     let o = editOf t b e p v in
-    let n = edit-number t w b e p v h in
+    let n = edit-number t b e p v in
     cases (ℕ-discrete (editNo t b e p v) 0)
     (λ z. omega (arith, right-balance t w (o .after) (o .id) (edit-right t w b e p v h z) y, accepted o (on y (o .id)) (n ∙ z)))
     (λ z.
-    let same : holdsOn (o .after) y ≡ holdsOn t y = ap (λ (x : Out). holdsOn (x .after) y) (edit-refused t w b e p v h z) in
+    let same : holdsOn (o .after) y ≡ holdsOn t y = ap (λ (x : Out). holdsOn (x .after) y) (edit-refused t b e p v z) in
     omega (arith, unaccepted o (on y (o .id)) (λ q. z (sym n ∙ q))))
-
--- ## Any sequence of calls
-
--- they are well formed
-pub reached-well : {t : Tables} {granted taken : ℕ → ℕ} → History t granted taken → WellFormed 8 6 t
-reached-well (begin c k f e z) = history-well 8 6 (omega arith) (omega arith) (omega arith) (ledger.start c k f e z)
-reached-well (next {t = t} h c a) = call-keeps t 0 c (reached-well h) a (inl refl) .well
-
-call-balance : (t : Tables) → WellFormed 8 6 t → (c : Call) → Handed c → (y : ℕ)
-    → holdsOn (outcome t c .after) y + takesOf (outcome t c) c y ≡ holdsOn t y + grants (outcome t c) c y
-call-balance t w (arena c) h y = call-effect 8 6 (omega arith) (omega arith) (omega arith) t w c h .balance y
-call-balance t w (voxel b e p v) h y = let z = edit-balance t w b e p v h y in omega arith
-
--- Holds equal those granted less those returned or used, counted over the calls since the fresh arena, edits among them.
-pub holds-ledger : {t : Tables} {granted taken : ℕ → ℕ} → History t granted taken → (y : ℕ) → granted y ≡ taken y + holdsOn t y
-holds-ledger (begin c k f e z) y = omega (arith, holds-dead (freshOf c k f e .after) y (fresh-bare 8 6 c k f e (reached-well (begin c k f e z)) y))
-holds-ledger (next {t = t} h c a) y = let r = holds-ledger h y in omega (arith, call-balance t (reached-well h) c a y)

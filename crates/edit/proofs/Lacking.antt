@@ -1,17 +1,16 @@
 -- Refusal 11 comes exactly if more nodes of the result are not yet live than there are free slots, also where the arena has no room for the result.
 use mathlib.Core.Path.{_≡_, refl, sym, _∙_, subst}
 use mathlib.Core.Logic.{_≢_}
+use mathlib.Core.List.{List}
 use Prim.Native.Nat.{ℕ, _-_, _≤_, _<_}
 use native.Mathlib.Decide.{ℕ-discrete}
 use native.Mathlib.Omega.{arith}
-use lib.Dec.{leb}
-use borrow.Author.Tests.{eq-eqb, ne-eqb, leb-true}
-use Rattle.basics.specs.Pick.{pick}
-use Rattle.basics.proofs.Rungs.{past-yes}
+use Rattle.nodes.specs.Words.{Words}
+use Rattle.nodes.specs.Tally.{Live}
 use Rattle.nodes.specs.Values.{heightAt}
 use Rattle.nodes.proofs.Sums.{cases}
 use Rattle.paths.specs.declared.IVec3.{IVec3}
-use Rattle.paths.specs.Paths.{inside, whole}
+use Rattle.paths.specs.Paths.{whole}
 use Rattle.tree.specs.Tree.{LiveOr0, WellMade, Cell, look, Extends}
 use Rattle.tree.specs.Anew.{Anew, Answer, asked, made}
 use Rattle.tree.specs.Lacks.{Need, have, lack, Plan}
@@ -20,39 +19,24 @@ use Rattle.tree.proofs.Making.{renewed, anew-later, anew-one}
 use Rattle.tree.proofs.Plan.{plan-have}
 use Rattle.tree.proofs.Room.{Bare, tables-bare, there-more, made-more, anew-more, plan-few, room, lacks-newly, newly-one, newly-old}
 use Rattle.arena.specs.Tables.{Tables, cap, W, WellFormed}
-use Rattle.arena.specs.Calls.{liveOrEmpty, fits}
-use Rattle.reading.specs.Calls.{lookNo}
-use Rattle.reading.proofs.Meaning.{wf-made}
-use Rattle.edit.specs.Edit.{planOf, resultOf, grantNo, cellAt, editNo}
-use Rattle.edit.specs.Promises.{Missing}
+use Rattle.read_cell.specs.Calls.{lookNo}
+use Rattle.read_cell.proofs.Meaning.{wf-made}
+use Rattle.edit.specs.Edit.{planOf, resultOf, cellAt, editNo}
+use Rattle.edit.specs.Promises.{Imagined, Missing}
 use Rattle.edit.proofs.Law.{deep, root-there}
 use Rattle.edit.proofs.Planning.{plan-is}
-use Rattle.edit.proofs.Theorems.{lack-right, eleven, eleven-given}
+use Rattle.edit.proofs.Theorems.{lack-right, result-new, result-old, eleven, eleven-given}
+use Rattle.edit.proofs.Upward.{have-lack}
 
-eleven-no : (t : Tables) (root d : ℕ) (p : IVec3) → lookNo t root d p ≢ 11
-unfolding lookNo
-eleven-no t root d p e =
-    let l : ℕ = pick (liveOrEmpty (cap t) (W t) root) 0 4 in
-    let a = past-yes (fits t) (pick (leb d 6) (pick (inside d (p .x)) (pick (inside d (p .y)) (pick (inside d (p .z)) l 3) 3) 3) 2) 1 11 (omega arith) e in
-    let b = past-yes (leb d 6) (pick (inside d (p .x)) (pick (inside d (p .y)) (pick (inside d (p .z)) l 3) 3) 3) 2 11 (omega arith) (a .1) in
-    let x = past-yes (inside d (p .x)) (pick (inside d (p .y)) (pick (inside d (p .z)) l 3) 3) 3 11 (omega arith) (b .1) in
-    let y = past-yes (inside d (p .y)) (pick (inside d (p .z)) l 3) 3 11 (omega arith) (x .1) in
-    let z = past-yes (inside d (p .z)) l 3 11 (omega arith) (y .1) in
-    let q : _≡_ {A = ℕ} 0 11 = past-yes (liveOrEmpty (cap t) (W t) root) 0 4 11 (omega arith) (z .1) .1 in
-    omega arith
+-- what an answer is where the cell has another value, and where it has this one
+module _ {n c : ℕ} {U U′ : Words} {root x r : ℕ} {p : List ℕ} where
+  pub answered : look U p root ≢ x → Answer n c U U′ root p x r → Anew n c U′ x p root r
+  answered z (asked e q) = absurd (z e)
+  answered z (made q a) = a
 
--- where 11 is given, the refusals before it are past
-pub eleven-past : (t : Tables) (root d : ℕ) (p : IVec3) (v : ℕ) → editNo t root d p v ≡ 11 → (lookNo t root d p ≡ 0) × (heightAt (W t) root ≤ d)
-unfolding editNo
-eleven-past t root d p v e =
-    let rest = grantNo t (resultOf 8 t v (cellAt d p) root) in
-    cases (ℕ-discrete (lookNo t root d p) 0)
-    (λ n. (
-      n,
-      leb-true (heightAt (W t) root) d
-          (past-yes (leb (heightAt (W t) root) d) rest 8 11 (omega arith) (rw (eq-eqb (lookNo t root d p) 0 n) at e) .0),
-    ))
-    (λ n. absurd (eleven-no t root d p (rw (ne-eqb (lookNo t root d p) 0 n) at e)))
+  pub kept : look U p root ≡ x → Answer n c U U′ root p x r → r ≡ root
+  kept z (asked e q) = q
+  kept z (made q a) = absurd (q z)
 
 module _ (t : Tables) (w : WellFormed 8 6 t) (root d : ℕ) (p : IVec3) (v : ℕ) (n : lookNo t root d p ≡ 0) (low : heightAt (W t) root ≤ d) where
   abbrev there : LiveOr0 (cap t) (W t) root
@@ -75,6 +59,12 @@ module _ (t : Tables) (w : WellFormed 8 6 t) (root d : ℕ) (p : IVec3) (v : ℕ
       let a : Anew 8 (cap t) (W t) v (cellAt d p) root r = plan-have (rw e at plan) in
       (a, renewed 8 (cap t) (omega arith) (W t) well v there low cell a .there)
 
+  -- a result that is to be had is the one, in whatever arena it is imagined
+  had-one : (r c : ℕ) (W′ : Words) (s : ℕ) → look (W t) (cellAt d p) root ≢ v → planOf 8 t v (cellAt d p) root ≡ have r → Imagined t root d p v c W′ s → s ≡ r
+  had-one r c W′ s z e i =
+      anew-one (omega arith) (i .made) (answered z (i .answer))
+      (anew-later (made-more (i .size) bare well) (i .grows) (there-more (i .size) there) cell (anew-more (i .size) (had r e .0)))
+
   -- ---- what the number is
 
   module _ (k : ℕ) (m : Missing t root d p v k) where
@@ -84,24 +74,11 @@ module _ (t : Tables) (w : WellFormed 8 6 t) (root d : ℕ) (p : IVec3) (v : ℕ
         newly-one (m .newly)
         (newly-old (made-more (i .size) bare well) (i .grows) (subst (λ (y : ℕ). LiveOr0 (m .slots) (W t) y) (sym e) (there-more (i .size) l)))
 
-    answered : look (W t) (cellAt d p) root ≢ v → Answer 8 (m .slots) (W t) (m .words) root (cellAt d p) v (m .result)
-        → Anew 8 (m .slots) (m .words) v (cellAt d p) root (m .result)
-    answered z (asked e q) = absurd (z e)
-    answered z (made q a) = a
-
-    kept : look (W t) (cellAt d p) root ≡ v → Answer 8 (m .slots) (W t) (m .words) root (cellAt d p) v (m .result) → m .result ≡ root
-    kept z (asked e q) = q
-    kept z (made q a) = absurd (q z)
-
     asked-none : look (W t) (cellAt d p) root ≡ v → k ≡ 0
     asked-none z = old-none root there (kept z (m .imagined .answer))
 
     had-none : (r : ℕ) → look (W t) (cellAt d p) root ≢ v → planOf 8 t v (cellAt d p) root ≡ have r → k ≡ 0
-    had-none r z e =
-        let i = m .imagined in
-        let h = had r e in
-        let a = anew-later (made-more (i .size) bare well) (i .grows) (there-more (i .size) there) cell (anew-more (i .size) (h .0)) in
-        old-none r (h .1) (anew-one (omega arith) (i .made) (answered z (i .answer)) a)
+    had-none r z e = old-none r (had r e .1) (had-one r (m .slots) (m .words) (m .result) z e (m .imagined))
 
     lacked : (j : ℕ) → look (W t) (cellAt d p) root ≢ v → planOf 8 t v (cellAt d p) root ≡ lack j → k ≡ j
     lacked j z e =
@@ -109,16 +86,14 @@ module _ (t : Tables) (w : WellFormed 8 6 t) (root d : ℕ) (p : IVec3) (v : ℕ
         newly-one (m .newly) (lacks-newly (lack-right t w root d p v n low j (m .result) (m .slots) (m .words) e (i .size) (i .made) (i .grows) (answered z (i .answer))))
 
   -- there is such an arena: the one of t if the result is there, else one that has as many slots more as nodes are lacking
+  same : Extends 8 (cap t) (W t) (W t)
+  same i j = record { still = j; kids = λ q f. refl; value = refl; height = refl }
+
+  now : (r : ℕ) → Answer 8 (cap t) (W t) (W t) root (cellAt d p) v r → Imagined t root d p v (cap t) (W t) r
+  now r a = record { size = omega arith; made = well; grows = same; answer = a }
+
   itself : (r : ℕ) → LiveOr0 (cap t) (W t) r → Answer 8 (cap t) (W t) (W t) root (cellAt d p) v r → Missing t root d p v 0
-  itself r l a =
-      let same : Extends 8 (cap t) (W t) (W t) = λ i j. record { still = j; kids = λ q f. refl; value = refl; height = refl } in
-      record {
-        slots = cap t;
-        words = W t;
-        result = r;
-        imagined = record { size = omega arith; made = well; grows = same; answer = a };
-        newly = newly-old well same l;
-      }
+  itself r l a = record { slots = cap t; words = W t; result = r; imagined = now r a; newly = newly-old well same l }
 
   larger : (k : ℕ) → look (W t) (cellAt d p) root ≢ v → planOf 8 t v (cellAt d p) root ≡ lack k → Missing t root d p v k
   larger k z e =
@@ -178,3 +153,28 @@ module _ (t : Tables) (w : WellFormed 8 6 t) (root d : ℕ) (p : IVec3) (v : ℕ
       given h = cases (ℕ-discrete (look (W t) (cellAt d p) root) v)
           (λ z. absurd (let q = asked-none k m z in omega arith))
           (λ z. go z (planOf 8 t v (cellAt d p) root) refl h)
+
+  -- ---- the result of the dry run is the result imagined
+
+  abbrev result : Need
+  result = resultOf 8 t v (cellAt d p) root
+
+  pub result-there : (r : ℕ) → result ≡ have r → LiveOr0 (cap t) (W t) r × Imagined t root d p v (cap t) (W t) r
+  result-there r e = cases (ℕ-discrete (look (W t) (cellAt d p) root) v)
+      (λ z. let q : root ≡ r = cc (result-old t w root d p v n low z) in (subst (λ (y : ℕ). LiveOr0 (cap t) (W t) y) q there, now r (asked z (sym q))))
+      (λ z. let h = had r (sym (result-new t w root d p v n low z) ∙ e) in (h .1, now r (made z (h .0))))
+
+  pub result-one : (r c : ℕ) (W′ : Words) (s : ℕ) → result ≡ have r → Imagined t root d p v c W′ s → s ≡ r
+  result-one r c W′ s e i = cases (ℕ-discrete (look (W t) (cellAt d p) root) v)
+      (λ z. let q : root ≡ r = cc (result-old t w root d p v n low z) in kept z (i .answer) ∙ q)
+      (λ z. had-one r c W′ s z (sym (result-new t w root d p v n low z) ∙ e) i)
+
+  -- where nodes are lacking, the result is one of them
+  pub result-dead : (k c : ℕ) (W′ : Words) (s : ℕ) → result ≡ lack k → Imagined t root d p v c W′ s → Live (cap t) (W t) s → ⊥
+  result-dead k c W′ s e i l = cases (ℕ-discrete (look (W t) (cellAt d p) root) v)
+      (λ z. have-lack (sym (result-old t w root d p v n low z) ∙ e))
+      (λ z.
+      let o = lack-right t w root d p v n low k s c W′ (sym (result-new t w root d p v n low z) ∙ e) (i .size) (i .made) (i .grows) (answered z (i .answer)) in
+      let h = i .size in
+      let f = l .low in
+      o .new .new (record { low = omega arith; is = l .is; high = l .high }))

@@ -24,16 +24,16 @@ use Rattle.tree.proofs.CellLaws.{cube-cell}
 use Rattle.arena.specs.Tables.{Tables, tables, cap, W, WellFormed}
 use Rattle.arena.specs.Calls.{liveOrEmpty, Out, said, refused, fits, Fair, fullOf, heldAt}
 use Rattle.arena.proofs.Branching.{full-few, more-few}
-use Rattle.reading.specs.Calls.{lookNo}
-use Rattle.reading.specs.Models.{lookNoAt}
-use Rattle.reading.proofs.Calls.{look-no-same, look-inside, coord-is}
-use Rattle.reading.proofs.Laws.{there-live, well-small}
-use Rattle.reading.proofs.Plain.{cell-whole}
+use Rattle.read_cell.specs.Calls.{lookNo}
+use Rattle.read_cell.specs.Models.{lookNoAt}
+use Rattle.read_cell.proofs.Calls.{look-no-same, look-inside, coord-is}
+use Rattle.read_cell.proofs.Laws.{there-live, well-small}
+use Rattle.read_cell.proofs.Plain.{cell-whole}
 use Rattle.edit.specs.Edit.{planOf, resultOf, makeOf, grantNo, granted, answerOf, cellAt, editNo, editOf}
-use Rattle.planning.specs.Models.{planned, planBy, rootPlan, resultBy}
-use Rattle.planning.specs.declared.Plan as planning
-use Rattle.renewing.specs.Models.{makeBy, makeAt}
-use Rattle.renewing.proofs.Steps.{make-path}
+use Rattle.edit_plan.specs.Models.{planned, planBy, rootPlan, resultBy}
+use Rattle.edit_plan.specs.declared.Plan as planning
+use Rattle.edit_make.specs.Models.{makeBy, makeAt}
+use Rattle.edit_make.proofs.Steps.{make-path}
 use Rattle.edit.specs.Models.{grantBy, grantOf, answerBy, editPast, editNoAt, editBy}
 use Rattle.edit.proofs.Mirror.{Agree, agree-have, agree-lack, plan-agree, make-same}
 

@@ -6,10 +6,9 @@ pub mod Upward
 pub mod Mirror
 pub mod Law
 pub mod Edits
-pub mod Expanding
 pub mod Theorems
 pub mod Lacking
-pub mod Cubes
-pub mod Between
 pub mod Holds
 pub mod Generations
+pub mod Does
+pub mod Chain

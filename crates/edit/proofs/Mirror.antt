@@ -15,10 +15,10 @@ use Rattle.nodes.specs.Words.{Words, own, value, places, slot, floor, wordOf, f
 use Rattle.nodes.specs.Tally.{tabFrom, occ, Live}
 use Rattle.nodes.proofs.Counts.{total-append, total-bound}
 use Rattle.nodes.proofs.Sums.{cases, split, sumTo-ext, tabFrom-ext, tabFrom-length, occ-nil, occ-cons, occ-here, occ-there}
-use Rattle.hashing.specs.Hash.{homeFor}
-use Rattle.finding.specs.Content.{contentIs}
-use Rattle.finding.specs.Cells.{cell, probe, insertAt}
-use Rattle.finding.proofs.Contents.{content-true, content-words, probe-as, tab-list}
+use Rattle.find_hash.specs.Hash.{homeFor}
+use Rattle.find.specs.Content.{contentIs}
+use Rattle.find.specs.Cells.{cell, probe, insertAt}
+use Rattle.find.proofs.Contents.{content-true, content-words, probe-as, tab-list}
 use Rattle.tree.specs.Tree.{LiveOr0, WellMade, Cell, here, down}
 use Rattle.tree.specs.Anew.{part, replace}
 use Rattle.tree.specs.Lacks.{Need, have, lack, Plan}
@@ -37,13 +37,13 @@ use Rattle.arena.proofs.Make.{fresh-free}
 use Rattle.arena.proofs.Outs.{said-path, tables-path}
 use Rattle.arena.proofs.Rows.{empties-length}
 use Rattle.arena.proofs.Scan.{find-hit}
-use Rattle.reading.proofs.Meaning.{wf-made}
-use Rattle.reading.proofs.Laws.{well-small}
+use Rattle.read_cell.proofs.Meaning.{wf-made}
+use Rattle.read_cell.proofs.Laws.{well-small}
 use Rattle.edit.specs.Edit.{wordsOf, oneLeaf, needOf, cellNeed, upNeed, planOf, owed, lowOf, freshNode, leafAnew, branchAnew, makeOf}
-use Rattle.planning.specs.Models.{planned, eightParts, foundBy, leafKids, slotPlan, cellPlan, needPlan, upPlan, planBy}
-use Rattle.planning.specs.declared.Plan as planning
-use Rattle.planning.proofs.Plans.{tab-get}
-use Rattle.renewing.specs.Models.{owe, oweAll, owedBy, freshBy, leafAnewBy, branchAnewBy, upBy, makeBy}
+use Rattle.edit_plan.specs.Models.{planned, eightParts, foundBy, leafKids, slotPlan, cellPlan, needPlan, upPlan, planBy}
+use Rattle.edit_plan.specs.declared.Plan as planning
+use Rattle.edit_plan.proofs.Plans.{tab-get}
+use Rattle.edit_make.specs.Models.{owe, oweAll, owedBy, freshBy, leafAnewBy, branchAnewBy, upBy, makeBy}
 use Rattle.edit.proofs.Growing.{given-inv, owed-grown, each-nil, each-cons, grown-live}
 use Rattle.edit.proofs.Planning.{branch-words, all-yes, slot-lone, words-length, words-at, Cell-came, cell-none, cell-leaf, cell-lack, cell-came, plan-is, parts-there}
 use Rattle.edit.proofs.Upward.{Low, Done, low-have, low-lack, placed, lowers, eight, others-live, set-at, set-other, lack-inj, have-lack, over, make-done}

@@ -16,8 +16,8 @@ use Rattle.nodes.specs.Words.{own, value, slot, floor}
 use Rattle.nodes.specs.Tally.{tabFrom, Live}
 use Rattle.nodes.proofs.Counts.{live-own, live-nonzero, floor-pos}
 use Rattle.nodes.proofs.Sums.{cases, split, occ-tab, tabFrom-length}
-use Rattle.finding.specs.Content.{agree}
-use Rattle.finding.proofs.Contents.{agree-true, agree-words}
+use Rattle.find.specs.Content.{agree}
+use Rattle.find.proofs.Contents.{agree-true, agree-words}
 use Rattle.tree.specs.Tree.{LiveOr0, Leaf, Branch, WellMade, Cell, here, down}
 use Rattle.tree.specs.Anew.{part, replace, All, Mixed, Has, HasValue, nothing, whole, node}
 use Rattle.tree.specs.Lacks.{Need, have, lack, Plan, plan-gone, plan-set, plan-leaf, plan-step, plan-branch, plan-more}
@@ -31,9 +31,9 @@ use Rattle.arena.proofs.Ids.{leaf-flag, branch-flag, gen-small}
 use Rattle.arena.proofs.Inv.{wf-inv, wf-content}
 use Rattle.arena.proofs.Leaves.{leaf-in, leaf-slot}
 use Rattle.arena.proofs.Scan.{find-hit, find-miss}
-use Rattle.reading.proofs.Meaning.{leaf-above, wf-made}
+use Rattle.read_cell.proofs.Meaning.{leaf-above, wf-made}
 use Rattle.edit.specs.Edit.{wordsOf, oneLeaf, needOf, cellNeed, upNeed, planOf}
-use Rattle.planning.proofs.Plans.{tab-get}
+use Rattle.edit_plan.proofs.Plans.{tab-get}
 use Rattle.edit.proofs.Wholes.{leaf-node, branch-node, is-branch}
 
 -- ---- the eight words of n parts

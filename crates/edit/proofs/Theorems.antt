@@ -2,10 +2,10 @@
 use mathlib.Core.Path.{_≡_, refl, sym, ap, _∙_, subst}
 use mathlib.Core.Logic.{_≢_}
 use mathlib.Core.List.{List}
-use Prim.Native.Nat.{ℕ, _-_, _^_, _≤_, _<_}
+use Prim.Native.Nat.{ℕ, _-_, _≤_, _<_}
 use native.Mathlib.Decide.{ℕ-discrete, decLe}
 use native.Mathlib.Omega.{arith}
-use lib.ListN.{length, set, length-set}
+use lib.ListN.{set, length-set}
 use borrow.Author.Tests.{eq-eqb, ne-eqb, le-leb, lt-leb}
 use Rattle.nodes.specs.Values.{heightAt}
 use Rattle.nodes.specs.Words.{Words, slot}
@@ -15,26 +15,25 @@ use Rattle.paths.specs.Paths.{whole}
 use Rattle.tree.specs.Tree.{LiveOr0, WellMade, Root, look, Extends}
 use Rattle.tree.specs.Anew.{Anew}
 use Rattle.tree.specs.Edits.{Edited}
-use Rattle.tree.specs.Demand.{At, way, Apart, TwoChanged}
+use Rattle.tree.specs.Demand.{At, way, Apart}
 use Rattle.tree.specs.Lacks.{Need, have, lack, Lacks}
 use Rattle.tree.proofs.Canon.{canon}
 use Rattle.tree.proofs.CellLaws.{cube-cell, cube-one, cube-onto}
 use Rattle.tree.proofs.Grow.{extends-keeps, look-later, there-later}
-use Rattle.tree.proofs.Demand.{demand-3}
 use Rattle.tree.proofs.Plan.{plan-lack}
 use Rattle.tree.proofs.Room.{tables-bare, there-more, made-more, plan-wider}
 use Rattle.arena.specs.Tables.{Tables, cap, W, WellFormed}
 use Rattle.arena.specs.Calls.{fullOf}
-use Rattle.reading.specs.Calls.{lookNo, looked, lookOf, expandOf}
-use Rattle.reading.specs.declared.Looked.{Looked}
-use Rattle.reading.proofs.Meaning.{wf-made}
+use Rattle.read_cell.specs.Calls.{lookNo, looked, lookOf, expandOf}
+use Rattle.read_cell.specs.declared.Looked.{Looked}
+use Rattle.read_cell.proofs.Meaning.{wf-made}
+use Rattle.calls.specs.Cells.{spot, standsAt}
 use Rattle.edit.specs.Edit.{planOf, resultOf, grantNo, cellAt, editNo}
-use Rattle.edit.specs.Promises.{spot, standsAt, then, gives, Reads, Unreleased, BothOrders}
+use Rattle.edit.specs.Promises.{then, gives, Reads}
 use Rattle.edit.proofs.Planning.{plan-is}
 use Rattle.edit.proofs.Law.{root-there}
 use Rattle.edit.proofs.Edits.{accepted-past, edit-right}
-use Rattle.edit.proofs.Between.{unreleased-keeps-all, all-kept-later}
-use Rattle.edit.proofs.Expanding.{look-at, way-one, stands-apart, one-set, expand-at, expand-list}
+use Rattle.calls.proofs.Expanding.{look-at, way-one, stands-apart, one-set, expand-at, expand-list}
 
 -- ## Refusal 11
 
@@ -66,15 +65,15 @@ module _ (t : Tables) (w : WellFormed 8 6 t) (root d : ℕ) (p : IVec3) (v : ℕ
       plan-lack 8 c (omega arith) (W t) W′ (made-more h bare (wf-made 8 6 t (omega arith) w)) w′ g v (there-more h there) low cell
       (plan-wider h bare (rw e at (plan-is 8 6 t (omega arith) (omega arith) w v root there low cell))) a
 
-  past-no : editNo t root d p v ≡ grantNo t (resultOf 8 t v (cellAt d p) root)
+  pub past-no : editNo t root d p v ≡ grantNo t (resultOf 8 t v (cellAt d p) root)
   unfolding editNo
   past-no = rw (eq-eqb (lookNo t root d p) 0 n, le-leb (heightAt (W t) root) d low)
 
-  result-new : look (W t) (cellAt d p) root ≢ v → resultOf 8 t v (cellAt d p) root ≡ planOf 8 t v (cellAt d p) root
+  pub result-new : look (W t) (cellAt d p) root ≢ v → resultOf 8 t v (cellAt d p) root ≡ planOf 8 t v (cellAt d p) root
   unfolding resultOf
   result-new z = rw (ne-eqb (look (W t) (cellAt d p) root) v z)
 
-  result-old : look (W t) (cellAt d p) root ≡ v → resultOf 8 t v (cellAt d p) root ≡ have root
+  pub result-old : look (W t) (cellAt d p) root ≡ v → resultOf 8 t v (cellAt d p) root ≡ have root
   unfolding resultOf
   result-old z = rw (eq-eqb (look (W t) (cellAt d p) root) v z)
 
@@ -102,10 +101,10 @@ one-id {d} t w h a b ra rb same = canon 8 (cap t) (W t) (wf-made 8 6 t (omega ar
     let e = sym (look-at t w h a (ra .there) at) ∙ same at ∙ look-at t w h b (rb .there) at in
     subst (λ (l : List ℕ). look (W t) l a ≡ look (W t) l b) (k .path) (ap (λ (r : Looked). r .value) e))
 
--- ## Demand 3: two edits in both orders
+-- ## An edit of a cell
 
 -- an accepted edit, with the capacity that the tables had at the start
-cell-edited : {d : ℕ} (c₀ : ℕ) (t : Tables) → WellFormed 8 6 t → cap t ≡ c₀ → (a : ℕ) (c : At d) (v : ℕ) → v ≤ 65535 → editNo t a d (spot c) v ≡ 0
+pub cell-edited : {d : ℕ} (c₀ : ℕ) (t : Tables) → WellFormed 8 6 t → cap t ≡ c₀ → (a : ℕ) (c : At d) (v : ℕ) → v ≤ 65535 → editNo t a d (spot c) v ≡ 0
     → Edited 8 c₀ d (W t) a (way c) v (W (then t a c v)) (gives t a c v)
 unfolding whole
 cell-edited {d} c₀ t w e a c v h ok =
@@ -124,7 +123,7 @@ edit-reads {d} t w h a c v high ok =
     let r = gives t a c v in
     let e = cell-edited (cap t) t w refl a c v high ok in
     let z = s .size in
-    let past = accepted-past t w a d (spot c) v high ok in
+    let past = accepted-past t a d (spot c) v ok in
     let there = root-there t a d (spot c) (past .0) in
     let there′ : LiveOr0 (cap u) (W u) r = subst (λ (k : ℕ). LiveOr0 k (W u) r) (sym z) (e .there) in
     let made = wf-made 8 6 t (omega arith) w in
@@ -145,75 +144,3 @@ edit-reads {d} t w h a c v high ok =
           let lb : LiveOr0 (cap u) (W u) b = subst (λ (j : ℕ). LiveOr0 j (W u) b) (sym z) (there-later 8 (cap t) (W t) (W u) made b l k) in
           look-at u (s .well) g b lb i ∙ ap (looked 0) (sym (look-later 8 (cap t) (W t) (W u) made b l k (cube-cell f (i .x) (i .y) (i .z)))) ∙ sym (look-at t w g b l i);
     }
-
--- In a well-formed arena take EMPTY or a live tidy root no taller than the depth, two different cells and a value for each. Make both edits from that root in
--- one order, then from the same root in the other, all four accepted; between them come any calls that release nothing: t₁ to t₄ are what the four edits
--- leave, u₁ to u₃ what the calls after the first three leave. Both end in the same id, whose cube is the old one with those two cells changed.
-module _ {d : ℕ} (t₀ : Tables) (w : WellFormed 8 6 t₀) (deep-enough : d ≤ 6) (root : ℕ) (tidy : Root 8 (cap t₀) d (W t₀) root) (p q : At d) (apart : Apart p q)
-    (i j : ℕ) (hi : i ≤ 65535) (hj : j ≤ 65535) (u₁ u₂ u₃ : Tables) where
-  abbrev pub t₁ : Tables
-  t₁ = then t₀ root p i
-
-  abbrev pub r₁ : ℕ
-  r₁ = gives t₀ root p i
-
-  abbrev pub t₂ : Tables
-  t₂ = then u₁ r₁ q j
-
-  abbrev pub r₂ : ℕ
-  r₂ = gives u₁ r₁ q j
-
-  abbrev pub t₃ : Tables
-  t₃ = then u₂ root q j
-
-  abbrev pub r₃ : ℕ
-  r₃ = gives u₂ root q j
-
-  abbrev pub t₄ : Tables
-  t₄ = then u₃ r₃ p i
-
-  abbrev pub r₄ : ℕ
-  r₄ = gives u₃ r₃ p i
-
-  pub both-orders : editNo t₀ root d (spot p) i ≡ 0 → Unreleased t₁ u₁ → editNo u₁ r₁ d (spot q) j ≡ 0 → Unreleased t₂ u₂
-      → editNo u₂ root d (spot q) j ≡ 0 → Unreleased t₃ u₃ → editNo u₃ r₃ d (spot p) i ≡ 0
-      → BothOrders d t₀ root p i q j t₄ r₂ r₄
-  both-orders ok₁ calls₁ ok₂ calls₂ ok₃ calls₃ ok₄ =
-      let s₁ = edit-right t₀ w root d (spot p) i hi ok₁ in
-      let k₁ = unreleased-keeps-all (s₁ .well) calls₁ in
-      let s₂ = edit-right u₁ (k₁ .well) r₁ d (spot q) j hj ok₂ in
-      let k₂ = unreleased-keeps-all (s₂ .well) calls₂ in
-      let s₃ = edit-right u₂ (k₂ .well) root d (spot q) j hj ok₃ in
-      let k₃ = unreleased-keeps-all (s₃ .well) calls₃ in
-      let s₄ = edit-right u₃ (k₃ .well) r₃ d (spot p) i hi ok₄ in
-      let z₁ : cap t₁ ≡ cap t₀ = s₁ .size in
-      let y₁ : cap u₁ ≡ cap t₀ = k₁ .size ∙ z₁ in
-      let z₂ : cap t₂ ≡ cap t₀ = s₂ .size ∙ y₁ in
-      let y₂ : cap u₂ ≡ cap t₀ = k₂ .size ∙ z₂ in
-      let z₃ : cap t₃ ≡ cap t₀ = s₃ .size ∙ y₂ in
-      let y₃ : cap u₃ ≡ cap t₀ = k₃ .size ∙ z₃ in
-      let z₄ : cap t₄ ≡ cap t₀ = s₄ .size ∙ y₃ in
-      let e₁ = cell-edited (cap t₀) t₀ w refl root p i hi ok₁ in
-      let e₂ = cell-edited (cap t₀) u₁ (k₁ .well) y₁ r₁ q j hj ok₂ in
-      let e₃ = cell-edited (cap t₀) u₂ (k₂ .well) y₂ root q j hj ok₃ in
-      let e₄ = cell-edited (cap t₀) u₃ (k₃ .well) y₃ r₃ p i hi ok₄ in
-      let b : TwoChanged d (W t₀) root p i q j (W t₄) r₂ r₄ =
-      demand-3 p q (wf-made 8 6 t₀ (omega arith) w) tidy apart e₁ (all-kept-later (cap t₀) z₁ k₁) e₂ (all-kept-later (cap t₀) z₂ k₂) e₃ (all-kept-later (cap t₀) z₃ k₃) e₄ in
-      let there : LiveOr0 (cap t₄) (W t₄) r₄ = subst (λ (k : ℕ). LiveOr0 k (W t₄) r₄) (sym z₄) (e₄ .there) in
-      record {
-        one = b .one;
-        at-p = look-at t₄ (s₄ .well) deep-enough r₄ there p ∙ ap (looked 0) (b .at-p);
-        at-q = look-at t₄ (s₄ .well) deep-enough r₄ there q ∙ ap (looked 0) (b .at-q);
-        elsewhere = λ s a c. look-at t₄ (s₄ .well) deep-enough r₄ there s ∙ ap (looked 0) (b .elsewhere s a c) ∙ sym (look-at t₀ w deep-enough root (tidy .there) s);
-        cube = λ l m el em.
-            let x = expand-at t₀ w deep-enough root (tidy .there) m em in
-            let old = expandOf t₀ root d m .cube in
-            let one = set old (standsAt p) i in
-            let k : length one ≡ 8 ^ d = length-set old (standsAt p) i ∙ x .size in
-            expand-list t₄ (s₄ .well) deep-enough r₄ there l el (set one (standsAt q) j) (length-set one (standsAt q) j ∙ k)
-            (λ s.
-            one-set q j one k s (look (W t₄) (way s) r₄) (λ z. ap (λ (y : List ℕ). look (W t₄) y r₄) (way-one s q z) ∙ b .at-q)
-            (λ n. sym
-            (one-set p i old (x .size) s (look (W t₄) (way s) r₄) (λ z. ap (λ (y : List ℕ). look (W t₄) y r₄) (way-one s p z) ∙ b .at-p)
-            (λ o. b .elsewhere s (stands-apart s p o) (stands-apart s q n) ∙ sym (x .cells s)))));
-      }

@@ -14,7 +14,7 @@ use Rattle.nodes.specs.Words.{own, value, height, holds, places, slot, floor, W
 use Rattle.nodes.specs.Tally.{kidsOf, occ, Live}
 use Rattle.nodes.proofs.Counts.{live-inj, live-same, live-own, live-nonzero, total, kid-occ, occ-le-tally}
 use Rattle.nodes.proofs.Sums.{cases, split, occ-nil, occ-cons, occ-here, occ-append, same-diff}
-use Rattle.finding.proofs.Contents.{content-true}
+use Rattle.find.proofs.Contents.{content-true}
 use Rattle.tree.specs.Tree.{LiveOr0, Branch, WellMade, Cell, here, down, Extends, Below, self, under}
 use Rattle.tree.specs.Anew.{part, replace, Mixed, node, Anew, set as anew-set}
 use Rattle.tree.specs.Lacks.{Need, have, lack, Plan}
@@ -31,7 +31,7 @@ use Rattle.arena.proofs.Eight.{all-at}
 use Rattle.arena.proofs.Inv.{Inv, Content, wf-inv, wf-content}
 use Rattle.arena.proofs.Leaves.{no-leaf, not-ground}
 use Rattle.arena.proofs.Rows.{empties-length, empties-at}
-use Rattle.reading.proofs.Meaning.{wf-made}
+use Rattle.read_cell.proofs.Meaning.{wf-made}
 use Rattle.edit.specs.Edit.{wordsOf, needOf, upNeed, planOf, owed, lowOf, leafAnew, branchAnew, makeOf}
 use Rattle.edit.proofs.Growing.{Grown, Alone, grown-live, grown-debt, grown-trans, grown-extends, owed-grown, owed-word, each-grown, each-word, each-cap}
 use Rattle.edit.proofs.Fresh.{Makes-one, leaf-makes, branch-makes}

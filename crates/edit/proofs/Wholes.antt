@@ -14,7 +14,7 @@ use Rattle.tree.specs.Tree as tree
 use Rattle.arena.specs.Node.{LeafNode, BranchNode, Node}
 use Rattle.nodes.specs.Values.{heightAt, valueAt}
 use Rattle.arena.proofs.Inv.{Content}
-use Rattle.reading.proofs.Meaning.{leaf-above, branch-below, generation-small}
+use Rattle.read_cell.proofs.Meaning.{leaf-above, branch-below, generation-small}
 
 module _ (n tallest cap : ℕ) (W : Words) (m : n ≤ 8) (most : cap ≤ 65536) (w : Content n tallest cap W) where
   node : (a : ℕ) → Live cap W a → Node n tallest cap W (slot a)

@@ -19,7 +19,7 @@ use Rattle.tree.specs.Lacks.{Need, have, lack}
 use Rattle.arena.specs.Node.{leafId, branchId, valueFor, heightFor}
 use Rattle.arena.specs.Tables.{Tables, tablesOf, cap, W}
 use Rattle.arena.specs.Calls.{Out, said, refused, fullOf, heldAt, freshSlot, slotGiven, freshFacts, empties, named, leafSlot, branchSlot, allOf, each}
-use Rattle.reading.specs.Calls.{lookNo}
+use Rattle.read_cell.specs.Calls.{lookNo}
 
 -- ## The dry run: what is there already, and how many nodes are not
 

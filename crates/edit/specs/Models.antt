@@ -8,10 +8,10 @@ use Rattle.nodes.specs.Values.{heightAt}
 use Rattle.arena.specs.Tables.{Tables, tables, cap, W}
 use Rattle.arena.specs.Calls.{Out, said, refused, fullOf}
 use Rattle.arena.specs.Models.{moreOf}
-use Rattle.reading.specs.Models.{lookNoAt}
-use Rattle.planning.specs.Models.{resultBy}
-use Rattle.planning.specs.declared.Plan.{Plan}
-use Rattle.renewing.specs.Models.{makeAt}
+use Rattle.read_cell.specs.Models.{lookNoAt}
+use Rattle.edit_plan.specs.Models.{resultBy}
+use Rattle.edit_plan.specs.declared.Plan.{Plan}
+use Rattle.edit_make.specs.Models.{makeAt}
 
 -- refusals 10 and 11
 unfoldable pub grantBy : Tables → Plan → ℕ

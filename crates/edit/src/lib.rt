@@ -1,5 +1,5 @@
-// The edit of one voxel: a dry run that finds what is there already and counts what is not (crate `planning`), and then the making of the rest, leaf
-// first and upward (crate `renewing`). What the call answers and leaves: specs/Edit.antt.
+// The edit of one voxel: a dry run that finds what is there already and counts what is not (crate `edit_plan`), and then the making of the rest, leaf
+// first and upward (crate `edit_make`). What the call answers and leaves: specs/Edit.antt.
 use arena::Arena;
 use arena::Made;
 use arena::slot_of;
@@ -8,13 +8,13 @@ use nodes::HOLDS;
 use nodes::fact;
 use paths::IVec3;
 use paths::coord;
-use planning::Plan;
-use planning::result;
-use reading::look_no;
-use renewing::make;
+use edit_plan::Plan;
+use edit_plan::result;
+use read_cell::look_no;
+use edit_make::make;
 use std::num::wrapping_add_u64;
-use summing::height_at;
-use writing::put_fact;
+use new_value::height_at;
+use nodes_write::put_fact;
 ghost use mathlib.Core.Path.{_≡_};
 ghost use Prim.Native.Nat.{_-_};
 ghost use Rattle.arena.specs.Tables.{tables};

@@ -9,7 +9,7 @@ ghost use lib.ListN.{length};
 use libc::STDERR_FILENO;
 use libc::STDIN_FILENO;
 use libc::STDOUT_FILENO;
-use records::Run;
+use edit_listing::Run;
 
 // The slots of the arena. Its tables have 8 and 7 words and 3 cells a slot, 64,512 bytes.
 const SLOTS: usize = 512;
@@ -113,7 +113,7 @@ fn one_block(fd: i32, run: Run, kids: &mut [u64], facts: &mut [u64], find: &mut 
     let mut lines = [0u8; LINES];
     let got = fill(fd, &mut block);
     let len = got.len;
-    let ran = records::edit_records(run, kids, facts, find, &block[..len], &mut lines);
+    let ran = edit_listing::edit_records(run, kids, facts, find, &block[..len], &mut lines);
     let written = say_start(&lines, ran.len);
     Turn {
         run: ran.run,
@@ -125,7 +125,7 @@ fn one_block(fd: i32, run: Run, kids: &mut [u64], facts: &mut [u64], find: &mut 
 
 fn say_end(run: Run, cut: usize) {
     let mut lines = [0u8; LINES];
-    let len = records::ending(run, cut, &mut lines);
+    let len = edit_listing::ending(run, cut, &mut lines);
     say_start(&lines, len);
 }
 
@@ -153,7 +153,7 @@ fn list(fd: i32) {
     let mut kids = [0u64; KIDS];
     let mut facts = [0u64; FACTS];
     let mut find = [0u16; CELLS];
-    let run = records::start(SLOTS, &mut kids, &mut facts, &mut find);
+    let run = edit_listing::start(SLOTS, &mut kids, &mut facts, &mut find);
     list_blocks(fd, run, &mut kids, &mut facts, &mut find);
 }
 

@@ -1,5 +1,4 @@
--- Every call keeps well-formed tables well formed; and holds equal those granted less those returned or used, counted over the calls since the
--- fresh arena.
+-- The holds in each call: those afterwards and those it takes are those before and those it grants.
 use mathlib.Core.Path.{_≡_, refl, sym, ap, _∙_, subst}
 use mathlib.Core.Logic.{_≢_, _⊎_}
 use mathlib.Core.Bool.{true≢false}
@@ -21,84 +20,64 @@ use Rattle.arena.specs.Calls.{Out, said, heldAt, freshSlot, empties, leafMade, 
 use Rattle.arena.specs.Node.{leafId, branchId, valueFor, heightFor}
 use Rattle.arena.specs.Tables.{Tables, tablesOf, cap, W, WellFormed, Sized}
 use Rattle.arena.proofs.Branches.{alive, affords, Placing, placing, unheld-eased}
-use Rattle.arena.proofs.Branching.{branch-well}
 use Rattle.arena.proofs.Fits.{live-is, room-yes, sized-fits}
-use Rattle.arena.proofs.Holding.{hold-well, fresh-well}
 use Rattle.arena.proofs.Ids.{leaf-slot, leaf-floor, leaf-gen, branch-slot, branch-gen, gen-small}
 use Rattle.arena.proofs.Inv.{wf-inv, sized-within}
-use Rattle.arena.proofs.Leaves.{leaf-well}
 use Rattle.arena.proofs.Make.{fresh-free, id-branch, id-floor}
-use Rattle.arena.proofs.Releasing.{Released, release-released, release-well}
+use Rattle.arena.proofs.Releasing.{Released, release-released}
 use Rattle.arena.proofs.Rows.{empties-length}
-use Rattle.ledger.specs.Ledger.{Call, leaf, branch, hold, release, Handed, outcome, on, grants, takesOf, History, start, next, holdsOn}
+use Rattle.ledger.specs.Ledger.{on, ifAccepted, holdsOn, Balanced}
 use Rattle.ledger.specs.Fates.{Lives, Same, Grew, Has}
-use Rattle.ledger.proofs.Effects.{live-true, by-life, holds-live, holds-dead, on-zero, on-same, on-diff, accepted, unaccepted, Effect, counted-holds, was-live}
+use Rattle.ledger.proofs.Effects.{live-true, by-life, holds-live, holds-dead, on-zero, on-same, on-diff, accepted, unaccepted, counted-holds, was-live}
 use Rattle.ledger.proofs.Found.{leaf-found, branch-found, slot-own}
-use Rattle.ledger.proofs.Ladders.{Fine, branchHeld, leaf-made-no, branch-made-no, leaf-ways, branch-ways, hold-ways, release-ways, fresh-ways}
+use Rattle.ledger.proofs.Ladders.{Fine, branchHeld, leaf-made-no, branch-made-no, leaf-ways, branch-ways, hold-ways, release-ways}
 use Rattle.ledger.proofs.Writes.{put-keeps, held-cap, held-grew, held-balance, unheld-holds, placed-holds, given-cap, new-grew, new-only, new-has, new-gens, new-balance}
+
+-- ---- what each call grants and takes
+
+-- interning grants one hold on its answer, a hold one on the id; a branch takes one for each child place that isn't EMPTY, and a release one
+abbrev pub LeafBalance : Tables → Out → Type 0
+LeafBalance t o = Balanced t (o .after) (λ y. ifAccepted o (on y (o .id))) (λ y. 0)
+
+abbrev pub BranchBalance : List ℕ → Tables → Out → Type 0
+BranchBalance ks t o = Balanced t (o .after) (λ y. ifAccepted o (on y (o .id))) (λ y. ifAccepted o (pick (eqb y 0) 0 (occ y ks)))
+
+abbrev pub HoldBalance : ℕ → Tables → Out → Type 0
+HoldBalance id t o = Balanced t (o .after) (λ y. ifAccepted o (on y id)) (λ y. 0)
+
+abbrev pub ReleaseBalance : ℕ → Tables → Out → Type 0
+ReleaseBalance id t o = Balanced t (o .after) (λ y. 0) (λ y. ifAccepted o (on y id))
 
 -- ---- a refusal, and EMPTY
 
-grants-none : (o : Out) (c : Call) (y : ℕ) → o .no ≢ 0 → grants o c y ≡ 0
-grants-none o (leaf v) y d = unaccepted o (on y (o .id)) d
-grants-none o (branch ks) y d = unaccepted o (on y (o .id)) d
-grants-none o (hold id) y d = unaccepted o (on y id) d
-grants-none o (release id) y d = refl
-
-takes-none : (o : Out) (c : Call) (y : ℕ) → o .no ≢ 0 → takesOf o c y ≡ 0
-takes-none o (leaf v) y d = refl
-takes-none o (branch ks) y d = unaccepted o (pick (eqb y 0) 0 (occ y ks)) d
-takes-none o (hold id) y d = refl
-takes-none o (release id) y d = unaccepted o (on y id) d
-
-refused-effect : (t : Tables) (c : Call) (k id : ℕ) → k ≢ 0 → Effect t c (said k id t)
-refused-effect t c k id d = record {
-  size = refl;
-  balance = λ y. omega (arith, grants-none (said k id t) c y d, takes-none (said k id t) c y d);
-  affords = λ y. omega (arith, takes-none (said k id t) c y d);
-  kept = λ y v u f l. refl;
-}
+no-effect : (t : Tables) (g k : ℕ → ℕ) → ((y : ℕ) → g y ≡ 0) → ((y : ℕ) → k y ≡ 0) → Balanced t t g k
+no-effect t g k eg ek y = omega (arith, eg y, ek y)
 
 -- ---- hold
 
-empty-held : (t : Tables) (id : ℕ) → id ≡ 0 → Effect t (hold id) (said 0 empty t)
-empty-held t id z = record {
-  size = refl;
-  balance = λ y. omega (arith, accepted (said 0 empty t) (on y id) refl, on-zero y id z);
-  affords = λ y. omega arith;
-  kept = λ y v u f l. refl;
-}
+hold-nothing : (t : Tables) (id k : ℕ) → ((y : ℕ) → ifAccepted (said k empty t) (on y id) ≡ 0) → HoldBalance id t (said k empty t)
+hold-nothing t id k z = no-effect t (λ y. ifAccepted (said k empty t) (on y id)) (λ y. 0) z (λ y. refl)
 
-node-held : (t : Tables) (id : ℕ) → Sized t → Lives t id → Effect t (hold id) (said 0 empty (heldAt t (slot id)))
-node-held t id z v = record {
-  size = held-cap t (slot id);
-  balance = λ y. omega (arith, accepted (said 0 empty (heldAt t (slot id))) (on y id) refl, held-balance t (slot id) id z v refl y);
-  affords = λ y. omega arith;
-  kept = λ y l u. held-grew t (slot id) .stays y l .1;
-}
+node-held : (t : Tables) (id : ℕ) → Sized t → Lives t id → HoldBalance id t (said 0 empty (heldAt t (slot id)))
+node-held t id z v y = omega (arith, accepted (said 0 empty (heldAt t (slot id))) (on y id) refl, held-balance t (slot id) id z v refl y)
 
-hold-effect : (n tallest : ℕ) (t : Tables) → WellFormed n tallest t → (id : ℕ) → Effect t (hold id) (holdOf t id)
-hold-effect n tallest t w id =
+pub hold-balanced : (n tallest : ℕ) (t : Tables) → WellFormed n tallest t → (id : ℕ) → HoldBalance id t (holdOf t id)
+hold-balanced n tallest t w id =
     hold-ways t id
-    (λ f e. to e (refused-effect t (hold id) 1 empty (omega arith)))
-    (λ f z e. to e (empty-held t id z))
-    (λ f z l e. to e (refused-effect t (hold id) 4 empty (omega arith)))
-    (λ f z l r e. to e (refused-effect t (hold id) 10 empty (omega arith)))
+    (λ f e. to e (hold-nothing t id 1 (λ y. unaccepted (said 1 empty t) (on y id) (omega arith))))
+    (λ f z e. to e (hold-nothing t id 0 (λ y. accepted (said 0 empty t) (on y id) refl ∙ on-zero y id z)))
+    (λ f z l e. to e (hold-nothing t id 4 (λ y. unaccepted (said 4 empty t) (on y id) (omega arith))))
+    (λ f z l r e. to e (hold-nothing t id 10 (λ y. unaccepted (said 10 empty t) (on y id) (omega arith))))
     (λ f z l r e. to e (node-held t id (w .sized) (live-is t id l)))
   where
-    to : {o : Out} → holdOf t id ≡ o → Effect t (hold id) o → Effect t (hold id) (holdOf t id)
-    to e x = subst (λ (o : Out). Effect t (hold id) o) (sym e) x
+    to : {o : Out} → holdOf t id ≡ o → HoldBalance id t o → HoldBalance id t (holdOf t id)
+    to e x = subst (λ (o : Out). HoldBalance id t o) (sym e) x
 
 -- ---- intern leaf
 
 -- the leaf that is there, held
-there-held : (t : Tables) (v s id : ℕ) → Sized t → Lives t id → slot id ≡ s → Effect t (leaf v) (said 0 id (heldAt t s))
-there-held t v s id z l e = record {
-  size = held-cap t s;
-  balance = λ y. omega (arith, accepted (said 0 id (heldAt t s)) (on y id) refl, held-balance t s id z l e y);
-  affords = λ y. omega arith;
-  kept = λ y l u. held-grew t s .stays y l .1;
-}
+there-held : (t : Tables) (s id : ℕ) → Sized t → Lives t id → slot id ≡ s → LeafBalance t (said 0 id (heldAt t s))
+there-held t s id z l e y = omega (arith, accepted (said 0 id (heldAt t s)) (on y id) refl, held-balance t s id z l e y)
 
 module _ (n tallest : ℕ) (t : Tables) (m : n ≤ 8) (w : WellFormed n tallest t) (room : t .arena .live + 1 < cap t) where
   abbrev spot : ℕ
@@ -154,28 +133,27 @@ module _ (n tallest : ℕ) (t : Tables) (m : n ≤ 8) (w : WellFormed n tallest 
       (spot-free .1) (spot-free .2) (sized-within t spot (w .sized) (spot-free .1)) (λ b f l. refl)
       (leaf-gen spot (generationOf (W t spot own)) (omega arith) (gen-small (W t spot own))) b
 
-  leaf-made : (v : ℕ) → Effect t (leaf v) (leafMade t v)
-  leaf-made v = record {
-    size = leaf-grew v .size;
-    balance = λ y. omega (arith, accepted (leafMade t v) (on y (leafMade t v .id)) (leaf-made-no t v), leaf-balance v y);
-    affords = λ y. omega arith;
-    kept = λ y l u. leaf-grew v .stays y l .1;
-  }
+  leaf-made : (v : ℕ) → LeafBalance t (leafMade t v)
+  leaf-made v y = omega (arith, accepted (leafMade t v) (on y (leafMade t v .id)) (leaf-made-no t v), leaf-balance v y)
 
-leaf-effect : (n tallest : ℕ) (t : Tables) → n ≤ 8 → WellFormed n tallest t → (v : ℕ) → Effect t (leaf v) (internLeafOf t v)
-leaf-effect n tallest t m w v =
+leaf-nothing : (t : Tables) (k : ℕ) → k ≢ 0 → LeafBalance t (said k invalid t)
+leaf-nothing t k d =
+    no-effect t (λ y. ifAccepted (said k invalid t) (on y invalid)) (λ y. 0) (λ y. unaccepted (said k invalid t) (on y invalid) d) (λ y. refl)
+
+pub leaf-balanced : (n tallest : ℕ) (t : Tables) → n ≤ 8 → WellFormed n tallest t → (v : ℕ) → LeafBalance t (internLeafOf t v)
+leaf-balanced n tallest t m w v =
     leaf-ways t v
-    (λ f e. to e (refused-effect t (leaf v) 1 invalid (omega arith)))
-    (λ f z e. to e (refused-effect t (leaf v) 6 invalid (omega arith)))
+    (λ f e. to e (leaf-nothing t 1 (omega arith)))
+    (λ f z e. to e (leaf-nothing t 6 (omega arith)))
     (λ f z s r e. to e (leaf-made n tallest t m w (room-yes (t .arena) r) v))
-    (λ f z s r e. to e (refused-effect t (leaf v) 11 invalid (omega arith)))
-    (λ f z s r e. to e (refused-effect t (leaf v) 10 invalid (omega arith)))
+    (λ f z s r e. to e (leaf-nothing t 11 (omega arith)))
+    (λ f z s r e. to e (leaf-nothing t 10 (omega arith)))
     (λ f z s r e.
     let h = leaf-found n tallest t m w v s in
-    to e (there-held t v (leafSlot t v) (W t (leafSlot t v) own) (w .sized) (h .1 .live) (slot-own n tallest t m w (leafSlot t v) (h .0))))
+    to e (there-held t (leafSlot t v) (W t (leafSlot t v) own) (w .sized) (h .1 .live) (slot-own n tallest t m w (leafSlot t v) (h .0))))
   where
-    to : {o : Out} → internLeafOf t v ≡ o → Effect t (leaf v) o → Effect t (leaf v) (internLeafOf t v)
-    to e x = subst (λ (o : Out). Effect t (leaf v) o) (sym e) x
+    to : {o : Out} → internLeafOf t v ≡ o → LeafBalance t o → LeafBalance t (internLeafOf t v)
+    to e x = subst (λ (o : Out). LeafBalance t o) (sym e) x
 
 -- ---- intern branch
 
@@ -197,11 +175,6 @@ module _ (n tallest : ℕ) (t : Tables) (m : n ≤ 8) (w : WellFormed n tallest 
 
   kid-held : (y : ℕ) → Lives t y → occ y ks ≤ W t (slot y) holds
   kid-held y v = cases (decLt 0 (occ y ks)) (λ o. affords (W t) ks (fine .held) y (live-nonzero v) o) (λ o. omega arith)
-
-  used-held : (y : ℕ) → used y ≤ holdsOn t y
-  used-held y = by-life t y
-      (λ v. let h = kid-held y v in omega (arith, used-live y v, holds-live t y v))
-      (λ d. omega (arith, used-dead y d))
 
   apart : (y : ℕ) → Lives t y → (k : ℕ) → k ≢ 0 → 1 ≤ occ k ks → slot y ≡ slot k → y ≡ k
   apart y v k z o q = live-inj v (kid-lives k z o) q
@@ -242,24 +215,19 @@ module _ (n tallest : ℕ) (t : Tables) (m : n ≤ 8) (w : WellFormed n tallest 
             (q .0, (λ f l. q .1 f l ∙ p .1 f l));
       }
 
-  branch-held : branchSlot t ks ≢ 0 → Effect t (branch ks) (branchHeld t ks)
+  branch-held : branchSlot t ks ≢ 0 → BranchBalance ks t (branchHeld t ks)
   branch-held d =
       let h = branch-found n tallest t m w ks e (fine .some) d in
       let u = tablesOf (t .arena) (unheld (t .nodes) ks) (t .find) in
       let id = W t spotted own in
-      record {
-        size = branch-held-grew .size;
-        balance = λ y.
-            omega (
-              arith,
-              accepted (branchHeld t ks) (on y id) refl,
-              accepted (branchHeld t ks) (used y) refl,
-              held-balance u spotted id eased-sized (eased-grew .stays id (h .1 .live) .0) (slot-own n tallest t m w spotted (h .0)) y,
-              eased-balance y,
-            );
-        affords = λ y. omega (arith, accepted (branchHeld t ks) (used y) refl, used-held y);
-        kept = λ y l v. branch-held-grew .stays y l .1;
-      }
+      λ y.
+      omega (
+        arith,
+        accepted (branchHeld t ks) (on y id) refl,
+        accepted (branchHeld t ks) (used y) refl,
+        held-balance u spotted id eased-sized (eased-grew .stays id (h .1 .live) .0) (slot-own n tallest t m w spotted (h .0)) y,
+        eased-balance y,
+      )
 
   -- on a fresh node they become places
   placings : Placing (t .arena) (t .nodes) (t .find) ks []
@@ -333,35 +301,35 @@ module _ (n tallest : ℕ) (t : Tables) (m : n ≤ 8) (w : WellFormed n tallest 
         (within-size (t .nodes) (placed (t .nodes) ks) place (placings .eased .size) (sized-within t place (w .sized) (f .1))) placed-word
         (branch-gen ks place (generationOf (W t place own)) (omega arith) (gen-small (W t place own))) b
 
-    branch-made : Effect t (branch ks) (branchMade n t ks)
-    branch-made = record {
-      size = branch-grew .size;
-      balance = λ y.
-          omega (
-            arith,
-            accepted (branchMade n t ks) (on y (branchMade n t ks .id)) (branch-made-no n t ks),
-            accepted (branchMade n t ks) (used y) (branch-made-no n t ks),
-            branch-balance y,
-          );
-      affords = λ y. omega (arith, accepted (branchMade n t ks) (used y) (branch-made-no n t ks), used-held y);
-      kept = λ y l v. branch-grew .stays y l .1;
-    }
+    branch-made : BranchBalance ks t (branchMade n t ks)
+    branch-made y =
+        omega (
+          arith,
+          accepted (branchMade n t ks) (on y (branchMade n t ks .id)) (branch-made-no n t ks),
+          accepted (branchMade n t ks) (used y) (branch-made-no n t ks),
+          branch-balance y,
+        )
 
-branch-effect : (n tallest : ℕ) (t : Tables) → n ≤ 8 → WellFormed n tallest t → (ks : List ℕ) → length ks ≡ 8 → Effect t (branch ks) (internBranchOf n tallest t ks)
-branch-effect n tallest t m w ks e8 =
+branch-nothing : (t : Tables) (ks : List ℕ) (k : ℕ) → k ≢ 0 → BranchBalance ks t (said k invalid t)
+branch-nothing t ks k d =
+    no-effect t (λ y. ifAccepted (said k invalid t) (on y invalid)) (λ y. ifAccepted (said k invalid t) (pick (eqb y 0) 0 (occ y ks)))
+    (λ y. unaccepted (said k invalid t) (on y invalid) d) (λ y. unaccepted (said k invalid t) (pick (eqb y 0) 0 (occ y ks)) d)
+
+pub branch-balanced : (n tallest : ℕ) (t : Tables) → n ≤ 8 → WellFormed n tallest t → (ks : List ℕ) → length ks ≡ 8 → BranchBalance ks t (internBranchOf n tallest t ks)
+branch-balanced n tallest t m w ks e8 =
     branch-ways n tallest t ks
-    (λ f e. to e (refused-effect t (branch ks) 1 invalid (omega arith)))
-    (λ f a e. to e (refused-effect t (branch ks) 4 invalid (omega arith)))
-    (λ f a b e. to e (refused-effect t (branch ks) 5 invalid (omega arith)))
-    (λ f a b c e. to e (refused-effect t (branch ks) 7 invalid (omega arith)))
-    (λ f a b c h e. to e (refused-effect t (branch ks) 8 invalid (omega arith)))
+    (λ f e. to e (branch-nothing t ks 1 (omega arith)))
+    (λ f a e. to e (branch-nothing t ks 4 (omega arith)))
+    (λ f a b e. to e (branch-nothing t ks 5 (omega arith)))
+    (λ f a b c e. to e (branch-nothing t ks 7 (omega arith)))
+    (λ f a b c h e. to e (branch-nothing t ks 8 (omega arith)))
     (λ f s r e. to e (branch-made n tallest t m w ks e8 f (room-yes (t .arena) r)))
-    (λ f s r e. to e (refused-effect t (branch ks) 11 invalid (omega arith)))
-    (λ f s r e. to e (refused-effect t (branch ks) 10 invalid (omega arith)))
+    (λ f s r e. to e (branch-nothing t ks 11 (omega arith)))
+    (λ f s r e. to e (branch-nothing t ks 10 (omega arith)))
     (λ f s r e. to e (branch-held n tallest t m w ks e8 f s))
   where
-    to : {o : Out} → internBranchOf n tallest t ks ≡ o → Effect t (branch ks) o → Effect t (branch ks) (internBranchOf n tallest t ks)
-    to e x = subst (λ (o : Out). Effect t (branch ks) o) (sym e) x
+    to : {o : Out} → internBranchOf n tallest t ks ≡ o → BranchBalance ks t o → BranchBalance ks t (internBranchOf n tallest t ks)
+    to e x = subst (λ (o : Out). BranchBalance ks t o) (sym e) x
 
 -- ---- release
 
@@ -377,13 +345,8 @@ less-there : (t : Tables) (id b : ℕ) → b ≢ slot id → W (lessOf holds t i
 unfolding lessOf
 less-there t id b d = put-slot (t .nodes) (slot id) holds (W t (slot id) holds - 1) b holds d
 
-empty-released : (t : Tables) (id : ℕ) → id ≡ 0 → Effect t (release id) (said 0 empty t)
-empty-released t id z = record {
-  size = refl;
-  balance = λ y. omega (arith, accepted (said 0 empty t) (on y id) refl, on-zero y id z);
-  affords = λ y. omega (arith, accepted (said 0 empty t) (on y id) refl, on-zero y id z);
-  kept = λ y v u f l. refl;
-}
+release-nothing : (t : Tables) (id k : ℕ) → ((y : ℕ) → ifAccepted (said k empty t) (on y id) ≡ 0) → ReleaseBalance id t (said k empty t)
+release-nothing t id k z = no-effect t (λ y. 0) (λ y. ifAccepted (said k empty t) (on y id)) (λ y. refl) z
 
 module _ (n tallest : ℕ) (t u : Tables) (id : ℕ) (r : Released n tallest t id u) (v : Lives t id) (held : W t (slot id) holds ≢ 0) where
   -- the hold given back, as many are left
@@ -439,27 +402,22 @@ module _ (n tallest : ℕ) (t u : Tables) (id : ℕ) (r : Released n tallest t i
       (λ h. omega (arith, holds-live t y l, holds-dead u y d, less-on y l))))
       (λ d. omega (arith, holds-dead t y d, holds-dead u y (λ l. d (released-old y l)), on-diff y id (λ e. d (subst (λ (x : ℕ). Lives t x) (sym e) v))))
 
-  node-released : Effect t (release id) (said 0 empty u)
-  node-released = record {
-    size = r .size;
-    balance = λ y. omega (arith, accepted (said 0 empty u) (on y id) refl, released-balance y);
-    affords = λ y. omega (arith, accepted (said 0 empty u) (on y id) refl, released-balance y);
-    kept = λ y l s. released-kept y s;
-  }
+  node-released : ReleaseBalance id t (said 0 empty u)
+  node-released y = omega (arith, accepted (said 0 empty u) (on y id) refl, released-balance y)
 
-release-effect : (n tallest : ℕ) (t : Tables) → n ≤ 8 → tallest ≤ 6 → WellFormed n tallest t → (id : ℕ) → Effect t (release id) (releaseOf t id)
-release-effect n tallest t m low w id =
+pub release-balanced : (n tallest : ℕ) (t : Tables) → n ≤ 8 → tallest ≤ 6 → WellFormed n tallest t → (id : ℕ) → ReleaseBalance id t (releaseOf t id)
+release-balanced n tallest t m low w id =
     release-ways t id
-    (λ f e. to e (refused-effect t (release id) 1 empty (omega arith)))
-    (λ f z e. to e (empty-released t id z))
-    (λ f z l e. to e (refused-effect t (release id) 4 empty (omega arith)))
-    (λ f z l r e. to e (refused-effect t (release id) 5 empty (omega arith)))
+    (λ f e. to e (release-nothing t id 1 (λ y. unaccepted (said 1 empty t) (on y id) (omega arith))))
+    (λ f z e. to e (release-nothing t id 0 (λ y. accepted (said 0 empty t) (on y id) refl ∙ on-zero y id z)))
+    (λ f z l e. to e (release-nothing t id 4 (λ y. unaccepted (said 4 empty t) (on y id) (omega arith))))
+    (λ f z l r e. to e (release-nothing t id 5 (λ y. unaccepted (said 5 empty t) (on y id) (omega arith))))
     (λ f z l r k e.
     let d : Released n tallest t id (takes 7 holds t id) = subst (λ (o : Out). Released n tallest t id (o .after)) e (release-released n tallest t id m low w k z) in
     to e (node-released n tallest t (takes 7 holds t id) id d (live-is t id l) r))
   where
-    to : {o : Out} → releaseOf t id ≡ o → Effect t (release id) o → Effect t (release id) (releaseOf t id)
-    to e x = subst (λ (o : Out). Effect t (release id) o) (sym e) x
+    to : {o : Out} → releaseOf t id ≡ o → ReleaseBalance id t o → ReleaseBalance id t (releaseOf t id)
+    to e x = subst (λ (o : Out). ReleaseBalance id t o) (sym e) x
 
 -- ---- what a call of counts says
 
@@ -498,41 +456,3 @@ fresh-bare n tallest c k f e w y v =
     let h = v .high in
     let p = floor-pos in
     omega arith
-
--- ---- every call
-
-module _ (n tallest : ℕ) (m : n ≤ 8) (pos : 1 ≤ n) (low : tallest ≤ 6) where
-  -- Every call keeps well-formed tables well formed.
-  pub call-well : (t : Tables) → WellFormed n tallest t → (c : Call) → Handed n c → WellFormed n tallest (outcome n tallest t c .after)
-  call-well t w (leaf v) h = leaf-well n tallest t v m h w
-  call-well t w (branch ks) h = branch-well n tallest t ks m pos (h .0) (h .1) w
-  call-well t w (hold id) h = hold-well n tallest t id m w
-  call-well t w (release id) h = release-well n tallest t id m low w
-
-  -- Every call's balance: the holds afterwards and those it took are the holds before and those it granted, of every id, live or not; and what
-  -- lives on keeps all but its counts.
-  pub call-effect : (t : Tables) → WellFormed n tallest t → (c : Call) → Handed n c → Effect t c (outcome n tallest t c)
-  call-effect t w (leaf v) h = leaf-effect n tallest t m w v
-  call-effect t w (branch ks) h = branch-effect n tallest t m w ks (h .0)
-  call-effect t w (hold id) h = hold-effect n tallest t w id
-  call-effect t w (release id) h = release-effect n tallest t m low w id
-
-  -- Tables that calls since a fresh arena have reached are well formed.
-  pub history-well : {t : Tables} {granted taken : ℕ → ℕ} → History n tallest t granted taken → WellFormed n tallest t
-  history-well (start c k f e z) =
-      fresh-ways c k f e (λ r q. fresh-well n tallest c k f e r) (λ r q. absurd (let x : _≡_ {A = ℕ} 1 0 = (sym (ap (λ (o : Out). o .no) q) ∙ z) in omega arith))
-  history-well (next {t} h c a) = call-well t (history-well h) c a
-
-  -- Holds equal those granted less those returned or used, counted over the calls since the fresh arena: of every id, live or not. (An id whose
-  -- node is gone has no hold left: all that was granted on it was returned or used.)
-  pub ledger : {t : Tables} {granted taken : ℕ → ℕ} → History n tallest t granted taken → (y : ℕ) → granted y ≡ taken y + holdsOn t y
-  ledger (start c k f e z) y = omega (arith, holds-dead (freshOf c k f e .after) y (fresh-bare n tallest c k f e (history-well (start c k f e z)) y))
-  ledger (next {t} h c a) y = let r = ledger h y in omega (arith, call-effect t (history-well h) c a .balance y)
-
-  -- An id whose node is gone: all the holds granted on it were returned or used.
-  pub gone-settled : {t : Tables} {granted taken : ℕ → ℕ} → History n tallest t granted taken → (y : ℕ) → (Lives t y → ⊥) → granted y ≡ taken y
-  gone-settled {t} h y d = let r = ledger h y in omega (arith, holds-dead t y d)
-
-  -- So it is what counts answers: the holds granted are those returned or used, and those that counts names.
-  pub ledger-counts : {t : Tables} {granted taken : ℕ → ℕ} → History n tallest t granted taken → (y : ℕ) → granted y ≡ taken y + countsOf t y .holds
-  ledger-counts {t} {granted} {taken} h y = ledger h y ∙ ap (λ (k : ℕ). taken y + k) (sym (counts-holds t y (history-well h .sized)))

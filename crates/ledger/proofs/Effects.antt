@@ -1,4 +1,4 @@
--- What each call does to the holds of every node, and to the other words of the nodes that live on.
+-- The holds of every node, and what lives on.
 use mathlib.Core.Path.{_≡_, refl, sym, ap, _∙_, subst}
 use mathlib.Core.Logic.{_≢_}
 use mathlib.Core.Bool.{true, true≢false}
@@ -13,8 +13,8 @@ use Rattle.nodes.proofs.Sums.{cases, split, same-refl, same-diff}
 use Rattle.arena.specs.Calls.{Out, liveOf}
 use Rattle.arena.specs.Tables.{Tables, cap, W}
 use Rattle.arena.proofs.Fits.{live-is}
-use Rattle.ledger.specs.Ledger.{Call, on, ifAccepted, grants, takesOf, holdsOn}
-use Rattle.ledger.specs.Fates.{Lives, Same, Grew}
+use Rattle.ledger.specs.Ledger.{on, ifAccepted, holdsOn}
+use Rattle.ledger.specs.Fates.{Lives, Grew}
 
 -- ---- live or not
 
@@ -53,15 +53,7 @@ pub unaccepted : (o : Out) (k : ℕ) → o .no ≢ 0 → ifAccepted o k ≡ 0
 unfolding ifAccepted
 unaccepted o k e = rw (ne-eqb (o .no) 0 e)
 
--- ---- what a call does
-
--- the holds afterwards and those it took are the holds before and those it granted; it takes no more than there are; what lives on keeps its
--- id, children, value and height
-pub record Effect (t : Tables) (c : Call) (o : Out) : Type 0 where
-  pub size : cap (o .after) ≡ cap t
-  pub balance : (y : ℕ) → holdsOn (o .after) y + takesOf o c y ≡ holdsOn t y + grants o c y
-  pub affords : (y : ℕ) → takesOf o c y ≤ holdsOn t y
-  pub kept : (y : ℕ) → Lives t y → Lives (o .after) y → Same t (o .after) y
+-- ---- what lives on
 
 pub grew-refl : (t : Tables) → Grew t t
 grew-refl t = record { size = refl; stays = λ y v. (v, λ f l. refl) }

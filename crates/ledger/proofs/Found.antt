@@ -13,8 +13,8 @@ use Rattle.nodes.specs.Tally.{kidsOf, tabFrom}
 use Rattle.nodes.specs.Words.{Words, own, value, slot, floor, wordOf}
 use Rattle.nodes.proofs.Counts.{floor-pos}
 use Rattle.nodes.proofs.Sums.{sumTo-ext, tabFrom-length}
-use Rattle.finding.specs.Content.{agree}
-use Rattle.finding.proofs.Contents.{agree-true, agree-words, kids-are}
+use Rattle.find.specs.Content.{agree}
+use Rattle.find.proofs.Contents.{agree-true, agree-words, kids-are}
 use Rattle.arena.specs.Calls.{empties, leafIn, leafSlot, noneOf, branchIn, branchSlot}
 use Rattle.arena.specs.Node.{valueFor}
 use Rattle.nodes.specs.Values.{valueAt}

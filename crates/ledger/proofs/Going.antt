@@ -2,13 +2,13 @@
 use mathlib.Core.Path.{_≡_, refl, sym, ap, _∙_, subst}
 use mathlib.Core.Logic.{_≢_, _⊎_, inr, _↔_}
 use mathlib.Core.List.{List, []}
-use Prim.Native.Nat.{ℕ, suc, _+_, _≤_}
+use Prim.Native.Nat.{ℕ, suc, _+_, _≤_, _<_}
 use native.Mathlib.Decide.{decLt}
 use native.Mathlib.Omega.{arith}
 use lib.ListN.{length}
 use Rattle.nodes.specs.Tally.{Live, kidsOf, occ}
 use Rattle.nodes.specs.Words.{own, holds, slot, floor, wordOf}
-use Rattle.nodes.proofs.Counts.{Counts, live-same, kid-live, live-nonzero, live-own, tally-pos, occ-bare}
+use Rattle.nodes.proofs.Counts.{Counts, live-same, kid-live, live-own, tally-pos, occ-bare}
 use Rattle.nodes.proofs.Frame.{Under, total-nil, frame-refl, lives-iff}
 use Rattle.nodes.proofs.Sums.{cases}
 use Rattle.arena.specs.Calls.{Out, heldAt, leafSlot, internLeafOf, holdOf, releaseOf, lessOf, takes, branchSlot, internBranchOf, unheld, placed}
@@ -17,9 +17,9 @@ use Rattle.arena.proofs.Fits.{live-is, room-yes}
 use Rattle.arena.proofs.Ids.{node-low}
 use Rattle.arena.proofs.Inv.{wf-counts}
 use Rattle.arena.proofs.Releasing.{Released, release-released}
-use Rattle.ledger.specs.Ledger.{Call, release, Handed, outcome, on, ifAccepted, takesOf, holdsOn}
-use Rattle.ledger.specs.Fates.{Lives, Same, Grew, heldLeft}
-use Rattle.ledger.proofs.Balance.{call-well, call-effect, leaf-grew, branch-grew, branch-held-grew, leaf-adds, branch-adds, eased-word, less-on, released-old}
+use Rattle.ledger.specs.Ledger.{on, ifAccepted, holdsOn}
+use Rattle.ledger.specs.Fates.{Lives, Grew}
+use Rattle.ledger.proofs.Balance.{leaf-grew, branch-grew, branch-held-grew, leaf-adds, branch-adds, eased-word, less-on, released-kept, released-old}
 use Rattle.ledger.proofs.Effects.{grew-refl, was-live, holds-live, holds-dead, on-zero, accepted, unaccepted}
 use Rattle.ledger.proofs.Ladders.{leaf-ways, branch-ways, hold-ways, release-ways}
 use Rattle.ledger.proofs.Writes.{held-cap, held-word, held-grew}
@@ -53,34 +53,6 @@ unlive-exactly n tallest t m w y d = (
   where
     c : Counts 8 (cap t) (W t) []
     c = wf-counts n tallest t m w
-
-module _ (n tallest : ℕ) (m : n ≤ 8) (pos : 1 ≤ n) (low : tallest ≤ 6) (t : Tables) (w : WellFormed n tallest t) (c : Call) (h : Handed n c) where
-  -- The capacity stays.
-  pub call-size : cap (outcome n tallest t c .after) ≡ cap t
-  call-size = call-effect n tallest m pos low t w c h .size
-
-  -- A call takes no more holds than there are.
-  pub takes-no-more : (y : ℕ) → takesOf (outcome n tallest t c) c y ≤ holdsOn t y
-  takes-no-more y = call-effect n tallest m pos low t w c h .affords y
-
-  -- The holds afterwards are those before, less those the call takes, plus those it grants.
-  pub held-left : (y : ℕ) → holdsOn (outcome n tallest t c .after) y ≡ heldLeft t (outcome n tallest t c) c y
-  unfolding heldLeft
-  held-left y = omega (arith, call-effect n tallest m pos low t w c h .balance y, takes-no-more y)
-
-  -- A node goes in a call exactly if, once the call has taken and granted, nobody holds it and no node that is there afterwards has it as a child.
-  pub gone-exactly : (y : ℕ) → Lives t y
-      → (Lives (outcome n tallest t c .after) y → ⊥)
-      ↔ ((heldLeft t (outcome n tallest t c) c y ≡ 0)
-      × ((b : ℕ) → Lives (outcome n tallest t c .after) b → occ y (kidsOf 8 (W (outcome n tallest t c .after)) (slot b)) ≡ 0))
-  gone-exactly y v =
-      let r = unlive-exactly n tallest (outcome n tallest t c .after) m (call-well n tallest m pos low t w c h) y (live-nonzero v) in
-      let e = held-left y in
-      ((λ g. (sym e ∙ r .0 g .0, r .0 g .1)), (λ q. r .1 (e ∙ q .0, q .1)))
-
-  -- Every node that is there before and afterwards keeps its id, its eight children, its stored value and its height.
-  pub stays : (y : ℕ) → Lives t y → Lives (outcome n tallest t c .after) y → Same t (outcome n tallest t c .after) y
-  stays y v u = call-effect n tallest m pos low t w c h .kept y v u
 
 -- ---- interning and holding end no node
 
@@ -151,14 +123,18 @@ hold-makes-none t id y =
     to : {o : Out} → holdOf t id ≡ o → (Lives (o .after) y → Lives t y) → Lives (holdOf t id .after) y → Lives t y
     to e x = subst (λ (o : Out). Lives (o .after) y → Lives t y) (sym e) x
 
--- Releasing makes no node.
-pub release-makes-none : (n tallest : ℕ) (t : Tables) → n ≤ 8 → tallest ≤ 6 → WellFormed n tallest t → (id y : ℕ) → Lives (releaseOf t id .after) y → Lives t y
-release-makes-none n tallest t m low w id y =
-    release-ways t id (λ f e. to e (λ l. l)) (λ f z e. to e (λ l. l)) (λ f z l e. to e (λ l. l)) (λ f z l r e. to e (λ l. l))
-    (λ f z l r k e. released-old n tallest t (releaseOf t id .after) id (release-released n tallest t id m low w k z) (live-is t id l) r y)
+-- Releasing makes no node: each that is there afterwards was there before, as it is.
+pub release-makes-none : (n tallest : ℕ) (t : Tables) → n ≤ 8 → tallest ≤ 6 → WellFormed n tallest t → (id : ℕ) → Grew (releaseOf t id .after) t
+release-makes-none n tallest t m low w id =
+    release-ways t id (λ f e. to e (grew-refl t)) (λ f z e. to e (grew-refl t)) (λ f z l e. to e (grew-refl t)) (λ f z l r e. to e (grew-refl t))
+    (λ f z l r k e.
+    let u = releaseOf t id .after in
+    let d = release-released n tallest t id m low w k z in
+    let v = live-is t id l in
+    record { size = sym (d .size); stays = λ y a. (released-old n tallest t u id d v r y a, (λ g b. sym (released-kept n tallest t u id d v r y a g b))) })
   where
-    to : {o : Out} → releaseOf t id ≡ o → (Lives (o .after) y → Lives t y) → Lives (releaseOf t id .after) y → Lives t y
-    to e x = subst (λ (o : Out). Lives (o .after) y → Lives t y) (sym e) x
+    to : {o : Out} → releaseOf t id ≡ o → Grew (o .after) t → Grew (releaseOf t id .after) t
+    to e x = subst (λ (o : Out). Grew (o .after) t) (sym e) x
 
 -- ---- what a release leaves, said of the tables before it
 
@@ -173,11 +149,10 @@ lives-exactly n tallest t m w y =
 
 -- what a release leaves: the nodes at or below one that is still held, once the hold is given back
 abbrev Left : Tables → ℕ → ℕ → Out → Type 0
-Left t id y o = Lives (o .after) y ↔ ((a : ℕ) × Lives t a × (1 ≤ heldLeft t o (release id) a) × Under (W t) a y)
+Left t id y o = Lives (o .after) y ↔ ((a : ℕ) × Lives t a × (ifAccepted o (on a id) < holdsOn t a) × Under (W t) a y)
 
-unchanged-left : (n tallest : ℕ) (t : Tables) → n ≤ 8 → WellFormed n tallest t → (id y k e : ℕ) → ((a : ℕ) → takesOf (record { no = k; id = e; after = t }) (release id) a ≡ 0)
+unchanged-left : (n tallest : ℕ) (t : Tables) → n ≤ 8 → WellFormed n tallest t → (id y k e : ℕ) → ((a : ℕ) → ifAccepted (record { no = k; id = e; after = t }) (on a id) ≡ 0)
     → Left t id y (record { no = k; id = e; after = t })
-unfolding heldLeft
 unchanged-left n tallest t m w id y k e none =
     let r = lives-exactly n tallest t m w y in (
       (λ v. let q = r .0 v in (q .0, q .1, (let h = q .2 in let z = none (q .0) in omega arith), q .3)),
@@ -185,7 +160,6 @@ unchanged-left n tallest t m w id y k e none =
     )
 
 released-left : (n tallest : ℕ) (t u : Tables) (id : ℕ) → Released n tallest t id u → Lives t id → W t (slot id) holds ≢ 0 → (y : ℕ) → Left t id y (record { no = 0; id = 0; after = u })
-unfolding heldLeft
 released-left n tallest t u id r v held y =
     let l = r .lives y in (
       (λ s.
@@ -199,7 +173,7 @@ released-left n tallest t u id r v held y =
 
 -- After a release a node is live exactly if, before it, it was at or below a node on which a hold is left once the one is given back.
 pub release-leaves : (n tallest : ℕ) (t : Tables) → n ≤ 8 → tallest ≤ 6 → WellFormed n tallest t → (id y : ℕ)
-    → Lives (releaseOf t id .after) y ↔ ((a : ℕ) × Lives t a × (1 ≤ heldLeft t (releaseOf t id) (release id) a) × Under (W t) a y)
+    → Lives (releaseOf t id .after) y ↔ ((a : ℕ) × Lives t a × (ifAccepted (releaseOf t id) (on a id) < holdsOn t a) × Under (W t) a y)
 release-leaves n tallest t m low w id y =
     release-ways t id
     (λ f e. to e (unchanged-left n tallest t m w id y 1 0 (λ a. unaccepted (record { no = 1; id = 0; after = t }) (on a id) (omega arith))))

@@ -8,4 +8,3 @@ pub mod Contents
 pub mod Refusals
 pub mod Recycling
 pub mod Generations
-pub mod Again

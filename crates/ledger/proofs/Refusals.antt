@@ -20,9 +20,9 @@ use Rattle.arena.specs.Node.{heightFor}
 use Rattle.arena.specs.Tables.{Tables, tables, cap, W, WellFormed, Sized}
 use Rattle.arena.proofs.Branches.{alive, affords, some-kid}
 use Rattle.arena.proofs.Fits.{live-is, fits-sized, sized-fits, room-yes}
-use Rattle.ledger.specs.Ledger.{Call, leaf, branch, hold, release, Handed, outcome, holdsOn}
+use Rattle.ledger.specs.Ledger.{holdsOn}
 use Rattle.ledger.specs.Fates.{Lives, Has}
-use Rattle.ledger.specs.Refusals.{Crowded, Full, HasIds, Why, unsized, deadChild, deadHeld, deadReleased, poorChild, poorReleased, nothing, allEmpty, tall, fullLeaf, fullBranch, fullHeld, crowdedLeaf, crowdedBranch, CountsWhy, unsizedCounts, deadCounted, FreshWhy, unsizedFresh, Lowest, Exactly}
+use Rattle.ledger.specs.Refusals.{Crowded, Full, HasIds, LeafWhy, BranchWhy, HoldWhy, ReleaseWhy, unsizedLeaf, unsizedBranch, unsizedHeld, unsizedReleased, deadChild, deadHeld, deadReleased, poorChild, poorReleased, nothing, allEmpty, tall, fullLeaf, fullBranch, fullHeld, crowdedLeaf, crowdedBranch, CountsWhy, unsizedCounts, deadCounted, FreshWhy, unsizedFresh, Lowest, Exactly}
 use Rattle.ledger.proofs.Contents.{one-has, one-of-eight-ids}
 use Rattle.ledger.proofs.Effects.{live-true, holds-live}
 use Rattle.ledger.proofs.Found.{slot-own, leaf-found, leaf-missing, branch-found, branch-missing}
@@ -31,25 +31,31 @@ use Rattle.ledger.proofs.Ladders.{Fine, leaf-made-no, branch-made-no, l
 -- ---- a refusal changes nothing
 
 -- A refusal changes nothing lent, and the arena's state stays.
-pub refused-changes-nothing : (n tallest : ℕ) (t : Tables) (c : Call) → outcome n tallest t c .no ≢ 0 → outcome n tallest t c .after ≡ t
-refused-changes-nothing n tallest t (leaf v) =
+pub leaf-refused : (t : Tables) (v : ℕ) → internLeafOf t v .no ≢ 0 → internLeafOf t v .after ≡ t
+leaf-refused t v =
     leaf-ways t v (λ f e. to e (λ d. refl)) (λ f z e. to e (λ d. refl)) (λ f z s r e. to e (λ d. absurd (d (leaf-made-no t v)))) (λ f z s r e. to e (λ d. refl)) (λ f z s r e. to e (λ d. refl))
     (λ f z s r e. to e (λ d. absurd (d refl)))
   where
     to : {o : Out} → internLeafOf t v ≡ o → (o .no ≢ 0 → o .after ≡ t) → internLeafOf t v .no ≢ 0 → internLeafOf t v .after ≡ t
     to e x = subst (λ (o : Out). o .no ≢ 0 → o .after ≡ t) (sym e) x
-refused-changes-nothing n tallest t (branch ks) =
+
+pub branch-refused : (n tallest : ℕ) (t : Tables) (ks : List ℕ) → internBranchOf n tallest t ks .no ≢ 0 → internBranchOf n tallest t ks .after ≡ t
+branch-refused n tallest t ks =
     branch-ways n tallest t ks (λ f e. to e (λ d. refl)) (λ f a e. to e (λ d. refl)) (λ f a b e. to e (λ d. refl)) (λ f a b c e. to e (λ d. refl)) (λ f a b c h e. to e (λ d. refl))
     (λ f s r e. to e (λ d. absurd (d (branch-made-no n t ks)))) (λ f s r e. to e (λ d. refl)) (λ f s r e. to e (λ d. refl)) (λ f s r e. to e (λ d. absurd (d refl)))
   where
     to : {o : Out} → internBranchOf n tallest t ks ≡ o → (o .no ≢ 0 → o .after ≡ t) → internBranchOf n tallest t ks .no ≢ 0 → internBranchOf n tallest t ks .after ≡ t
     to e x = subst (λ (o : Out). o .no ≢ 0 → o .after ≡ t) (sym e) x
-refused-changes-nothing n tallest t (hold id) =
+
+pub hold-refused : (t : Tables) (id : ℕ) → holdOf t id .no ≢ 0 → holdOf t id .after ≡ t
+hold-refused t id =
     hold-ways t id (λ f e. to e (λ d. refl)) (λ f z e. to e (λ d. refl)) (λ f z l e. to e (λ d. refl)) (λ f z l r e. to e (λ d. refl)) (λ f z l r e. to e (λ d. absurd (d refl)))
   where
     to : {o : Out} → holdOf t id ≡ o → (o .no ≢ 0 → o .after ≡ t) → holdOf t id .no ≢ 0 → holdOf t id .after ≡ t
     to e x = subst (λ (o : Out). o .no ≢ 0 → o .after ≡ t) (sym e) x
-refused-changes-nothing n tallest t (release id) =
+
+pub release-refused : (t : Tables) (id : ℕ) → releaseOf t id .no ≢ 0 → releaseOf t id .after ≡ t
+release-refused t id =
     release-ways t id (λ f e. to e (λ d. refl)) (λ f z e. to e (λ d. refl)) (λ f z l e. to e (λ d. refl)) (λ f z l r e. to e (λ d. refl)) (λ f z l r k e. to e (λ d. absurd (d refl)))
   where
     to : {o : Out} → releaseOf t id ≡ o → (o .no ≢ 0 → o .after ≡ t) → releaseOf t id .no ≢ 0 → releaseOf t id .after ≡ t
@@ -118,18 +124,18 @@ room-no t e = let p = ltb-false (t .arena .live) (cap t - 1) e in omega arith
 
 -- ---- hold and release, on any tables
 
-module _ (n tallest : ℕ) (t : Tables) (id : ℕ) where
-  held-why : {B : Type 0} (j : ℕ) → Why n tallest t (hold id) j → (j ≡ 1 → (Sized t → ⊥) → B) → (j ≡ 4 → id ≢ 0 → (Lives t id → ⊥) → B) → (j ≡ 10 → Lives t id → Full t id → B) → B
-  held-why j (unsized u) a b c = a refl u
+module _ (t : Tables) (id : ℕ) where
+  held-why : {B : Type 0} (j : ℕ) → HoldWhy t id j → (j ≡ 1 → (Sized t → ⊥) → B) → (j ≡ 4 → id ≢ 0 → (Lives t id → ⊥) → B) → (j ≡ 10 → Lives t id → Full t id → B) → B
+  held-why j (unsizedHeld u) a b c = a refl u
   held-why j (deadHeld d l) a b c = b refl d l
   held-why j (fullHeld l f) a b c = c refl l f
 
   -- Hold: refusals 1, 4, 10, each given exactly if it is the lowest that applies. On any tables.
-  pub hold-refusals : Exactly (Why n tallest t (hold id)) (holdOf t id .no)
+  pub hold-refusals : Exactly (HoldWhy t id) (holdOf t id .no)
   hold-refusals =
       hold-ways t id
       (λ f e. exactly-as A (holdOf t id .no) 1 (ap (λ (o : Out). o .no) e)
-      (lowest-exactly A 1 (omega arith) (record { this = unsized (not-sized t f); lower = λ j l w. held-why j w (λ p u. omega arith) (λ p d u. omega arith) (λ p v u. omega arith) })))
+      (lowest-exactly A 1 (omega arith) (record { this = unsizedHeld (not-sized t f); lower = λ j l w. held-why j w (λ p u. omega arith) (λ p d u. omega arith) (λ p v u. omega arith) })))
       (λ f z e. exactly-as A (holdOf t id .no) 0 (ap (λ (o : Out). o .no) e)
       (none-exactly A 0 refl (λ j w. held-why j w (λ p u. u (fits-sized t f)) (λ p d u. d z) (λ p v u. live-nonzero v z))))
       (λ f z l e. exactly-as A (holdOf t id .no) 4 (ap (λ (o : Out). o .no) e)
@@ -143,19 +149,19 @@ module _ (n tallest : ℕ) (t : Tables) (id : ℕ) where
       (none-exactly A 0 refl (λ j w. held-why j w (λ p u. u (fits-sized t f)) (λ p d u. u (live-is t id l)) (λ p v u. let h = full-no t (slot id) r in omega arith))))
     where
       A : ℕ → Type 0
-      A = Why n tallest t (hold id)
+      A = HoldWhy t id
 
-  released-why : {B : Type 0} (j : ℕ) → Why n tallest t (release id) j → (j ≡ 1 → (Sized t → ⊥) → B) → (j ≡ 4 → id ≢ 0 → (Lives t id → ⊥) → B) → (j ≡ 5 → id ≢ 0 → holdsOn t id < 1 → B) → B
-  released-why j (unsized u) a b c = a refl u
+  released-why : {B : Type 0} (j : ℕ) → ReleaseWhy t id j → (j ≡ 1 → (Sized t → ⊥) → B) → (j ≡ 4 → id ≢ 0 → (Lives t id → ⊥) → B) → (j ≡ 5 → id ≢ 0 → holdsOn t id < 1 → B) → B
+  released-why j (unsizedReleased u) a b c = a refl u
   released-why j (deadReleased d l) a b c = b refl d l
   released-why j (poorReleased d h) a b c = c refl d h
 
   -- Release: refusals 1, 4, 5, each given exactly if it is the lowest that applies. On any tables.
-  pub release-refusals : Exactly (Why n tallest t (release id)) (releaseOf t id .no)
+  pub release-refusals : Exactly (ReleaseWhy t id) (releaseOf t id .no)
   release-refusals =
       release-ways t id
       (λ f e. exactly-as A (releaseOf t id .no) 1 (ap (λ (o : Out). o .no) e)
-      (lowest-exactly A 1 (omega arith) (record { this = unsized (not-sized t f); lower = λ j l w. released-why j w (λ p u. omega arith) (λ p d u. omega arith) (λ p v u. omega arith) })))
+      (lowest-exactly A 1 (omega arith) (record { this = unsizedReleased (not-sized t f); lower = λ j l w. released-why j w (λ p u. omega arith) (λ p d u. omega arith) (λ p v u. omega arith) })))
       (λ f z e. exactly-as A (releaseOf t id .no) 0 (ap (λ (o : Out). o .no) e)
       (none-exactly A 0 refl (λ j w. released-why j w (λ p u. u (fits-sized t f)) (λ p d u. d z) (λ p d u. d z))))
       (λ f z l e. exactly-as A (releaseOf t id .no) 4 (ap (λ (o : Out). o .no) e)
@@ -169,7 +175,7 @@ module _ (n tallest : ℕ) (t : Tables) (id : ℕ) where
       (none-exactly A 0 refl (λ j w. released-why j w (λ p u. u (fits-sized t f)) (λ p d u. u (live-is t id l)) (λ p d u. r (omega (arith, holds-live t id (live-is t id l)))))))
     where
       A : ℕ → Type 0
-      A = Why n tallest t (release id)
+      A = ReleaseWhy t id
 
 -- ---- intern leaf
 
@@ -179,17 +185,17 @@ fair-well n tallest t (inl u) f = absurd (true≢false (sym f ∙ u))
 fair-well n tallest t (inr w) f = w
 
 module _ (n tallest : ℕ) (t : Tables) (m : n ≤ 8) (fair : Fair n tallest t) (v : ℕ) where
-  leaf-why : {B : Type 0} (j : ℕ) → Why n tallest t (leaf v) j → (j ≡ 1 → (Sized t → ⊥) → B) → (j ≡ 6 → v ≡ 0 → B)
+  leaf-why : {B : Type 0} (j : ℕ) → LeafWhy t v j → (j ≡ 1 → (Sized t → ⊥) → B) → (j ≡ 6 → v ≡ 0 → B)
       → (j ≡ 10 → (y : ℕ) → Has t y empties v → Full t y → B) → (j ≡ 11 → ((y : ℕ) → Has t y empties v → ⊥) → Crowded t → B) → B
-  leaf-why j (unsized u) a b c d = a refl u
+  leaf-why j (unsizedLeaf u) a b c d = a refl u
   leaf-why j (nothing z) a b c d = b refl z
   leaf-why j (fullLeaf y h f) a b c d = c refl y h f
   leaf-why j (crowdedLeaf h f) a b c d = d refl h f
 
-  abbrev LeafWhy : ℕ → Type 0
-  LeafWhy = Why n tallest t (leaf v)
+  abbrev Leaf : ℕ → Type 0
+  Leaf = LeafWhy t v
 
-  leaf-full : fits t ≡ true → v ≢ 0 → leafSlot t v ≢ 0 → fullOf (W t) (leafSlot t v) ≡ true → Lowest LeafWhy 10
+  leaf-full : fits t ≡ true → v ≢ 0 → leafSlot t v ≢ 0 → fullOf (W t) (leafSlot t v) ≡ true → Lowest Leaf 10
   leaf-full f z s r =
       let w = fair-well n tallest t fair f in
       let h = leaf-found n tallest t m w v s in
@@ -199,7 +205,7 @@ module _ (n tallest : ℕ) (t : Tables) (m : n ≤ 8) (fair : Fair n tallest t) 
         lower = λ j k y. leaf-why j y (λ p u. u (fits-sized t f)) (λ p x. z x) (λ p x q u. omega arith) (λ p q u. omega arith);
       }
 
-  leaf-crowded : fits t ≡ true → v ≢ 0 → leafSlot t v ≡ 0 → roomOf (t .arena) ≡ false → Lowest LeafWhy 11
+  leaf-crowded : fits t ≡ true → v ≢ 0 → leafSlot t v ≡ 0 → roomOf (t .arena) ≡ false → Lowest Leaf 11
   leaf-crowded f z s r =
       let none = leaf-missing n tallest t m (fair-well n tallest t fair f) v s in
       record {
@@ -207,12 +213,12 @@ module _ (n tallest : ℕ) (t : Tables) (m : n ≤ 8) (fair : Fair n tallest t) 
         lower = λ j k y. leaf-why j y (λ p u. u (fits-sized t f)) (λ p x. z x) (λ p x q u. none x q) (λ p q u. omega arith);
       }
 
-  leaf-fresh : fits t ≡ true → v ≢ 0 → leafSlot t v ≡ 0 → roomOf (t .arena) ≡ true → (k : ℕ) → LeafWhy k → ⊥
+  leaf-fresh : fits t ≡ true → v ≢ 0 → leafSlot t v ≡ 0 → roomOf (t .arena) ≡ true → (k : ℕ) → Leaf k → ⊥
   leaf-fresh f z s r j y =
       let none = leaf-missing n tallest t m (fair-well n tallest t fair f) v s in
       leaf-why j y (λ p u. u (fits-sized t f)) (λ p x. z x) (λ p x q u. none x q) (λ p q u. let h = room-yes (t .arena) r in omega arith)
 
-  leaf-there : fits t ≡ true → v ≢ 0 → leafSlot t v ≢ 0 → fullOf (W t) (leafSlot t v) ≡ false → (k : ℕ) → LeafWhy k → ⊥
+  leaf-there : fits t ≡ true → v ≢ 0 → leafSlot t v ≢ 0 → fullOf (W t) (leafSlot t v) ≡ false → (k : ℕ) → Leaf k → ⊥
   leaf-there f z s r j y =
       let w = fair-well n tallest t fair f in
       let h = leaf-found n tallest t m w v s in
@@ -226,24 +232,24 @@ module _ (n tallest : ℕ) (t : Tables) (m : n ≤ 8) (fair : Fair n tallest t) 
       (λ p q u. q (W t (leafSlot t v) own) (h .1))
 
   -- Intern leaf: refusals 1, 6, 10, 11, each given exactly if it is the lowest that applies.
-  pub leaf-refusals : Exactly (Why n tallest t (leaf v)) (internLeafOf t v .no)
+  pub leaf-refusals : Exactly (LeafWhy t v) (internLeafOf t v .no)
   leaf-refusals =
       leaf-ways t v
-      (λ f e. to 1 (ap (λ (o : Out). o .no) e) (lowest-exactly LeafWhy 1 (omega arith) (record {
-        this = unsized (not-sized t f);
+      (λ f e. to 1 (ap (λ (o : Out). o .no) e) (lowest-exactly Leaf 1 (omega arith) (record {
+        this = unsizedLeaf (not-sized t f);
         lower = λ j l y. leaf-why j y (λ p u. omega arith) (λ p x. omega arith) (λ p x q u. omega arith) (λ p q u. omega arith);
       })))
-      (λ f z e. to 6 (ap (λ (o : Out). o .no) e) (lowest-exactly LeafWhy 6 (omega arith) (record {
+      (λ f z e. to 6 (ap (λ (o : Out). o .no) e) (lowest-exactly Leaf 6 (omega arith) (record {
         this = nothing z;
         lower = λ j l y. leaf-why j y (λ p u. u (fits-sized t f)) (λ p x. omega arith) (λ p x q u. omega arith) (λ p q u. omega arith);
       })))
-      (λ f z s r e. to 0 (ap (λ (o : Out). o .no) e ∙ leaf-made-no t v) (none-exactly LeafWhy 0 refl (leaf-fresh f z s r)))
-      (λ f z s r e. to 11 (ap (λ (o : Out). o .no) e) (lowest-exactly LeafWhy 11 (omega arith) (leaf-crowded f z s r)))
-      (λ f z s r e. to 10 (ap (λ (o : Out). o .no) e) (lowest-exactly LeafWhy 10 (omega arith) (leaf-full f z s r)))
-      (λ f z s r e. to 0 (ap (λ (o : Out). o .no) e) (none-exactly LeafWhy 0 refl (leaf-there f z s r)))
+      (λ f z s r e. to 0 (ap (λ (o : Out). o .no) e ∙ leaf-made-no t v) (none-exactly Leaf 0 refl (leaf-fresh f z s r)))
+      (λ f z s r e. to 11 (ap (λ (o : Out). o .no) e) (lowest-exactly Leaf 11 (omega arith) (leaf-crowded f z s r)))
+      (λ f z s r e. to 10 (ap (λ (o : Out). o .no) e) (lowest-exactly Leaf 10 (omega arith) (leaf-full f z s r)))
+      (λ f z s r e. to 0 (ap (λ (o : Out). o .no) e) (none-exactly Leaf 0 refl (leaf-there f z s r)))
     where
-      to : (k : ℕ) → internLeafOf t v .no ≡ k → Exactly (Why n tallest t (leaf v)) k → Exactly (Why n tallest t (leaf v)) (internLeafOf t v .no)
-      to k e h = exactly-as (Why n tallest t (leaf v)) (internLeafOf t v .no) k e h
+      to : (k : ℕ) → internLeafOf t v .no ≡ k → Exactly (LeafWhy t v) k → Exactly (LeafWhy t v) (internLeafOf t v .no)
+      to k e h = exactly-as (LeafWhy t v) (internLeafOf t v .no) k e h
 
 -- ---- intern branch
 
@@ -284,8 +290,8 @@ all-empty (k ∷ ks) e zero = cases (ℕ-discrete k 0) (λ z. z) (λ z. absurd (
 all-empty (k ∷ ks) e (suc i) = cases (ℕ-discrete k 0) (λ z. all-empty ks (rw (eq-eqb k 0 z) at e) i) (λ z. absurd (true≢false (sym (rw (ne-eqb k 0 z) at e))))
 
 module _ (n tallest : ℕ) (t : Tables) (m : n ≤ 8) (fair : Fair n tallest t) (ks : List ℕ) (e8 : length ks ≡ 8) where
-  abbrev BranchWhy : ℕ → Type 0
-  BranchWhy = Why n tallest t (branch ks)
+  abbrev Branch : ℕ → Type 0
+  Branch = BranchWhy n tallest t ks
 
   -- what would refute each number
   record Against (j : ℕ) : Type 0 where
@@ -297,8 +303,8 @@ module _ (n tallest : ℕ) (t : Tables) (m : n ≤ 8) (fair : Fair n tallest t) 
     r10 : j ≡ 10 → (y : ℕ) → HasIds t y ks → Full t y → ⊥
     r11 : j ≡ 11 → ((y : ℕ) → HasIds t y ks → ⊥) → Crowded t → ⊥
 
-  against : (j : ℕ) → BranchWhy j → Against j → ⊥
-  against j (unsized u) a = u (a .r1 refl)
+  against : (j : ℕ) → Branch j → Against j → ⊥
+  against j (unsizedBranch u) a = u (a .r1 refl)
   against j (deadChild y d o l) a = l (a .r4 refl y d o)
   against j (poorChild y d h) a = let p = a .r5 refl y d in omega arith
   against j (allEmpty h) a = let p = a .r7 refl in p .2 (h (p .0) (p .1))
@@ -321,11 +327,11 @@ module _ (n tallest : ℕ) (t : Tables) (m : n ≤ 8) (fair : Fair n tallest t) 
   missing f s y h = branch-missing n tallest t m (fair-well n tallest t fair (f .fit)) ks e8 s y (h .0) (h .1)
 
   -- Intern branch: refusals 1, 4, 5, 7, 8, 10, 11, each given exactly if it is the lowest that applies.
-  pub branch-refusals : Exactly (Why n tallest t (branch ks)) (internBranchOf n tallest t ks .no)
+  pub branch-refusals : Exactly (BranchWhy n tallest t ks) (internBranchOf n tallest t ks .no)
   branch-refusals =
       branch-ways n tallest t ks
-      (λ f e. to 1 (ap (λ (o : Out). o .no) e) (lowest-exactly BranchWhy 1 (omega arith) (record {
-        this = unsized (not-sized t f);
+      (λ f e. to 1 (ap (λ (o : Out). o .no) e) (lowest-exactly Branch 1 (omega arith) (record {
+        this = unsizedBranch (not-sized t f);
         lower = λ j l y. against j y (record {
           r1 = λ p. absurd (omega arith);
           r4 = λ p. absurd (omega arith);
@@ -336,7 +342,7 @@ module _ (n tallest : ℕ) (t : Tables) (m : n ≤ 8) (fair : Fair n tallest t) 
           r11 = λ p. absurd (omega arith);
         });
       })))
-      (λ f a e. to 4 (ap (λ (o : Out). o .no) e) (lowest-exactly BranchWhy 4 (omega arith) (record {
+      (λ f a e. to 4 (ap (λ (o : Out). o .no) e) (lowest-exactly Branch 4 (omega arith) (record {
         this = (let d = some-dead (cap t) (W t) ks a in deadChild (d .0) (d .1) (d .2) (not-lives t (d .0) (d .3)));
         lower = λ j l y. against j y (record {
           r1 = λ p. fits-sized t f;
@@ -348,7 +354,7 @@ module _ (n tallest : ℕ) (t : Tables) (m : n ≤ 8) (fair : Fair n tallest t) 
           r11 = λ p. absurd (omega arith);
         });
       })))
-      (λ f a b e. to 5 (ap (λ (o : Out). o .no) e) (lowest-exactly BranchWhy 5 (omega arith) (record {
+      (λ f a b e. to 5 (ap (λ (o : Out). o .no) e) (lowest-exactly Branch 5 (omega arith) (record {
         this = (let d = some-poor (W t) ks b in poorChild (d .0) (d .1) (let h = d .3 in omega (arith, holds-live t (d .0) (lives a (d .0) (d .1) (d .2)))));
         lower = λ j l y. against j y (record {
           r1 = λ p. fits-sized t f;
@@ -360,7 +366,7 @@ module _ (n tallest : ℕ) (t : Tables) (m : n ≤ 8) (fair : Fair n tallest t) 
           r11 = λ p. absurd (omega arith);
         });
       })))
-      (λ f a b c e. to 7 (ap (λ (o : Out). o .no) e) (lowest-exactly BranchWhy 7 (omega arith) (record {
+      (λ f a b c e. to 7 (ap (λ (o : Out). o .no) e) (lowest-exactly Branch 7 (omega arith) (record {
         this = allEmpty (λ i l. all-empty ks c i);
         lower = λ j l y. against j y (record {
           r1 = λ p. fits-sized t f;
@@ -372,7 +378,7 @@ module _ (n tallest : ℕ) (t : Tables) (m : n ≤ 8) (fair : Fair n tallest t) 
           r11 = λ p. absurd (omega arith);
         });
       })))
-      (λ f a b c h e. to 8 (ap (λ (o : Out). o .no) e) (lowest-exactly BranchWhy 8 (omega arith) (record {
+      (λ f a b c h e. to 8 (ap (λ (o : Out). o .no) e) (lowest-exactly Branch 8 (omega arith) (record {
         this = tall h;
         lower = λ j l y. against j y (record {
           r1 = λ p. fits-sized t f;
@@ -384,7 +390,7 @@ module _ (n tallest : ℕ) (t : Tables) (m : n ≤ 8) (fair : Fair n tallest t) 
           r11 = λ p. absurd (omega arith);
         });
       })))
-      (λ f s r e. to 0 (ap (λ (o : Out). o .no) e ∙ branch-made-no n t ks) (none-exactly BranchWhy 0 refl (λ j y. against j y (record {
+      (λ f s r e. to 0 (ap (λ (o : Out). o .no) e ∙ branch-made-no n t ks) (none-exactly Branch 0 refl (λ j y. against j y (record {
         r1 = λ p. fits-sized t (f .fit);
         r4 = λ p. lives (f .live);
         r5 = λ p. rich (f .live) (f .held);
@@ -393,7 +399,7 @@ module _ (n tallest : ℕ) (t : Tables) (m : n ≤ 8) (fair : Fair n tallest t) 
         r10 = λ p y h u. missing f s y h;
         r11 = λ p h u. (let q = room-yes (t .arena) r in omega arith);
       }))))
-      (λ f s r e. to 11 (ap (λ (o : Out). o .no) e) (lowest-exactly BranchWhy 11 (omega arith) (record {
+      (λ f s r e. to 11 (ap (λ (o : Out). o .no) e) (lowest-exactly Branch 11 (omega arith) (record {
         this = crowdedBranch (missing f s) (room-no t r);
         lower = λ j l y. against j y (record {
           r1 = λ p. fits-sized t (f .fit);
@@ -405,7 +411,7 @@ module _ (n tallest : ℕ) (t : Tables) (m : n ≤ 8) (fair : Fair n tallest t) 
           r11 = λ p. absurd (omega arith);
         });
       })))
-      (λ f s r e. to 10 (ap (λ (o : Out). o .no) e) (lowest-exactly BranchWhy 10 (omega arith) (
+      (λ f s r e. to 10 (ap (λ (o : Out). o .no) e) (lowest-exactly Branch 10 (omega arith) (
       let w = fair-well n tallest t fair (f .fit) in
       let h = branch-found n tallest t m w ks e8 (f .some) s in
       let q = slot-own n tallest t m w (branchSlot t ks) (h .0) in
@@ -421,7 +427,7 @@ module _ (n tallest : ℕ) (t : Tables) (m : n ≤ 8) (fair : Fair n tallest t) 
           r11 = λ p. absurd (omega arith);
         });
       })))
-      (λ f s r e. to 0 (ap (λ (o : Out). o .no) e) (none-exactly BranchWhy 0 refl (λ j y.
+      (λ f s r e. to 0 (ap (λ (o : Out). o .no) e) (none-exactly Branch 0 refl (λ j y.
       let w = fair-well n tallest t fair (f .fit) in
       let h = branch-found n tallest t m w ks e8 (f .some) s in
       let q = slot-own n tallest t m w (branchSlot t ks) (h .0) in
@@ -439,16 +445,8 @@ module _ (n tallest : ℕ) (t : Tables) (m : n ≤ 8) (fair : Fair n tallest t) 
         r11 = λ p g u. g (W t (branchSlot t ks) own) (h .1 .live, h .1 .kids);
       }))))
     where
-      to : (k : ℕ) → internBranchOf n tallest t ks .no ≡ k → Exactly (Why n tallest t (branch ks)) k → Exactly (Why n tallest t (branch ks)) (internBranchOf n tallest t ks .no)
-      to k e h = exactly-as (Why n tallest t (branch ks)) (internBranchOf n tallest t ks .no) k e h
-
--- What each number says: every call's refusals, each given exactly if it is the lowest that applies, and accepted exactly if none does. On tables
--- that are not sized, and on well-formed ones.
-pub refusals : (n tallest : ℕ) (t : Tables) → n ≤ 8 → Fair n tallest t → (c : Call) → Handed n c → Exactly (Why n tallest t c) (outcome n tallest t c .no)
-refusals n tallest t m fair (leaf v) h = leaf-refusals n tallest t m fair v
-refusals n tallest t m fair (branch ks) h = branch-refusals n tallest t m fair ks (h .0)
-refusals n tallest t m fair (hold id) h = hold-refusals n tallest t id
-refusals n tallest t m fair (release id) h = release-refusals n tallest t id
+      to : (k : ℕ) → internBranchOf n tallest t ks .no ≡ k → Exactly (BranchWhy n tallest t ks) k → Exactly (BranchWhy n tallest t ks) (internBranchOf n tallest t ks .no)
+      to k e h = exactly-as (BranchWhy n tallest t ks) (internBranchOf n tallest t ks .no) k e h
 
 -- ---- counts, and a fresh arena
 
@@ -497,10 +495,10 @@ fresh-refusals c k f e =
 pub dead-refused : (n tallest : ℕ) (t : Tables) (y : ℕ) → Sized t → y ≢ 0 → (Lives t y → ⊥)
     → (holdOf t y .no ≡ 4) × (releaseOf t y .no ≡ 4) × (countsOf t y .no ≡ 4) × ((ks : List ℕ) → 1 ≤ occ y ks → internBranchOf n tallest t ks .no ≡ 4)
 dead-refused n tallest t y z d dead = (
-  hold-refusals n tallest t y .refused 4 (omega arith) .1
-      (record { this = deadHeld d dead; lower = λ j l w. held-why n tallest t y j w (λ p u. u z) (λ p q u. omega arith) (λ p q u. omega arith) }),
-  release-refusals n tallest t y .refused 4 (omega arith) .1
-      (record { this = deadReleased d dead; lower = λ j l w. released-why n tallest t y j w (λ p u. u z) (λ p q u. omega arith) (λ p q u. omega arith) }),
+  hold-refusals t y .refused 4 (omega arith) .1
+      (record { this = deadHeld d dead; lower = λ j l w. held-why t y j w (λ p u. u z) (λ p q u. omega arith) (λ p q u. omega arith) }),
+  release-refusals t y .refused 4 (omega arith) .1
+      (record { this = deadReleased d dead; lower = λ j l w. released-why t y j w (λ p u. u z) (λ p q u. omega arith) (λ p q u. omega arith) }),
   counts-refusals t y .refused 4 (omega arith) .1
       (record { this = deadCounted d dead; lower = λ j l w. counts-why t y j w (λ p u. u z) (λ p q u. omega arith) }),
   (λ ks o. branch-ways n tallest t ks

@@ -13,7 +13,7 @@ use Rattle.nodes.specs.Words.{Nodes, own, value, holds, places, slot, floor, wo
 use Rattle.nodes.proofs.Access.{Within, put-same, put-slot, put-field, put-less, written-others, written-kid, written-fact}
 use Rattle.nodes.proofs.Counts.{Others, live-inj, live-nonzero}
 use Rattle.nodes.proofs.Sums.{cases, occ-nil, occ-cons, occ-here, occ-there}
-use Rattle.finding.proofs.Contents.{kids-are}
+use Rattle.find.proofs.Contents.{kids-are}
 use Rattle.arena.specs.Calls.{heldAt, freshFacts, each, unheldKid, placedKid, unheld, placed, slotGiven}
 use Rattle.arena.specs.Tables.{Tables, tablesOf, cap, W, Sized}
 use Rattle.arena.specs.declared.Arena.{Arena}

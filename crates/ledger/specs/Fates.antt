@@ -1,7 +1,7 @@
 -- What becomes of a node in a call, what a content is, and how often a slot was recycled.
 use mathlib.Core.Path.{_≡_}
 use mathlib.Core.List.{List}
-use Prim.Native.Nat.{ℕ, zero, suc, _+_, _-_, _<_}
+use Prim.Native.Nat.{ℕ, zero, suc, _<_}
 use lib.Dec.{leb, ltb}
 use Rattle.basics.specs.Pick.{pick}
 use Rattle.nodes.specs.Tally.{Live, kidsOf}
@@ -9,15 +9,10 @@ use Rattle.nodes.specs.Words.{own, value, holds, slot, floor}
 use Rattle.arena.specs.Calls.{Out}
 use Rattle.arena.specs.Node.{nextGeneration}
 use Rattle.arena.specs.Tables.{Tables, cap, W}
-use Rattle.ledger.specs.Ledger.{Call, Handed, outcome, grants, takesOf, holdsOn}
 
 -- y is the id of a node now in the arena
 abbrev pub Lives : Tables → ℕ → Type 0
 Lives t y = Live (cap t) (W t) y
-
--- the holds on y before the call, less those it takes, plus those it grants
-unfoldable pub heldLeft : Tables → Out → Call → ℕ → ℕ
-heldLeft t o c y = holdsOn t y - takesOf o c y + grants o c y
 
 -- y has the same id, eight children, stored value and height in u as in t: all its words but the two counts (and the link and the spare word)
 abbrev pub Same : Tables → Tables → ℕ → Type 0
@@ -53,9 +48,3 @@ turned (suc k) g = nextGeneration (turned k g)
 -- 1 if the node in slot s ended between t and u: it was live and the slot is not; else 0
 unfoldable pub ended : Tables → Tables → ℕ → ℕ
 ended t u s = pick (leb floor (W t s own)) (pick (ltb (W u s own) floor) 1 0) 0
-
--- u is reached from t by calls, which have recycled each slot so often
-pub data Later (n tallest : ℕ) (t : Tables) : Tables → (ℕ → ℕ) → Type 0 where
-  now : Later n tallest t t (λ s. 0)
-  then : {u : Tables} {times : ℕ → ℕ} → Later n tallest t u times → (c : Call) → Handed n c
-      → Later n tallest t (outcome n tallest u c .after) (λ s. times s + ended u (outcome n tallest u c .after) s)

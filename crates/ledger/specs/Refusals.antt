@@ -9,7 +9,7 @@ use Rattle.nodes.specs.Words.{holds, slot}
 use Rattle.arena.specs.Calls.{empties, fresh}
 use Rattle.arena.specs.Node.{heightFor}
 use Rattle.arena.specs.Tables.{Tables, tables, cap, W, Sized}
-use Rattle.ledger.specs.Ledger.{Call, leaf, branch, hold, release, holdsOn}
+use Rattle.ledger.specs.Ledger.{holdsOn}
 use Rattle.ledger.specs.Fates.{Lives, Has}
 
 -- no free slot: capacity - 1 - live is 0
@@ -24,30 +24,43 @@ Full t y = 1000000 ≤ W t (slot y) holds
 abbrev pub HasIds : Tables → ℕ → List ℕ → Type 0
 HasIds t y ks = Lives t y × (kidsOf 8 (W t) (slot y) ≡ ks)
 
--- a number applies to a call
-pub data Why (n tallest : ℕ) (t : Tables) : Call → ℕ → Type 0 where
-  -- 1: capacity out of range, or a table's length isn't the one fixed for that capacity
-  unsized : {c : Call} → (Sized t → ⊥) → Why n tallest t c 1
-  -- 4: an id is neither EMPTY nor live
-  deadChild : {ks : List ℕ} (y : ℕ) → y ≢ 0 → 1 ≤ occ y ks → (Lives t y → ⊥) → Why n tallest t (branch ks) 4
-  deadHeld : {id : ℕ} → id ≢ 0 → (Lives t id → ⊥) → Why n tallest t (hold id) 4
-  deadReleased : {id : ℕ} → id ≢ 0 → (Lives t id → ⊥) → Why n tallest t (release id) 4
-  -- 5: fewer holds than the call would take: one for each place of a child, one to release
-  poorChild : {ks : List ℕ} (y : ℕ) → y ≢ 0 → holdsOn t y < occ y ks → Why n tallest t (branch ks) 5
-  poorReleased : {id : ℕ} → id ≢ 0 → holdsOn t id < 1 → Why n tallest t (release id) 5
-  -- 6: interning a leaf of value 0
-  nothing : {v : ℕ} → v ≡ 0 → Why n tallest t (leaf v) 6
-  -- 7: eight EMPTY children
-  allEmpty : {ks : List ℕ} → ((i : ℕ) → i < 8 → getD ks i 0 ≡ 0) → Why n tallest t (branch ks) 7
-  -- 8: new branch taller than allowed
-  tall : {ks : List ℕ} → tallest < heightFor n (W t) ks → Why n tallest t (branch ks) 8
-  -- 10: the caller would be granted a hold on a node that already has 1,000,000
-  fullLeaf : {v : ℕ} (y : ℕ) → Has t y empties v → Full t y → Why n tallest t (leaf v) 10
-  fullBranch : {ks : List ℕ} (y : ℕ) → HasIds t y ks → Full t y → Why n tallest t (branch ks) 10
-  fullHeld : {id : ℕ} → Lives t id → Full t id → Why n tallest t (hold id) 10
-  -- 11: more nodes of the result not yet live than free slots: the one asked for is not there, and there is no free slot
-  crowdedLeaf : {v : ℕ} → ((y : ℕ) → Has t y empties v → ⊥) → Crowded t → Why n tallest t (leaf v) 11
-  crowdedBranch : {ks : List ℕ} → ((y : ℕ) → HasIds t y ks → ⊥) → Crowded t → Why n tallest t (branch ks) 11
+-- 1: capacity out of range, or a table's length isn't the one fixed for that capacity
+-- 4: an id is neither EMPTY nor live
+-- 5: fewer holds than the call would take: one for each place of a child, one to release
+-- 6: interning a leaf of value 0
+-- 7: eight EMPTY children
+-- 8: new branch taller than allowed
+-- 10: the caller would be granted a hold on a node that already has 1,000,000
+-- 11: more nodes of the result not yet live than free slots: the one asked for is not there, and there is no free slot
+
+-- a number applies to interning a leaf of the value v
+pub data LeafWhy (t : Tables) (v : ℕ) : ℕ → Type 0 where
+  unsizedLeaf : (Sized t → ⊥) → LeafWhy t v 1
+  nothing : v ≡ 0 → LeafWhy t v 6
+  fullLeaf : (y : ℕ) → Has t y empties v → Full t y → LeafWhy t v 10
+  crowdedLeaf : ((y : ℕ) → Has t y empties v → ⊥) → Crowded t → LeafWhy t v 11
+
+-- a number applies to interning a branch of the ids ks
+pub data BranchWhy (n tallest : ℕ) (t : Tables) (ks : List ℕ) : ℕ → Type 0 where
+  unsizedBranch : (Sized t → ⊥) → BranchWhy n tallest t ks 1
+  deadChild : (y : ℕ) → y ≢ 0 → 1 ≤ occ y ks → (Lives t y → ⊥) → BranchWhy n tallest t ks 4
+  poorChild : (y : ℕ) → y ≢ 0 → holdsOn t y < occ y ks → BranchWhy n tallest t ks 5
+  allEmpty : ((i : ℕ) → i < 8 → getD ks i 0 ≡ 0) → BranchWhy n tallest t ks 7
+  tall : tallest < heightFor n (W t) ks → BranchWhy n tallest t ks 8
+  fullBranch : (y : ℕ) → HasIds t y ks → Full t y → BranchWhy n tallest t ks 10
+  crowdedBranch : ((y : ℕ) → HasIds t y ks → ⊥) → Crowded t → BranchWhy n tallest t ks 11
+
+-- a number applies to a hold of id
+pub data HoldWhy (t : Tables) (id : ℕ) : ℕ → Type 0 where
+  unsizedHeld : (Sized t → ⊥) → HoldWhy t id 1
+  deadHeld : id ≢ 0 → (Lives t id → ⊥) → HoldWhy t id 4
+  fullHeld : Lives t id → Full t id → HoldWhy t id 10
+
+-- a number applies to a release of id
+pub data ReleaseWhy (t : Tables) (id : ℕ) : ℕ → Type 0 where
+  unsizedReleased : (Sized t → ⊥) → ReleaseWhy t id 1
+  deadReleased : id ≢ 0 → (Lives t id → ⊥) → ReleaseWhy t id 4
+  poorReleased : id ≢ 0 → holdsOn t id < 1 → ReleaseWhy t id 5
 
 -- a number applies to asking for the counts of id
 pub data CountsWhy (t : Tables) (id : ℕ) : ℕ → Type 0 where

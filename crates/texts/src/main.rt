@@ -105,7 +105,7 @@ fn id_line(raw: u64) {
     say(b"id ");
     say_raw(raw);
     say(b": ");
-    let text = naming::text(BlockId(raw));
+    let text = ids_text::text(BlockId(raw));
     let bytes = text.bytes;
     say_start(&bytes, text.len);
     say(b"\n");

@@ -1,4 +1,4 @@
-//! The arena's calls, as crates/arena_capi exports them, on tables that the caller lends.
+//! The arena's calls, as crates/capi_arena exports them, on tables that the caller lends.
 
 /// An arena's state, which goes by value beside its tables.
 #[repr(C)]
@@ -113,7 +113,7 @@ unsafe extern "C" {
 /// Calls an exported function with the tables as it takes them.
 macro_rules! call {
     ($function:ident($first:expr, $tables:ident $(, $last:expr)?)) => {
-        // SAFETY: crates/arena_capi defines the function with these types, and proves that it is safe on any tables.
+        // SAFETY: crates/capi_arena defines the function with these types, and proves that it is safe on any tables.
         unsafe {
             $function(
                 $first,

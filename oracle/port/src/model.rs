@@ -1,4 +1,4 @@
-//! The arena check, lookup, expansion and the edit, as crates/model_capi exports them, on tables that the caller lends.
+//! The arena check, lookup, expansion and the edit, as crates/capi_model exports them, on tables that the caller lends.
 use crate::arena::{Arena, Made, Tables};
 
 /// The place of a cell.
@@ -72,7 +72,7 @@ unsafe extern "C" {
 /// Calls an exported function with the tables as it takes them.
 macro_rules! call {
     ($function:ident($first:expr, $tables:ident $(, $last:expr)*)) => {
-        // SAFETY: crates/model_capi defines the function with these types, and proves that it is safe on any tables.
+        // SAFETY: crates/capi_model defines the function with these types, and proves that it is safe on any tables.
         unsafe {
             $function(
                 $first,

@@ -27,7 +27,7 @@ pub struct Tables<'a> {
     pub find: &'a [u16],
 }
 
-/// The first cell in which the port's search looks for a content, by crates/hashing. No answer depends on it, but whether a search finds a node does.
+/// The first cell in which the port's search looks for a content, by crates/find_hash. No answer depends on it, but whether a search finds a node does.
 pub fn home(capacity: usize, children: &[u64], value: u64) -> usize {
     let mix = |hash: u64, child: &u64| hash.wrapping_mul(37).wrapping_add(*child);
     let low = children[..4].iter().fold(value, mix);

@@ -6,9 +6,9 @@ use borrow.Author.Tests.{eq-eqb, ne-eqb}
 use Rattle.arena.specs.Calls.{Out, said}
 use Rattle.arena.specs.Tables.{tables}
 use Rattle.arena.specs.declared.Arena.{Arena}
-use Rattle.renewing.specs.Models.{makeAt}
+use Rattle.edit_make.specs.Models.{makeAt}
 use Rattle.edit.specs.Models.{grantOf, answerBy}
-use Rattle.planning.specs.declared.Plan.{Plan}
+use Rattle.edit_plan.specs.declared.Plan.{Plan}
 use Rattle.edit.proofs.answer.Statement.{statement}
 use Rattle.edit.proofs.answer.Tie as tie
 

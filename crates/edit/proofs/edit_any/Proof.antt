@@ -6,8 +6,8 @@ use Rattle.basics.proofs.Rungs.{eq-via, ne-via}
 use Rattle.arena.specs.Calls.{Out, refused}
 use Rattle.arena.specs.Tables.{tables}
 use Rattle.arena.specs.declared.Arena.{Arena}
-use Rattle.planning.specs.Models.{resultBy}
-use Rattle.planning.specs.declared.Plan.{Plan}
+use Rattle.edit_plan.specs.Models.{resultBy}
+use Rattle.edit_plan.specs.declared.Plan.{Plan}
 use Rattle.edit.specs.Models.{editNoAt, editPast, editBy}
 use Rattle.edit.proofs.edit_any.Statement.{statement}
 use Rattle.edit.proofs.edit_any.Tie as tie

@@ -9,7 +9,7 @@ use Rattle.nodes.specs.Words.{factOf, wordOf, nodes}
 use Rattle.nodes.specs.Values.{heightAt}
 use Rattle.arena.specs.Tables.{tables}
 use Rattle.arena.specs.declared.Arena.{Arena}
-use Rattle.reading.specs.Models.{lookNoAt}
+use Rattle.read_cell.specs.Models.{lookNoAt}
 use Rattle.edit.specs.Models.{editNoAt}
 use Rattle.edit.proofs.edit_no.Statement.{statement}
 use Rattle.edit.proofs.edit_no.Tie as tie

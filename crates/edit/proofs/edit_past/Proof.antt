@@ -7,7 +7,7 @@ use Rattle.arena.specs.Calls.{Out, refused}
 use Rattle.arena.specs.Tables.{tables}
 use Rattle.arena.specs.declared.Arena.{Arena}
 use Rattle.edit.specs.Models.{grantBy, answerBy, editPast}
-use Rattle.planning.specs.declared.Plan.{Plan}
+use Rattle.edit_plan.specs.declared.Plan.{Plan}
 use Rattle.edit.proofs.edit_past.Statement.{statement}
 use Rattle.edit.proofs.edit_past.Tie as tie
 

@@ -9,7 +9,7 @@ use Rattle.arena.specs.Calls.{fullOf}
 use Rattle.arena.specs.Tables.{tables}
 use Rattle.arena.specs.declared.Arena.{Arena}
 use Rattle.edit.specs.Models.{grantBy}
-use Rattle.planning.specs.declared.Plan.{Plan}
+use Rattle.edit_plan.specs.declared.Plan.{Plan}
 use Rattle.edit.proofs.grant_no.Statement.{statement}
 use Rattle.edit.proofs.grant_no.Tie as tie
 

@@ -1,0 +1,29 @@
+use borrow.Author.Needs.{needs}
+use mathlib.Core.Path.{_≡_}
+use mathlib.Core.List.{List}
+use Prim.Native.Nat.{ℕ}
+use borrow.Author.Tests.{eq-eqb, ne-eqb}
+use Rattle.arena.specs.Calls.{Out, made}
+use Rattle.arena.specs.Models.{branchAt, branchHitBy, branchMissBy}
+use Rattle.arena.specs.Tables.{tables}
+use Rattle.arena.specs.declared.Arena.{Arena}
+use Rattle.arena.specs.declared.Made.{Made}
+use Rattle.arena_branch.proofs.branch_at.Statement.{statement}
+use Rattle.arena_branch.proofs.branch_at.Tie as tie
+
+module _ (a : Arena) (k f e ks : List ℕ) (v up s at : ℕ) where
+  miss : (x : Out) → s ≡ 0 → x ≡ branchMissBy (tables a k f e) ks v up at → x ≡ branchAt (tables a k f e) ks v up s at
+  unfolding branchAt
+  miss x z h = rw (eq-eqb s 0 z) h
+
+  found : (r : Made) (f′ : List ℕ) → (s ≡ 0 → ⊥) → ((j g : List ℕ) → made r j f′ g ≡ branchHitBy (tables a j f g) ks s) → made r k f′ e ≡ branchAt (tables a k f e) ks v up s at
+  unfolding branchAt
+  found r f′ z h = rw (ne-eqb s 0 z) (h k e)
+
+ruleset mine = (miss, found)
+
+pub branch-at-spec : {M : Type 1} → statement M
+branch-at-spec =
+    tie.close
+    (tie.spec (λ c κs. search needs) (λ c. search needs) (λ c. search needs) (λ c. search needs) (λ c. search mine)
+    (λ c κs. search needs) (λ c. search needs) (λ c. search mine))

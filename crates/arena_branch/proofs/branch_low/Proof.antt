@@ -1,0 +1,31 @@
+use borrow.Author.Needs.{needs}
+use mathlib.Core.Path.{_≡_, sym, _∙_}
+use mathlib.Core.List.{List}
+use Prim.Native.Nat.{ℕ, _≤_, _<_}
+use borrow.Author.Tests.{lt-ltb, le-ltb}
+use Rattle.nodes.specs.Words.{factOf, nodes, wordOf}
+use Rattle.arena.specs.Calls.{Out, refused}
+use Rattle.arena.specs.Models.{branchBy, branchLow, topFor}
+use Rattle.arena.specs.Tables.{tables}
+use Rattle.arena.specs.declared.Arena.{Arena}
+use Rattle.new_value.proofs.Facts.{top-facts}
+use Rattle.arena_branch.proofs.branch_low.Statement.{statement}
+use Rattle.arena_branch.proofs.branch_low.Tie as tie
+
+module _ (a : Arena) (k f e ks : List ℕ) (top : ℕ) (et : top ≡ topFor (factOf f) ks 8) where
+  top-is : topFor (wordOf (nodes k f)) ks 8 ≡ top
+  top-is = sym (et ∙ top-facts k f ks)
+
+  tall : 6 ≤ top → refused 8 (tables a k f e) ≡ branchLow 8 6 (tables a k f e) ks
+  unfolding branchLow
+  tall l = rw (top-is, le-ltb top 6 l)
+
+  fine : (w : Out) → top < 6 → w ≡ branchBy 8 (tables a k f e) ks top → w ≡ branchLow 8 6 (tables a k f e) ks
+  unfolding branchLow
+  fine w l h = rw (top-is, lt-ltb top 6 l) h
+
+pub branch-low-spec : {M : Type 1} → statement M
+branch-low-spec =
+    tie.close
+    (tie.spec (λ c κs. search needs) (λ c κs. search needs) (λ c. search needs) (λ c. search needs)
+    (λ c. search needs) (λ c. search fine) (λ c. search needs) (λ c. search tall))

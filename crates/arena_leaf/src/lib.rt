@@ -1,0 +1,136 @@
+// Intern leaf: the live leaf of a value if there is one, else a fresh one. What it answers and leaves is in the crate arena's specs/Calls.antt.
+use arena::Arena;
+use arena::Made;
+use arena::fit;
+use arena::less;
+use find::put_cell;
+use find::search_leaf;
+use ids::BlockId;
+use new_slot::fresh_slot;
+use new_slot::give;
+use new_slot::leaf_id;
+use nodes::HOLDS;
+use nodes::OWN;
+use nodes::fact;
+use nodes_write::put_fact;
+use nodes_write::write_slot;
+ghost use mathlib.Core.Path.{_≡_};
+ghost use mathlib.Core.List.{List};
+ghost use Prim.Native.Nat.{ℕ, _≤_};
+ghost use Rattle.arena.specs.Calls.{made, Fair, internLeafOf};
+ghost use Rattle.arena.specs.Models.{hitBy, leafMissBy, leafAt, leafBy, internLeafBy};
+ghost use Rattle.arena.specs.Tables.{tables};
+
+// Eight EMPTY children.
+const NONE: [u64; 8] = [0, 0, 0, 0, 0, 0, 0, 0];
+
+// One hold more on the node in slot s, which is there already.
+fn hit(a: Arena, facts: &mut [u64], s: usize) -> Made
+    ensures { λ r. ⌜ ((k e : List ℕ) → made r k (now (facts .exit)) e ≡ hitBy (tables a k (now (facts .entry)) e) s) ⌝ }
+{
+    let h = fact(facts, s, HOLDS);
+    if 1000000 <= h {
+        return Made {
+            no: 10,
+            id: BlockId::INVALID,
+            arena: a,
+        };
+    }
+    let o = fact(facts, s, OWN);
+    put_fact(facts, s, HOLDS, h + 1);
+    Made {
+        no: 0,
+        id: BlockId(o),
+        arena: a,
+    }
+}
+
+// A fresh leaf, named in the cell `at`; refusal 11 where no slot is free.
+fn leaf_miss(
+    a: Arena,
+    kids: &mut [u64],
+    facts: &mut [u64],
+    find: &mut [u16],
+    v: u64,
+    at: usize,
+) -> Made
+    ensures { λ r. ⌜ made r (now (kids .exit)) (now (facts .exit)) (now (find .exit)) ≡ leafMissBy (tables a (now (kids .entry)) (now (facts .entry)) (now (find .entry))) v at ⌝ }
+{
+    if (a.live as u64) < less(a.capacity as u64) {
+        let s = fresh_slot(a);
+        let id = leaf_id(s, fact(facts, s, OWN));
+        let b = give(a, facts);
+        write_slot(kids, facts, s, NONE, [id, v, 0, 1, 0, 0, 0]);
+        put_cell(find, at, s);
+        return Made {
+            no: 0,
+            id: BlockId(id),
+            arena: b,
+        };
+    }
+    Made {
+        no: 11,
+        id: BlockId::INVALID,
+        arena: a,
+    }
+}
+
+// The leaf of value v, once the search has ended at the cell `at`, which names s.
+fn leaf_at(
+    a: Arena,
+    kids: &mut [u64],
+    facts: &mut [u64],
+    find: &mut [u16],
+    v: u64,
+    s: usize,
+    at: usize,
+) -> Made
+    ensures { λ r. ⌜ made r (now (kids .exit)) (now (facts .exit)) (now (find .exit)) ≡ leafAt (tables a (now (kids .entry)) (now (facts .entry)) (now (find .entry))) v s at ⌝ }
+{
+    if s == 0 {
+        return leaf_miss(a, kids, facts, find, v, at);
+    }
+    hit(a, facts, s)
+}
+
+// The leaf of value v: the live node if there is one, else a fresh one.
+fn leaf(a: Arena, kids: &mut [u64], facts: &mut [u64], find: &mut [u16], v: u64) -> Made
+    ensures { λ r. ⌜ made r (now (kids .exit)) (now (facts .exit)) (now (find .exit)) ≡ leafBy (tables a (now (kids .entry)) (now (facts .entry)) (now (find .entry))) v ⌝ }
+{
+    let f = search_leaf(find, kids, facts, a.capacity, v);
+    leaf_at(a, kids, facts, find, v, f.slot, f.cell)
+}
+
+// Intern leaf on any tables.
+fn leaf_any(a: Arena, kids: &mut [u64], facts: &mut [u64], find: &mut [u16], value: u16) -> Made
+    ensures { λ r. ⌜ made r (now (kids .exit)) (now (facts .exit)) (now (find .exit)) ≡ internLeafBy (tables a (now (kids .entry)) (now (facts .entry)) (now (find .entry))) value ⌝ }
+{
+    if fit(a.capacity, kids.len(), facts.len(), find.len()) {
+        if value == 0 {
+            return Made {
+                no: 6,
+                id: BlockId::INVALID,
+                arena: a,
+            };
+        }
+        return leaf(a, kids, facts, find, value as u64);
+    }
+    Made {
+        no: 1,
+        id: BlockId::INVALID,
+        arena: a,
+    }
+}
+
+// Intern leaf: the live node of that value if there is one, else a fresh one; the caller gets one hold.
+pub fn intern_leaf(
+    arena: Arena,
+    kids: &mut [u64],
+    facts: &mut [u64],
+    find: &mut [u16],
+    value: u16,
+) -> Made
+    ensures { λ r. ⌜ ((n tallest : ℕ) → n ≤ 8 → Fair n tallest (tables arena (now (kids .entry)) (now (facts .entry)) (now (find .entry))) → made r (now (kids .exit)) (now (facts .exit)) (now (find .exit)) ≡ internLeafOf (tables arena (now (kids .entry)) (now (facts .entry)) (now (find .entry))) value) ⌝ }
+{
+    leaf_any(arena, kids, facts, find, value)
+}

@@ -1,0 +1,50 @@
+-- What interning a leaf, interning a branch, hold and release do.
+use mathlib.Core.Path.{_≡_}
+use mathlib.Core.List.{List}
+use Prim.Native.Nat.{ℕ, _≤_, _<_}
+use lib.Dec.{eqb}
+use lib.ListN.{length, getD}
+use Rattle.basics.specs.Pick.{pick}
+use Rattle.ids.specs.Ids.{generationOf}
+use Rattle.nodes.specs.Tally.{occ}
+use Rattle.nodes.specs.Words.{own}
+use Rattle.arena.specs.Calls.{internLeafOf, internBranchOf, holdOf, releaseOf}
+use Rattle.arena.specs.Tables.{Tables, W, WellFormed}
+use Rattle.arena.proofs.Branching.{branch-well}
+use Rattle.arena.proofs.Holding.{hold-well}
+use Rattle.arena.proofs.Leaves.{leaf-well}
+use Rattle.arena.proofs.Releasing.{release-well}
+use Rattle.ledger.specs.Ledger.{on, ifAccepted, Balanced}
+use Rattle.ledger.specs.Fates.{Grew, ended}
+use Rattle.ledger.proofs.Balance.{leaf-balanced, branch-balanced, hold-balanced, release-balanced}
+use Rattle.ledger.proofs.Generations.{leaf-same-gens, branch-same-gens, hold-same-gens, release-advances}
+use Rattle.ledger.proofs.Going.{leaf-ends-none, branch-ends-none, hold-ends-none, release-makes-none}
+use Rattle.calls.specs.Does.{Does}
+use Rattle.calls.proofs.Once.{grew-extends, grown, shrunk}
+
+module _ (n tallest : ℕ) (m : n ≤ 8) (t : Tables) (w : WellFormed n tallest t) where
+  grew : {u : Tables} {g k : ℕ → ℕ} → WellFormed n tallest u → Grew t u → Balanced t u g k → ((s : ℕ) → generationOf (W u s own) ≡ generationOf (W t s own))
+      → Does n tallest t u g k (ended t u)
+  grew {u} {g} {k} v e = grown n tallest m t u w (grew-extends n m e) g k v (e .size)
+
+  -- Interning a leaf grants one hold on the leaf.
+  pub leaf-does : (v : ℕ) → v ≤ 65535
+      → Does n tallest t (internLeafOf t v .after) (λ y. ifAccepted (internLeafOf t v) (on y (internLeafOf t v .id))) (λ y. 0) (ended t (internLeafOf t v .after))
+  leaf-does v h = grew (leaf-well n tallest t v m h w) (leaf-ends-none n tallest t m w v) (leaf-balanced n tallest t m w v) (leaf-same-gens n tallest t m w v)
+
+  -- Interning a branch grants one on the branch, and takes one for each child place that isn't EMPTY.
+  pub branch-does : 1 ≤ n → (ks : List ℕ) → length ks ≡ 8 → ((i : ℕ) → n ≤ i → i < 8 → getD ks i 0 ≡ 0)
+      → Does n tallest t (internBranchOf n tallest t ks .after) (λ y. ifAccepted (internBranchOf n tallest t ks) (on y (internBranchOf n tallest t ks .id)))
+      (λ y. ifAccepted (internBranchOf n tallest t ks) (pick (eqb y 0) 0 (occ y ks))) (ended t (internBranchOf n tallest t ks .after))
+  branch-does pos ks e z =
+      grew (branch-well n tallest t ks m pos e z w) (branch-ends-none n tallest t m w ks e) (branch-balanced n tallest t m w ks e) (branch-same-gens n tallest t m w ks e)
+
+  -- A hold grants one.
+  pub hold-does : (id : ℕ) → Does n tallest t (holdOf t id .after) (λ y. ifAccepted (holdOf t id) (on y id)) (λ y. 0) (ended t (holdOf t id .after))
+  hold-does id = grew (hold-well n tallest t id m w) (hold-ends-none t id) (hold-balanced n tallest t w id) (hold-same-gens t id)
+
+  -- A release takes one.
+  pub release-does : tallest ≤ 6 → (id : ℕ) → Does n tallest t (releaseOf t id .after) (λ y. 0) (λ y. ifAccepted (releaseOf t id) (on y id)) (ended t (releaseOf t id .after))
+  release-does low id =
+      shrunk n tallest m t (releaseOf t id .after) w (λ y. 0) (λ y. ifAccepted (releaseOf t id) (on y id)) (release-well n tallest t id m low w)
+      (release-makes-none n tallest t m low w id) (release-balanced n tallest t m low w id) (release-advances n tallest t m low w id)

@@ -1,0 +1,24 @@
+-- The cells of a cube: where each stands, and what expansion writes.
+use mathlib.Core.Path.{_≡_}
+use mathlib.Core.List.{List}
+use Prim.Native.Nat.{ℕ, _+_, _*_, _^_}
+use lib.ListN.{length, getD}
+use Rattle.paths.specs.declared.IVec3.{IVec3}
+use Rattle.paths.specs.Paths.{place}
+use Rattle.tree.specs.Demand.{At}
+use Rattle.arena.specs.Tables.{Tables}
+use Rattle.read_cell.specs.Calls.{expandOf}
+
+-- where a cell stands
+abbrev pub spot : {d : ℕ} → At d → IVec3
+spot c = place (c .x) (c .y) (c .z)
+
+-- where the cell stands in the list that expansion writes
+abbrev pub standsAt : {d : ℕ} → At d → ℕ
+standsAt {d} c = c .y * 4 ^ d + c .z * 2 ^ d + c .x
+
+-- Expansion of a into a lent list l is accepted, and what it writes are F's numbers, cell for cell.
+pub record Expands (d : ℕ) (t : Tables) (a : ℕ) (l : List ℕ) (F : At d → ℕ) : Type 0 where
+  pub accepted : expandOf t a d l .no ≡ 0
+  pub size : length (expandOf t a d l .cube) ≡ 8 ^ d
+  pub cells : (c : At d) → getD (expandOf t a d l .cube) (standsAt c) 0 ≡ F c

@@ -1,0 +1,95 @@
+// The arena for C and Rust: each function calls the one of its name in the crates `arena_hold`, `arena_leaf`, `arena_branch` and `arena_release`, and its contract
+// cites the same definition. A slice goes as its address and its length, an id as its raw number, eight ids as a struct that holds them.
+ghost use mathlib.Core.Path.{_≡_};
+ghost use Prim.Native.Nat.{ℕ, _≤_};
+ghost use Rattle.arena.specs.Tables.{tables};
+ghost use Rattle.arena.specs.Calls.{made, answered, counted, Fair, rawIds, freshOf, internLeafOf, internBranchOf, holdOf, releaseOf, countsOf};
+use arena::Answer;
+use arena::Arena;
+use arena::Counted;
+use arena::Made;
+use ids::BlockId;
+
+// The eight child ids of a branch. An array alone can't be passed.
+#[repr(C)]
+pub struct Children {
+    pub ids: [BlockId; 8],
+}
+
+#[no_mangle]
+pub extern "C" fn fenpiling_fresh(
+    capacity: usize,
+    kids: &mut [u64],
+    facts: &mut [u64],
+    find: &mut [u16],
+) -> Answer
+    ensures { λ r. ⌜ answered r (now (kids .exit)) (now (facts .exit)) (now (find .exit)) ≡ freshOf capacity (now (kids .entry)) (now (facts .entry)) (now (find .entry)) ⌝ }
+{
+    arena_hold::fresh(capacity, kids, facts, find)
+}
+
+#[no_mangle]
+pub extern "C" fn fenpiling_intern_leaf(
+    arena: Arena,
+    kids: &mut [u64],
+    facts: &mut [u64],
+    find: &mut [u16],
+    value: u16,
+) -> Made
+    ensures { λ r. ⌜ ((n tallest : ℕ) → n ≤ 8 → Fair n tallest (tables arena (now (kids .entry)) (now (facts .entry)) (now (find .entry))) → made r (now (kids .exit)) (now (facts .exit)) (now (find .exit)) ≡ internLeafOf (tables arena (now (kids .entry)) (now (facts .entry)) (now (find .entry))) value) ⌝ }
+{
+    arena_leaf::intern_leaf(arena, kids, facts, find, value)
+}
+
+#[no_mangle]
+pub extern "C" fn fenpiling_intern_branch(
+    arena: Arena,
+    kids: &mut [u64],
+    facts: &mut [u64],
+    find: &mut [u16],
+    children: Children,
+) -> Made
+    ensures { λ r. ⌜ (Fair 8 6 (tables arena (now (kids .entry)) (now (facts .entry)) (now (find .entry))) → made r (now (kids .exit)) (now (facts .exit)) (now (find .exit)) ≡ internBranchOf 8 6 (tables arena (now (kids .entry)) (now (facts .entry)) (now (find .entry))) (rawIds (children .ids))) ⌝ }
+{
+    let ids = children.ids;
+    arena_branch::intern_branch(arena, kids, facts, find, ids)
+}
+
+#[no_mangle]
+pub extern "C" fn fenpiling_hold(
+    arena: Arena,
+    kids: &[u64],
+    facts: &mut [u64],
+    find: &[u16],
+    id: u64,
+) -> Answer
+    ensures { λ r. ⌜ answered r (now (kids .entry)) (now (facts .exit)) (now (find .entry)) ≡ holdOf (tables arena (now (kids .entry)) (now (facts .entry)) (now (find .entry))) id ⌝ }
+{
+    arena_hold::hold(arena, kids, facts, find, BlockId(id))
+}
+
+#[no_mangle]
+pub extern "C" fn fenpiling_release(
+    arena: Arena,
+    kids: &mut [u64],
+    facts: &mut [u64],
+    find: &mut [u16],
+    id: u64,
+) -> Answer
+    ensures { λ r. ⌜ ((n tallest : ℕ) → n ≤ 8 → tallest ≤ 6 → Fair n tallest (tables arena (now (kids .entry)) (now (facts .entry)) (now (find .entry))) → answered r (now (kids .exit)) (now (facts .exit)) (now (find .exit)) ≡ releaseOf (tables arena (now (kids .entry)) (now (facts .entry)) (now (find .entry))) id) ⌝ }
+{
+    arena_release::release(arena, kids, facts, find, BlockId(id))
+}
+
+#[no_mangle]
+pub extern "C" fn fenpiling_counts(
+    arena: Arena,
+    kids: &[u64],
+    facts: &[u64],
+    find: &[u16],
+    id: u64,
+) -> Counted
+    ensures { λ r. ⌜ counted r ≡ countsOf (tables arena (now (kids .entry)) (now (facts .entry)) (now (find .entry))) id ⌝ }
+{
+    arena_hold::counts(arena, kids, facts, find, BlockId(id))
+}

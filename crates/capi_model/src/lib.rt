@@ -1,0 +1,81 @@
+// Whole models for C and Rust: the arena check, lookup, expansion and the edit. Each function calls the one it stands for in the crates `check_arena`,
+// `read_cell`, `read_cube` and `edit`, and its contract cites the same definition. A slice goes as its address and its length, an id as its raw number.
+ghost use mathlib.Core.Path.{_≡_};
+ghost use mathlib.Core.Bool.{true};
+ghost use mathlib.Core.Logic.{_↔_};
+ghost use Rattle.arena.specs.Tables.{tables, WellFormed};
+ghost use Rattle.arena.specs.Calls.{made, Fair};
+ghost use Rattle.read_cell.specs.Calls.{lookOf, expanded, expandOf};
+ghost use Rattle.edit.specs.Edit.{editOf};
+use arena::Arena;
+use arena::Made;
+use ids::BlockId;
+use paths::IVec3;
+use read_cell::Looked;
+
+#[no_mangle]
+pub extern "C" fn fenpiling_check(
+    arena: Arena,
+    kids: &[u64],
+    facts: &mut [u64],
+    find: &[u16],
+) -> bool
+    ensures { λ r. ⌜ ((r ≡ true) ↔ WellFormed 8 6 (tables arena (now (kids .entry)) (now (facts .entry)) (now (find .entry)))) × (now (facts .exit) ≡ now (facts .entry)) ⌝ }
+{
+    check_arena::check_arena(arena, kids, facts, find)
+}
+
+#[no_mangle]
+pub extern "C" fn fenpiling_get_at_depth(
+    arena: Arena,
+    kids: &[u64],
+    facts: &[u64],
+    find: &[u16],
+    id: u64,
+    depth: u32,
+    position: IVec3,
+) -> Looked
+    ensures { λ r. ⌜ r ≡ lookOf (tables arena (now (kids .entry)) (now (facts .entry)) (now (find .entry))) id depth position ⌝ }
+{
+    read_cell::get_at_depth(arena, kids, facts, find, BlockId(id), depth, position)
+}
+
+#[no_mangle]
+pub extern "C" fn fenpiling_to_vec(
+    arena: Arena,
+    kids: &[u64],
+    facts: &[u64],
+    find: &[u16],
+    id: u64,
+    depth: u32,
+    cube: &mut [u16],
+) -> u32
+    ensures { λ r. ⌜ expanded r (now (cube .exit)) ≡ expandOf (tables arena (now (kids .entry)) (now (facts .entry)) (now (find .entry))) id depth (now (cube .entry)) ⌝ }
+{
+    read_cube::to_vec(arena, kids, facts, find, BlockId(id), depth, cube)
+}
+
+#[no_mangle]
+pub extern "C" fn fenpiling_set_voxel(
+    arena: Arena,
+    kids: &mut [u64],
+    facts: &mut [u64],
+    find: &mut [u16],
+    root: u64,
+    depth: u32,
+    position: IVec3,
+    value: u16,
+) -> Made
+    ensures { λ r. ⌜ (Fair 8 6 (tables arena (now (kids .entry)) (now (facts .entry)) (now (find .entry))) → made r (now (kids .exit)) (now (facts .exit)) (now (find .exit)) ≡ editOf (tables arena (now (kids .entry)) (now (facts .entry)) (now (find .entry))) root depth position value) ⌝ }
+{
+    edit::set_voxel(
+        arena,
+        kids,
+        facts,
+        find,
+        BlockId(root),
+        depth,
+        position,
+        value,
+    )
+}

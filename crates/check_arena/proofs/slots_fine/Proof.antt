@@ -1,0 +1,20 @@
+use borrow.Author.Needs.{needs}
+use Prim.Native.Nat.{_-_}
+use mathlib.Core.Path.{_≡_, refl}
+use Rattle.check_freed.specs.Models.{allIn}
+use Rattle.check_arena.specs.Models.{slotFine}
+use Rattle.check_freed.proofs.Passes.{pass-on, pass-stop, pass-end}
+use Rattle.check_arena.proofs.slots_fine.Statement.{statement}
+use Rattle.check_arena.proofs.slots_fine.Tie as tie
+
+abbrev Inv-loop : tie.InvT-loop
+Inv-loop kids facts arena n tallest s₀ s = allIn 0 (arena .capacity) (slotFine kids facts (arena .capacity) (arena .next) n tallest) ≡ allIn s (arena .capacity) (slotFine kids facts (arena .capacity) (arena .next) n tallest)
+
+abbrev μ-loop : tie.MeasureT-loop
+μ-loop kids facts arena n tallest s₀ s = (arena .capacity) - s
+
+pub slots-fine-spec : {M : Type 1} → statement M
+slots-fine-spec =
+    tie.close
+    (tie.spec Inv-loop μ-loop (λ c. refl) (λ c κs. search needs) (λ c. search pass-stop) (λ c. search needs) (λ c. search needs)
+    (λ c. search pass-on) (λ c. search pass-end))

@@ -1,0 +1,106 @@
+// The finding table of any tables, whatever they hold, in one pass over its cells and one over the slots. See the crate check_freed' specs/Models.antt.
+use arena::Arena;
+use find::Found;
+use find::cell;
+use find::search;
+use nodes::OWN;
+use nodes::VALUE;
+use nodes::children;
+use nodes::fact;
+use check_freed::FLOOR;
+ghost use mathlib.Core.Path.{_≡_};
+ghost use lib.ListN.{length, getD};
+ghost use Rattle.check_freed.specs.Models.{allIn, cellFor, liveAt, namedAt, cellFine, foundAt, findFine};
+
+// Slot s has a live node.
+fn lives(facts: &[u64], capacity: usize, s: usize) -> bool
+    ensures { λ r. ⌜ r ≡ liveAt (now (facts .entry)) capacity s ⌝ }
+{
+    if capacity <= s {
+        return false;
+    }
+    FLOOR <= fact(facts, s, OWN)
+}
+
+// Searches for the content of slot s.
+fn search_for(kids: &[u64], facts: &[u64], find: &[u16], capacity: usize, s: usize) -> Found
+    ensures { λ r. ⌜ (r .cell ≡ cellFor (now (kids .entry)) (now (facts .entry)) (now (find .entry)) capacity s) × (r .slot ≡ getD (now (find .entry)) (cellFor (now (kids .entry)) (now (facts .entry)) (now (find .entry)) capacity s) 0) ⌝ }
+{
+    search(
+        find,
+        kids,
+        facts,
+        capacity,
+        children(kids, s),
+        fact(facts, s, VALUE),
+    )
+}
+
+// Slot s is live, and the search for its content ends at cell p.
+fn is_at(kids: &[u64], facts: &[u64], find: &[u16], capacity: usize, s: usize, p: usize) -> bool
+    ensures { λ r. ⌜ r ≡ namedAt (now (kids .entry)) (now (facts .entry)) (now (find .entry)) capacity s p ⌝ }
+{
+    if !lives(facts, capacity, s) {
+        return false;
+    }
+    search_for(kids, facts, find, capacity, s).cell == p
+}
+
+// Cell p is empty, or names a live slot, and no other cell does: the search for the slot's content ends there.
+fn cell_fine(kids: &[u64], facts: &[u64], find: &[u16], capacity: usize, p: usize) -> bool
+    ensures { λ r. ⌜ r ≡ cellFine (now (kids .entry)) (now (facts .entry)) (now (find .entry)) capacity p ⌝ }
+{
+    let s = cell(find, p);
+    if s == 0 {
+        return true;
+    }
+    is_at(kids, facts, find, capacity, s, p)
+}
+
+// The finding table names live slots only, each once.
+fn cells_fine(kids: &[u64], facts: &[u64], find: &[u16], capacity: usize) -> bool
+    ensures { λ r. ⌜ r ≡ allIn 0 (length (now (find .entry))) (cellFine (now (kids .entry)) (now (facts .entry)) (now (find .entry)) capacity) ⌝ }
+{
+    let mut p: usize = 0;
+    while p < find.len() {
+        if !cell_fine(kids, facts, find, capacity, p) {
+            return false;
+        }
+        p += 1;
+    }
+    true
+}
+
+// The search finds the node in slot s, if it is live: so no other has equal content.
+fn is_found(kids: &[u64], facts: &[u64], find: &[u16], capacity: usize, s: usize) -> bool
+    ensures { λ r. ⌜ r ≡ foundAt (now (kids .entry)) (now (facts .entry)) (now (find .entry)) capacity s ⌝ }
+{
+    if !lives(facts, capacity, s) {
+        return true;
+    }
+    search_for(kids, facts, find, capacity, s).slot == s
+}
+
+// The search finds every live node; no two have equal content.
+fn all_found(kids: &[u64], facts: &[u64], find: &[u16], capacity: usize) -> bool
+    ensures { λ r. ⌜ r ≡ allIn 0 capacity (foundAt (now (kids .entry)) (now (facts .entry)) (now (find .entry)) capacity) ⌝ }
+{
+    let mut s: usize = 0;
+    while s < capacity {
+        if !is_found(kids, facts, find, capacity, s) {
+            return false;
+        }
+        s += 1;
+    }
+    true
+}
+
+// The finding table names live slots only, each once, and the search finds every live node.
+pub fn find_fine(kids: &[u64], facts: &[u64], find: &[u16], arena: Arena) -> bool
+    ensures { λ r. ⌜ r ≡ findFine arena (now (kids .entry)) (now (facts .entry)) (now (find .entry)) ⌝ }
+{
+    if !cells_fine(kids, facts, find, arena.capacity) {
+        return false;
+    }
+    all_found(kids, facts, find, arena.capacity)
+}

@@ -1,0 +1,19 @@
+use borrow.Author.Needs.{needs}
+use Prim.Native.Nat.{_-_}
+use mathlib.Core.Path.{_≡_, refl}
+use Rattle.check_freed.specs.Models.{allIn, agreeAt}
+use Rattle.check_freed.proofs.Passes.{pass-on, pass-stop, pass-end}
+use Rattle.check_places.proofs.all_agree.Statement.{statement}
+use Rattle.check_places.proofs.all_agree.Tie as tie
+
+abbrev Inv-loop : tie.InvT-loop
+Inv-loop facts c s₀ s = allIn 0 c (agreeAt facts) ≡ allIn s c (agreeAt facts)
+
+abbrev μ-loop : tie.MeasureT-loop
+μ-loop facts c s₀ s = c - s
+
+pub all-agree-spec : {M : Type 1} → statement M
+all-agree-spec =
+    tie.close
+    (tie.spec Inv-loop μ-loop (λ c. refl) (λ c κs. search needs) (λ c. search pass-stop) (λ c. search needs) (λ c. search needs)
+    (λ c. search pass-on) (λ c. search pass-end))

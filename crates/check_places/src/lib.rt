@@ -1,0 +1,110 @@
+// The tally of all nodes of any tables, whatever they hold, in three passes over the slots: a counter in the link word of live slots, 0 before and 0
+// again after. See the crate check_freed' specs/Models.antt.
+use arena::slot_of;
+use nodes::LINK;
+use nodes::OWN;
+use nodes::PLACES;
+use nodes::children;
+use nodes::fact;
+use check_freed::FLOOR;
+use std::num::wrapping_add_u64;
+use nodes_write::put_fact;
+ghost use mathlib.Core.Path.{_≡_};
+ghost use Prim.Native.Nat.{_+_};
+ghost use Rattle.find_hash.specs.Hash.{wrap};
+ghost use Rattle.check_freed.specs.Models.{allIn, bumped, bumps, countTo, cleared, clearTo, agreeAt};
+
+// One more. (A counter never comes near 2^64.)
+fn more(x: u64) -> u64
+    ensures { λ r. ⌜ r ≡ wrap (x + 1) ⌝ }
+{
+    wrapping_add_u64(x, 1)
+}
+
+// A child place that names y, or EMPTY.
+fn bump(facts: &mut [u64], y: u64)
+    ensures { λ _. ⌜ now (facts .exit) ≡ bumped (now (facts .entry)) y ⌝ }
+{
+    if y == 0 {
+        return;
+    }
+    let s = slot_of(y);
+    put_fact(facts, s, LINK, more(fact(facts, s, LINK)));
+}
+
+// The eight child places of a slot.
+fn bump_all(facts: &mut [u64], ks: [u64; 8])
+    ensures { λ _. ⌜ now (facts .exit) ≡ bumps (now (facts .entry)) ks ⌝ }
+{
+    let mut i: usize = 0;
+    while i < 8 {
+        bump(facts, ks[i]);
+        i += 1;
+    }
+}
+
+// Counts the child places of the slots below c.
+fn count_all(kids: &[u64], facts: &mut [u64], c: usize)
+    ensures { λ _. ⌜ now (facts .exit) ≡ countTo (now (kids .entry)) (now (facts .entry)) c ⌝ }
+{
+    let mut s: usize = 0;
+    while s < c {
+        bump_all(facts, children(kids, s));
+        s += 1;
+    }
+}
+
+// Sets the counter of slot s to 0 again, if it is live.
+fn clear_link(facts: &mut [u64], s: usize)
+    ensures { λ _. ⌜ now (facts .exit) ≡ cleared (now (facts .entry)) s ⌝ }
+{
+    if FLOOR <= fact(facts, s, OWN) {
+        put_fact(facts, s, LINK, 0);
+    }
+}
+
+// Sets the counters of the live slots below c to 0 again.
+fn clear_links(facts: &mut [u64], c: usize)
+    ensures { λ _. ⌜ now (facts .exit) ≡ clearTo (now (facts .entry)) c ⌝ }
+{
+    let mut s: usize = 0;
+    while s < c {
+        clear_link(facts, s);
+        s += 1;
+    }
+}
+
+// Slot s is not live, or its places equal its counter.
+fn agrees(facts: &[u64], s: usize) -> bool
+    ensures { λ r. ⌜ r ≡ agreeAt (now (facts .entry)) s ⌝ }
+{
+    if FLOOR <= fact(facts, s, OWN) {
+        return fact(facts, s, PLACES) == fact(facts, s, LINK);
+    }
+    true
+}
+
+// The places of each live slot below c equal its counter.
+fn all_agree(facts: &[u64], c: usize) -> bool
+    ensures { λ r. ⌜ r ≡ allIn 0 c (agreeAt (now (facts .entry))) ⌝ }
+{
+    let mut s: usize = 0;
+    while s < c {
+        if !agrees(facts, s) {
+            return false;
+        }
+        s += 1;
+    }
+    true
+}
+
+// Places equal the true tally, of the slots below c. (Of tables whose children are live or EMPTY and whose live slots have no link: then the
+// tables are as before.)
+pub fn tallies(kids: &[u64], facts: &mut [u64], c: usize) -> bool
+    ensures { λ r. ⌜ (r ≡ allIn 0 c (agreeAt (countTo (now (kids .entry)) (now (facts .entry)) c))) × (now (facts .exit) ≡ clearTo (countTo (now (kids .entry)) (now (facts .entry)) c) c) ⌝ }
+{
+    count_all(kids, facts, c);
+    let r = all_agree(facts, c);
+    clear_links(facts, c);
+    r
+}

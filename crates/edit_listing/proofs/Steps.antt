@@ -1,0 +1,113 @@
+-- One record: what it does to the state, and that fair tables stay fair.
+use mathlib.Core.Path.{_≡_, sym, ap, _∙_, subst}
+use mathlib.Core.Logic.{_≢_, inl, inr}
+use mathlib.Core.Bool.{false}
+use mathlib.Core.List.{List}
+use Prim.Native.Nat.{ℕ, _+_, _*_, _%_, _^_, _≤_, _<_}
+use native.Mathlib.Omega.{arith}
+use lib.IntN.{pos}
+use mir.Syntax.{w32}
+use mir.Val.{toZ}
+use mir.ValLaws.{toZ-ofZ}
+use borrow.Author.Tests.{eq-eqb, ne-eqb}
+use Rattle.paths.specs.declared.IVec3.{IVec3}
+use Rattle.arena.specs.Tables.{Tables, tables}
+use Rattle.arena.specs.Calls.{Out, Fair, fits, made, answered, releaseNo, releaseOf, freshOf}
+use Rattle.arena.specs.declared.Made.{Made}
+use Rattle.arena.specs.declared.Answer.{Answer}
+use Rattle.arena.proofs.Releasing.{release-well}
+use Rattle.read_cell.specs.Calls.{lookNo}
+use Rattle.edit.specs.Edit.{editNo, editOf}
+use Rattle.edit.proofs.Edits.{edit-well}
+use Rattle.edit_listing.specs.Listing.{State, stateOf, word, cellIn, counted, editIn, stepTo, stepOf, startOf}
+use Rattle.edit_listing.specs.Models.{Stepped, steppedOf}
+use Rattle.edit_listing.specs.declared.Run.{Run}
+
+-- ---- tables that are not sized stay as they are
+
+edit-unsized : (t : Tables) (root d : ℕ) (p : IVec3) (v : ℕ) → fits t ≡ false → editOf t root d p v .after ≡ t
+unfolding editOf editNo lookNo
+edit-unsized t root d p v f = rw f
+
+release-unsized : (t : Tables) (id : ℕ) → fits t ≡ false → releaseOf t id .after ≡ t
+unfolding releaseOf releaseNo
+release-unsized t id f = rw f
+
+pub edit-fair : (t : Tables) (root d : ℕ) (p : IVec3) (v : ℕ) → v < 65536 → Fair 8 6 t → Fair 8 6 (editOf t root d p v .after)
+edit-fair t root d p v h (inl f) = inl (ap fits (edit-unsized t root d p v f) ∙ f)
+edit-fair t root d p v h (inr w) = inr (edit-well t w root d p v (omega arith))
+
+pub release-fair : (t : Tables) (id : ℕ) → Fair 8 6 t → Fair 8 6 (releaseOf t id .after)
+release-fair t id (inl f) = inl (ap fits (release-unsized t id f) ∙ f)
+release-fair t id (inr w) = inr (release-well 8 6 t id (omega arith) (omega arith) w)
+
+-- ---- accepted, and refused
+
+pub step-accepted : (s : State) (o : Out) → o .no ≡ 0 → stepTo s o ≡ record { tables = releaseOf (o .after) (s .root) .after; root = o .id; count = counted (s .count) }
+unfolding stepTo
+step-accepted s o z = rw (eq-eqb (o .no) 0 z)
+
+pub step-refused : (s : State) (o : Out) → o .no ≢ 0 → stepTo s o ≡ record { tables = o .after; root = s .root; count = counted (s .count) }
+unfolding stepTo
+step-refused s o z = rw (ne-eqb (o .no) 0 z)
+
+abbrev stepBy : State → Out → Stepped
+stepBy s o = record { state = stepTo s o; no = o .no }
+
+stepped-by : (s : State) (p : IVec3) (v : ℕ) (o : Out) → o ≡ editOf (s .tables) (s .root) 6 p v → stepBy s o ≡ steppedOf s p v
+unfolding steppedOf stepOf editIn
+stepped-by s p v o e = ap (stepBy s) e
+
+count-by : (n j : ℕ) → j ≡ (n + 1) % 2 ^ 64 → j ≡ counted n
+unfolding counted
+count-by n j e = e
+
+-- ---- the code's edit and release
+
+module _ (run : Run) (k f e : List ℕ) (p : IVec3) (v : ℕ) (small : v < 65536) (m : Made) (k₁ f₁ e₁ : List ℕ)
+    (edited : Fair 8 6 (tables (run .arena) k f e) → made m k₁ f₁ e₁ ≡ editOf (tables (run .arena) k f e) (run .root .0) 6 p v)
+    (j : ℕ) (more : j ≡ (run .count + 1) % 2 ^ 64) where
+  after-edit : Fair 8 6 (tables (run .arena) k f e) → Fair 8 6 (tables (m .arena) k₁ f₁ e₁)
+  after-edit fair = subst (λ (o : Out). Fair 8 6 (o .after)) (sym (edited fair)) (edit-fair (tables (run .arena) k f e) (run .root .0) 6 p v small fair)
+
+  pub once-refused : (m .no ≡ 0 → ⊥) → Fair 8 6 (tables (run .arena) k f e)
+      → Fair 8 6 (tables (m .arena) k₁ f₁ e₁)
+      × (_≡_ {A = Stepped} (record { state = record { tables = tables (m .arena) k₁ f₁ e₁; root = run .root .0; count = j }; no = m .no }) (steppedOf (stateOf run k f e) p v))
+  once-refused z fair = (
+    after-edit fair,
+    ap (λ (i : ℕ). record { state = record { tables = tables (m .arena) k₁ f₁ e₁; root = run .root .0; count = i }; no = m .no }) (count-by (run .count) j more)
+        ∙ ap (λ (s : State). record { state = s; no = m .no }) (sym (step-refused (stateOf run k f e) (made m k₁ f₁ e₁) z))
+        ∙ stepped-by (stateOf run k f e) p v (made m k₁ f₁ e₁) (edited fair),
+  )
+
+  pub once-accepted : m .no ≡ 0 → (r : Answer) (k₂ f₂ e₂ : List ℕ)
+      → ((n tallest : ℕ) → n ≤ 8 → tallest ≤ 6 → Fair n tallest (tables (m .arena) k₁ f₁ e₁) → answered r k₂ f₂ e₂ ≡ releaseOf (tables (m .arena) k₁ f₁ e₁) (run .root .0))
+      → Fair 8 6 (tables (run .arena) k f e)
+      → Fair 8 6 (tables (r .arena) k₂ f₂ e₂)
+      × (_≡_ {A = Stepped} (record { state = record { tables = tables (r .arena) k₂ f₂ e₂; root = m .id .0; count = j }; no = 0 }) (steppedOf (stateOf run k f e) p v))
+  once-accepted z r k₂ f₂ e₂ released fair =
+      let t = tables (m .arena) k₁ f₁ e₁ in
+      let q = released 8 6 (omega arith) (omega arith) (after-edit fair) in (
+        subst (λ (o : Out). Fair 8 6 (o .after)) (sym q) (release-fair t (run .root .0) (after-edit fair)),
+        ap (λ (o : Out). record { state = record { tables = o .after; root = m .id .0; count = j }; no = 0 }) q
+            ∙ ap (λ (i : ℕ). record { state = record { tables = releaseOf t (run .root .0) .after; root = m .id .0; count = i }; no = 0 }) (count-by (run .count) j more)
+            ∙ ap (λ (s : State). record { state = s; no = 0 }) (sym (step-accepted (stateOf run k f e) (made m k₁ f₁ e₁) z))
+            ∙ ap (λ (i : ℕ). record { state = stepTo (stateOf run k f e) (made m k₁ f₁ e₁); no = i }) (sym z)
+            ∙ stepped-by (stateOf run k f e) p v (made m k₁ f₁ e₁) (edited fair),
+      )
+
+-- ---- a record, and the start
+
+-- a coordinate of 16 bits is read back as it is
+coord-is : (x v : ℕ) → x ≡ v → x < 65536 → toZ w32 x ≡ pos v
+coord-is x v e h = toZ-ofZ w32 (pos x) (record { sfits = omega arith }) ∙ ap pos e
+
+pub cell-is : (b : List ℕ) (i x y z : ℕ) → x ≡ word b (8 * i) → x < 65536 → y ≡ word b (8 * i + 2) → y < 65536 → z ≡ word b (8 * i + 4) → z < 65536
+    → _≡_ {A = IVec3} (record { x = toZ w32 x; y = toZ w32 y; z = toZ w32 z }) (cellIn b i)
+unfolding cellIn
+cell-is b i x y z ex hx ey hy ez hz = rw (coord-is x (word b (8 * i)) ex hx, coord-is y (word b (8 * i + 2)) ey hy, coord-is z (word b (8 * i + 4)) ez hz)
+
+pub start-is : (a : Answer) (c : ℕ) (k f e k₁ f₁ e₁ : List ℕ) → answered a k₁ f₁ e₁ ≡ freshOf c k f e
+    → _≡_ {A = State} (record { tables = tables (a .arena) k₁ f₁ e₁; root = 0; count = 0 }) (startOf c k f e)
+unfolding startOf
+start-is a c k f e k₁ f₁ e₁ h = ap (λ (o : Out). record { tables = o .after; root = 0; count = 0 }) h

@@ -1,0 +1,217 @@
+// The making of an edit: the nodes of the result that are not there, made anew, leaf first and upward.
+use arena::Arena;
+use arena::Made;
+use arena::slot_of;
+use find::put_cell;
+use find_hash::home_for;
+use ids::BlockId;
+use new_slot::fresh_slot;
+use new_slot::give;
+use new_slot::leaf_id;
+use new_id::branch_id;
+use nodes::OWN;
+use nodes::PLACES;
+use nodes::fact;
+use paths::octant;
+use edit_plan::parts;
+use find_remove::number_from;
+use std::num::wrapping_add_u64;
+use new_value::sums_of;
+use nodes_write::put_fact;
+use nodes_write::write_slot;
+ghost use mathlib.Core.Path.{_≡_};
+ghost use Prim.Native.Nat.{_+_, _≤_, _<_};
+ghost use Rattle.tree.specs.Cells.{cubePath};
+ghost use Rattle.arena.specs.Tables.{tables};
+ghost use Rattle.arena.specs.Calls.{made};
+ghost use Rattle.edit_make.specs.Models.{owe as oweOf, oweAll, freshBy, leafAnewBy, branchAnewBy, upBy, makeBy, makeAt};
+
+// Eight EMPTY children.
+const NONE: [u64; 8] = [0, 0, 0, 0, 0, 0, 0, 0];
+
+// One place more for the node of id; EMPTY: nothing.
+fn owe(facts: &mut [u64], id: u64)
+    ensures { λ _. ⌜ now (facts .exit) ≡ oweOf (now (facts .entry)) id ⌝ }
+{
+    if id != BlockId::EMPTY.0 {
+        let s = slot_of(id);
+        let p = fact(facts, s, PLACES);
+        put_fact(facts, s, PLACES, wrapping_add_u64(p, 1));
+    }
+}
+
+// One place more for each of the eight.
+fn owe_all(facts: &mut [u64], ks: [u64; 8])
+    ensures { λ _. ⌜ now (facts .exit) ≡ oweAll (now (facts .entry)) ks ⌝ }
+{
+    let mut i: usize = 0;
+    while i < 8 {
+        owe(facts, ks[i]);
+        i += 1;
+    }
+}
+
+// A fresh node of the id, with h holds and q places. Its slot is not named yet, so the search for it ends at the first empty cell from its home on.
+fn fresh_node(
+    a: Arena,
+    kids: &mut [u64],
+    facts: &mut [u64],
+    find: &mut [u16],
+    id: u64,
+    ks: [u64; 8],
+    v: u64,
+    up: u64,
+    h: u64,
+    q: u64,
+) -> Made
+    ensures { λ r. ⌜ made r (now (kids .exit)) (now (facts .exit)) (now (find .exit)) ≡ freshBy (tables a (now (kids .entry)) (now (facts .entry)) (now (find .entry))) id ks v up h q ⌝ }
+{
+    let s = fresh_slot(a);
+    let at = number_from(find, s, home_for(a.capacity, ks, v));
+    let b = give(a, facts);
+    write_slot(kids, facts, s, ks, [id, v, up, h, q, 0, 0]);
+    put_cell(find, at, s);
+    Made {
+        no: 0,
+        id: BlockId(id),
+        arena: b,
+    }
+}
+
+fn leaf_anew(
+    a: Arena,
+    kids: &mut [u64],
+    facts: &mut [u64],
+    find: &mut [u16],
+    v: u64,
+    h: u64,
+    q: u64,
+) -> Made
+    ensures { λ r. ⌜ made r (now (kids .exit)) (now (facts .exit)) (now (find .exit)) ≡ leafAnewBy (tables a (now (kids .entry)) (now (facts .entry)) (now (find .entry))) v h q ⌝ }
+{
+    let s = fresh_slot(a);
+    let id = leaf_id(s, fact(facts, s, OWN));
+    fresh_node(a, kids, facts, find, id, NONE, v, 0, h, q)
+}
+
+fn branch_anew(
+    a: Arena,
+    kids: &mut [u64],
+    facts: &mut [u64],
+    find: &mut [u16],
+    ks: [u64; 8],
+    h: u64,
+    q: u64,
+) -> Made
+    ensures { λ r. ⌜ made r (now (kids .exit)) (now (facts .exit)) (now (find .exit)) ≡ branchAnewBy (tables a (now (kids .entry)) (now (facts .entry)) (now (find .entry))) ks h q ⌝ }
+{
+    let s = fresh_slot(a);
+    let id = branch_id(ks, s, fact(facts, s, OWN));
+    let sums = sums_of(facts, ks);
+    let up = wrapping_add_u64(sums.top, 1);
+    fresh_node(a, kids, facts, find, id, ks, sums.value, up, h, q)
+}
+
+// The branch over the part `low`, number c, which has its place; the others get theirs.
+fn branch_over(
+    low: Made,
+    kids: &mut [u64],
+    facts: &mut [u64],
+    find: &mut [u16],
+    ks: [u64; 8],
+    c: usize,
+    h: u64,
+    q: u64,
+) -> Made
+    requires { ⌜ c < 8 ⌝ }
+    ensures { λ r. ⌜ made r (now (kids .exit)) (now (facts .exit)) (now (find .exit)) ≡ upBy (made low (now (kids .entry)) (now (facts .entry)) (now (find .entry))) ks c h q ⌝ }
+{
+    let mut others = ks;
+    others[c] = BlockId::EMPTY.0;
+    owe_all(facts, others);
+    let mut all = ks;
+    all[c] = low.id.0;
+    branch_anew(low.arena, kids, facts, find, all, h, q)
+}
+
+// The node of id, of depth d over the cell, made anew: `new` nodes upward over the part, which is there; the topmost has h holds and q places.
+// Refusal 2 of a depth above 6.
+pub fn make(
+    a: Arena,
+    kids: &mut [u64],
+    facts: &mut [u64],
+    find: &mut [u16],
+    id: u64,
+    d: u32,
+    x: u32,
+    y: u32,
+    z: u32,
+    v: u64,
+    new: u64,
+    part: u64,
+    h: u64,
+    q: u64,
+) -> Made
+    ensures { λ r. ⌜ made r (now (kids .exit)) (now (facts .exit)) (now (find .exit)) ≡ makeAt (tables a (now (kids .entry)) (now (facts .entry)) (now (find .entry))) v d x y z id new part h q ⌝ }
+{
+    if 6 < d {
+        return Made {
+            no: 2,
+            id: BlockId::INVALID,
+            arena: a,
+        };
+    }
+    if new == 0 {
+        owe(facts, part);
+        return Made {
+            no: 0,
+            id: BlockId(part),
+            arena: a,
+        };
+    }
+    if d == 0 {
+        return leaf_anew(a, kids, facts, find, v, h, q);
+    }
+    make_over(a, kids, facts, find, id, d - 1, x, y, z, v, new, part, h, q)
+}
+
+// The branch of id, its part of depth d over the cell, made anew with that part.
+fn make_over(
+    a: Arena,
+    kids: &mut [u64],
+    facts: &mut [u64],
+    find: &mut [u16],
+    id: u64,
+    d: u32,
+    x: u32,
+    y: u32,
+    z: u32,
+    v: u64,
+    new: u64,
+    part: u64,
+    h: u64,
+    q: u64,
+) -> Made
+    requires { ⌜ (d ≤ 5) × (1 ≤ new) ⌝ }
+    ensures { λ r. ⌜ made r (now (kids .exit)) (now (facts .exit)) (now (find .exit)) ≡ makeBy (tables a (now (kids .entry)) (now (facts .entry)) (now (find .entry))) v (cubePath (d + 1) x y z) id new part h q ⌝ }
+{
+    let ks = parts(kids, id);
+    let c = octant(d, x, y, z);
+    let low = make(
+        a,
+        kids,
+        facts,
+        find,
+        ks[c],
+        d,
+        x,
+        y,
+        z,
+        v,
+        new - 1,
+        part,
+        0,
+        1,
+    );
+    branch_over(low, kids, facts, find, ks, c, h, q)
+}

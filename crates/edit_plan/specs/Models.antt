@@ -1,0 +1,60 @@
+-- What the functions answer, of any tables: mirrors of the code. No reader has to believe them.
+use mathlib.Core.Bool.{Bool, false}
+use mathlib.Core.List.{List, [], _∷_}
+use Prim.Native.Nat.{ℕ, _%_, _^_}
+use lib.Dec.{eqb, leb}
+use lib.ListN.{getD, set}
+use Rattle.basics.specs.Pick.{pick}
+use Rattle.ids.specs.Ids.{isLeaf, invalid}
+use Rattle.nodes.specs.Words.{Words, own}
+use Rattle.nodes.specs.Tally.{tabFrom}
+use Rattle.tree.specs.Tree.{look}
+use Rattle.tree.specs.Cells.{cubePath}
+use Rattle.tree.specs.Anew.{part}
+use Rattle.arena.specs.Tables.{Tables, W}
+use Rattle.arena.specs.Calls.{empties, allOf}
+use Rattle.arena.specs.Models.{moreOf, cellFor, valueBy}
+use Rattle.edit_plan.specs.declared.Plan.{Plan}
+
+abbrev pub planned : ℕ → ℕ → Plan
+planned k s = record { new = k; id = s }
+
+-- the eight parts of an id
+unfoldable pub eightParts : Words → ℕ → List ℕ
+eightParts U a = tabFrom 8 0 (part U a)
+
+-- the slot that the search for a content finds
+unfoldable pub foundBy : Tables → List ℕ → ℕ → ℕ
+foundBy t ks v = getD (t .find) (cellFor t ks v) 0
+
+-- eight times one leaf
+unfoldable pub leafKids : List ℕ → Bool
+leafKids ks = pick (isLeaf (getD ks 0 0)) (allOf (eqb (getD ks 0 0)) ks) false
+
+-- ## How many nodes are to be made, and the part below them that is there
+
+-- a slot that was found has the node; none found: one is to be made over s
+unfoldable pub slotPlan : Words → ℕ → ℕ → Plan
+slotPlan U found s = pick (eqb found 0) (planned 1 s) (planned 0 (U found own))
+
+unfoldable pub cellPlan : Tables → ℕ → Plan
+cellPlan t x = pick (eqb x 0) (planned 0 0) (slotPlan (W t) (foundBy t empties x) 0)
+
+unfoldable pub needPlan : Tables → List ℕ → ℕ → Plan
+needPlan t ks s =
+    pick (allOf (eqb 0) ks) (planned 0 0) (pick (leafKids ks) (planned 0 (getD ks 0 0)) (slotPlan (W t) (foundBy t ks (valueBy 8 (W t) ks)) s))
+
+unfoldable pub upPlan : Tables → List ℕ → ℕ → Plan → Plan
+upPlan t ks c b = pick (eqb (b .new) 0) (needPlan t (set ks c (b .id)) (b .id)) (planned (moreOf (b .new)) (b .id))
+
+unfoldable pub planBy : Tables → ℕ → List ℕ → ℕ → Plan
+planBy t x [] a = cellPlan t x
+planBy t x (c ∷ p) a = upPlan t (eightParts (W t) a) c (planBy t x p (part (W t) a c))
+
+-- the plan of the cell p with the value v: the old root if it has it already
+unfoldable pub rootPlan : Tables → ℕ → List ℕ → ℕ → Plan
+rootPlan t v p root = pick (eqb (look (W t) p root % 2 ^ 16) v) (planned 0 root) (planBy t v p root)
+
+-- of the cell (x, y, z) at depth d; INVALID of a depth above 6
+unfoldable pub resultBy : Tables → ℕ → ℕ → ℕ → ℕ → ℕ → ℕ → Plan
+resultBy t v d x y z root = pick (leb d 6) (rootPlan t v (cubePath d x y z) root) (planned 0 invalid)

@@ -1,0 +1,189 @@
+// The dry run of an edit: what of the result is there already, and how many nodes are not. It changes nothing.
+use arena::Arena;
+use arena::slot_of;
+use find::search;
+use find::search_leaf;
+use ids::BlockId;
+use nodes::OWN;
+use nodes::children;
+use nodes::fact;
+use paths::octant;
+use read_cell::descend;
+use std::num::wrapping_add_u64;
+use new_value::value_at;
+use new_value::value_of;
+ghost use mathlib.Core.Path.{_≡_};
+ghost use Prim.Native.Nat.{_≤_, _<_};
+ghost use lib.Dec.{eqb};
+ghost use Rattle.nodes.specs.Words.{kidOf, factOf};
+ghost use Rattle.tree.specs.Cells.{cubePath};
+ghost use Rattle.arena.specs.Tables.{tables};
+ghost use Rattle.arena.specs.Calls.{allOf};
+ghost use Rattle.edit_plan.specs.Models.{eightParts, leafKids, slotPlan, cellPlan, needPlan, upPlan, planBy, resultBy};
+
+// The lowest id of a leaf: bit 63 is the leaf flag.
+const LEAF: u64 = 0x8000_0000_0000_0000;
+
+// What a dry run found: how many nodes are to be made, and the part below them that is there.
+pub struct Plan {
+    pub new: u64,
+    pub id: u64,
+}
+
+// The eight parts of an id: the children of a branch; a leaf, and EMPTY, stands for eight of itself.
+pub fn parts(kids: &[u64], id: u64) -> [u64; 8]
+    ensures { λ r. ⌜ r ≡ eightParts (kidOf (now (kids .entry))) id ⌝ }
+{
+    if id == BlockId::EMPTY.0 {
+        return [id; 8];
+    }
+    if LEAF <= id {
+        return [id; 8];
+    }
+    children(kids, slot_of(id))
+}
+
+// Is each of the eight k?
+fn all_are(ks: [u64; 8], k: u64) -> bool
+    ensures { λ r. ⌜ r ≡ allOf (eqb k) ks ⌝ }
+{
+    let mut i: usize = 0;
+    while i < 8 {
+        if ks[i] != k {
+            return false;
+        }
+        i += 1;
+    }
+    true
+}
+
+// Are they eight times one leaf?
+fn all_leaf(ks: [u64; 8]) -> bool
+    ensures { λ r. ⌜ r ≡ leafKids ks ⌝ }
+{
+    if BlockId(ks[0]).is_leaf() {
+        return all_are(ks, ks[0]);
+    }
+    false
+}
+
+// The node in the slot that a search found; none found: one is to be made over the part s.
+fn plan_slot(facts: &[u64], found: usize, s: u64) -> Plan
+    ensures { λ r. ⌜ r ≡ slotPlan (factOf (now (facts .entry))) found s ⌝ }
+{
+    if found == 0 {
+        return Plan { new: 1, id: s };
+    }
+    Plan {
+        new: 0,
+        id: fact(facts, found, OWN),
+    }
+}
+
+// The cell itself: EMPTY for 0, the leaf of the value if it lives.
+fn plan_cell(a: Arena, kids: &[u64], facts: &[u64], find: &[u16], v: u64) -> Plan
+    ensures { λ r. ⌜ r ≡ cellPlan (tables a (now (kids .entry)) (now (facts .entry)) (now (find .entry))) v ⌝ }
+{
+    if v == 0 {
+        return Plan {
+            new: 0,
+            id: BlockId::EMPTY.0,
+        };
+    }
+    let f = search_leaf(find, kids, facts, a.capacity, v);
+    plan_slot(facts, f.slot, BlockId::EMPTY.0)
+}
+
+// What eight parts come to, the last of them made being s.
+fn plan_node(a: Arena, kids: &[u64], facts: &[u64], find: &[u16], ks: [u64; 8], s: u64) -> Plan
+    ensures { λ r. ⌜ r ≡ needPlan (tables a (now (kids .entry)) (now (facts .entry)) (now (find .entry))) ks s ⌝ }
+{
+    if all_are(ks, BlockId::EMPTY.0) {
+        return Plan {
+            new: 0,
+            id: BlockId::EMPTY.0,
+        };
+    }
+    if all_leaf(ks) {
+        return Plan { new: 0, id: ks[0] };
+    }
+    let f = search(find, kids, facts, a.capacity, ks, value_of(facts, ks));
+    plan_slot(facts, f.slot, s)
+}
+
+// One level up, number c of the parts ks replaced: over a part that is to be made, one node more.
+fn plan_up(
+    a: Arena,
+    kids: &[u64],
+    facts: &[u64],
+    find: &[u16],
+    ks: [u64; 8],
+    c: usize,
+    below: Plan,
+) -> Plan
+    requires { ⌜ c < 8 ⌝ }
+    ensures { λ r. ⌜ r ≡ upPlan (tables a (now (kids .entry)) (now (facts .entry)) (now (find .entry))) ks c below ⌝ }
+{
+    if below.new == 0 {
+        let mut new = ks;
+        new[c] = below.id;
+        return plan_node(a, kids, facts, find, new, below.id);
+    }
+    Plan {
+        new: wrapping_add_u64(below.new, 1),
+        id: below.id,
+    }
+}
+
+// The dry run from the node of id, `left` levels above the cell.
+fn dry_run(
+    a: Arena,
+    kids: &[u64],
+    facts: &[u64],
+    find: &[u16],
+    id: u64,
+    left: u32,
+    x: u32,
+    y: u32,
+    z: u32,
+    v: u64,
+) -> Plan
+    requires { ⌜ left ≤ 6 ⌝ }
+    ensures { λ r. ⌜ r ≡ planBy (tables a (now (kids .entry)) (now (facts .entry)) (now (find .entry))) v (cubePath left x y z) id ⌝ }
+{
+    if left == 0 {
+        return plan_cell(a, kids, facts, find, v);
+    }
+    let ks = parts(kids, id);
+    let c = octant(left - 1, x, y, z);
+    let below = dry_run(a, kids, facts, find, ks[c], left - 1, x, y, z, v);
+    plan_up(a, kids, facts, find, ks, c, below)
+}
+
+// The dry run's result: the old root where the cell already has the value. INVALID of a depth above 6.
+pub fn result(
+    a: Arena,
+    kids: &[u64],
+    facts: &[u64],
+    find: &[u16],
+    root: u64,
+    d: u32,
+    x: u32,
+    y: u32,
+    z: u32,
+    v: u16,
+) -> Plan
+    ensures { λ r. ⌜ r ≡ resultBy (tables a (now (kids .entry)) (now (facts .entry)) (now (find .entry))) v d x y z root ⌝ }
+{
+    if 6 < d {
+        return Plan {
+            new: 0,
+            id: BlockId::INVALID.0,
+        };
+    }
+    let end = descend(kids, BlockId(root), d, x, y, z);
+    if value_at(facts, end.id.0) % 65536 == v as u64 {
+        return Plan { new: 0, id: root };
+    }
+    dry_run(a, kids, facts, find, root, d, x, y, z, v as u64)
+}

@@ -1,9 +1,0 @@
-use borrow.Author.Needs.{needs}
-use Rattle.expansion.proofs.Parts.{cells-all}
-use Rattle.expansion.proofs.fill_cells.Statement.{statement}
-use Rattle.expansion.proofs.fill_cells.Tie as tie
-
-pub fill-cells-spec : {M : Type 1} → statement M
-fill-cells-spec =
-    tie.close
-    (tie.spec (λ c κs. search needs) (λ c. search needs) (λ c κs. search needs) (λ c. search needs) (λ c κs. search needs) (λ c. search needs) (λ c. search needs) (λ c κs. search needs) (λ c. search needs) (λ c. search cells-all))

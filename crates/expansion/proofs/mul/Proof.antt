@@ -1,8 +1,0 @@
-use borrow.Author.Needs.{needs}
-use native.Mathlib.Omega.{arith}
-use Rattle.expansion.proofs.Fill.{mul-small}
-use Rattle.expansion.proofs.mul.Statement.{statement}
-use Rattle.expansion.proofs.mul.Tie as tie
-
-pub mul-spec : {M : Type 1} → statement M
-mul-spec = tie.close (tie.spec (λ c. omega (arith, mul-small _ _ (c .pre .0) (c .pre .1))) (λ c. (search needs, search mul-small)))

@@ -1,0 +1,80 @@
+// The cell of a slot number in the finding table, and a slot taken out of it. See specs/Cells.antt of crate `find`.
+use find::cell;
+use find_hash::home_for;
+use nodes::VALUE;
+use nodes::children;
+use nodes::fact;
+ghost use mathlib.Core.Path.{_≡_};
+ghost use lib.Dec.{eqb};
+ghost use Rattle.nodes.specs.Words.{nodes, wordOf};
+ghost use Rattle.find.specs.Content.{homeAt};
+ghost use Rattle.find.specs.Cells.{probe, erase};
+
+// The first cell to look at for the content of slot s.
+fn home_at(kids: &[u64], facts: &[u64], capacity: usize, s: usize) -> usize
+    ensures { λ r. ⌜ r ≡ homeAt capacity (wordOf (nodes (now (kids .entry)) (now (facts .entry)))) s ⌝ }
+{
+    home_for(capacity, children(kids, s), fact(facts, s, VALUE))
+}
+
+// The first cell from `from` on that is empty or names s, or the table's end.
+pub fn number_from(find: &[u16], s: usize, from: usize) -> usize
+    ensures { λ r. ⌜ r ≡ probe (eqb s) (now (find .entry)) from ⌝ }
+{
+    let mut i = from;
+    while i < find.len() {
+        let x = cell(find, i);
+        if x == 0 {
+            return i;
+        }
+        if s == x {
+            return i;
+        }
+        i += 1;
+    }
+    i
+}
+
+// Cell `at` taken out: what stands above it and can be nearer to its home moves down, so that no search ends too early.
+fn erase_at(find: &mut [u16], kids: &[u64], facts: &[u64], capacity: usize, at: usize)
+    ensures { λ _. ⌜ now (find .exit) ≡ erase (homeAt capacity (wordOf (nodes (now (kids .entry)) (now (facts .entry))))) (now (find .entry)) at ⌝ }
+{
+    if find.len() <= at {
+        return;
+    }
+    let mut hole = at;
+    let mut j = at + 1;
+    loop {
+        if find.len() <= j {
+            find[hole] = 0;
+            return;
+        }
+        let x = find[j];
+        if x == 0 {
+            find[hole] = 0;
+            return;
+        }
+        if home_at(kids, facts, capacity, x as usize) <= hole {
+            find[hole] = x;
+            hole = j;
+            j += 1;
+        } else {
+            j += 1;
+        }
+    }
+}
+
+// Takes out of the finding table the cell where the probe for the number s from the cell `from` on ends. The contents have to be there still.
+pub fn remove_from(
+    find: &mut [u16],
+    kids: &[u64],
+    facts: &[u64],
+    capacity: usize,
+    s: usize,
+    from: usize,
+)
+    ensures { λ _. ⌜ now (find .exit) ≡ erase (homeAt capacity (wordOf (nodes (now (kids .entry)) (now (facts .entry))))) (now (find .entry)) (probe (eqb s) (now (find .entry)) from) ⌝ }
+{
+    let at = number_from(find, s, from);
+    erase_at(find, kids, facts, capacity, at);
+}

@@ -1,0 +1,103 @@
+-- An id that is neither EMPTY nor live is refused by every call that is handed it.
+use mathlib.Core.Path.{_≡_}
+use mathlib.Core.Logic.{_≢_, inl, inr}
+use mathlib.Core.Bool.{Bool, true, false}
+use mathlib.Core.List.{List}
+use Prim.Native.Nat.{ℕ, _≤_}
+use native.Mathlib.Omega.{arith}
+use lib.Dec.{leb}
+use lib.ListN.{length}
+use borrow.Author.Tests.{ne-eqb, le-leb}
+use Rattle.basics.specs.Pick.{pick}
+use Rattle.nodes.proofs.Sums.{split}
+use Rattle.paths.specs.declared.IVec3.{IVec3}
+use Rattle.paths.specs.Paths.{inside}
+use Rattle.tree.specs.Tree.{LiveOr0}
+use Rattle.arena.specs.Calls.{fits, liveOrEmpty}
+use Rattle.arena.specs.Tables.{Tables, cap, W, Sized}
+use Rattle.arena.proofs.Fits.{sized-fits}
+use Rattle.ledger.specs.Fates.{Lives}
+use Rattle.ledger.proofs.Refusals as refusals
+use Rattle.read_cell.specs.Calls.{lookNo, lookOf, expandNo, expandOf}
+use Rattle.read_cell.proofs.Laws.{there-live}
+use Rattle.edit.specs.Edit.{editNo, editOf}
+use Rattle.promises.specs.Promises.{Inside, ByFour, Refused}
+
+-- a ladder of refusals from 1 to 4
+abbrev Four : ℕ → Type 0
+Four k = (1 ≤ k) × (k ≤ 4)
+
+rung : (b : Bool) (x y : ℕ) → Four x → Four y → Four (pick b x y)
+rung true x y a c = a
+rung false x y a c = c
+
+module _ (t : Tables) (y : ℕ) (some : y ≢ 0) (dead : Lives t y → ⊥) where
+  absent : LiveOr0 (cap t) (W t) y → ⊥
+  absent (inl z) = some z
+  absent (inr l) = dead l
+
+  not-there : liveOrEmpty (cap t) (W t) y ≡ false
+  not-there = split (liveOrEmpty (cap t) (W t) y) (λ e. absurd (absent (there-live t y e))) (λ e. e)
+
+  look-four : (d : ℕ) (p : IVec3) → Four (lookNo t y d p)
+  unfolding lookNo
+  look-four d p = rw not-there
+      (rung (fits t) _ 1
+      (rung (leb d 6) _ 2
+      (rung (inside d (p .x)) _ 3 (rung (inside d (p .y)) _ 3 (rung (inside d (p .z)) 4 3 (omega arith, omega arith) three) three) three) (omega arith, omega arith))
+      (omega arith, omega arith))
+    where
+      three : Four 3
+      three = (omega arith, omega arith)
+
+  expand-four : (d n : ℕ) → Four (expandNo t y d n)
+  unfolding expandNo
+  expand-four d n =
+      rw not-there (rung (fits t) _ 1 (rung (leb d 6) 4 2 (omega arith, omega arith) (omega arith, omega arith)) (omega arith, omega arith))
+
+  edit-looks : (d : ℕ) (p : IVec3) (v : ℕ) → editNo t y d p v ≡ lookNo t y d p
+  unfolding editNo
+  edit-looks d p v = rw (ne-eqb (lookNo t y d p) 0 (λ e. let f = look-four d p .0 in omega arith))
+
+  module _ (sized : Sized t) where
+    -- Lookup, expansion and edit refuse it: with 4 where no lower number applies.
+    pub dead-look : (d : ℕ) (p : IVec3) → ByFour (lookNo t y d p) (Inside d p)
+    unfolding lookNo
+    dead-look d p =
+        let f = look-four d p in
+        (f .0, f .1, (λ i. rw (sized-fits t sized, le-leb d 6 (i .0), i .1, i .2, i .3, not-there)))
+
+    pub dead-expand : (d n : ℕ) → ByFour (expandNo t y d n) (d ≤ 6)
+    unfolding expandNo
+    dead-expand d n =
+        let f = expand-four d n in
+        (f .0, f .1, (λ i. rw (sized-fits t sized, le-leb d 6 i, not-there)))
+
+    pub dead-edit : (d : ℕ) (p : IVec3) (v : ℕ) → ByFour (editNo t y d p v) (Inside d p)
+    dead-edit d p v = rw (edit-looks d p v) (dead-look d p)
+
+    looked-no : (d : ℕ) (p : IVec3) → lookOf t y d p .no ≡ lookNo t y d p
+    unfolding lookOf
+    looked-no d p = rw (ne-eqb (lookNo t y d p) 0 (λ e. let f = look-four d p .0 in omega arith))
+
+    expanded-no : (d : ℕ) (l : List ℕ) → expandOf t y d l .no ≡ expandNo t y d (length l)
+    unfolding expandOf
+    expanded-no d l = rw (ne-eqb (expandNo t y d (length l)) 0 (λ e. let f = expand-four d (length l) .0 in omega arith))
+
+    edited-no : (d : ℕ) (p : IVec3) (v : ℕ) → editOf t y d p v .no ≡ editNo t y d p v
+    unfolding editOf
+    edited-no d p v = rw (ne-eqb (editNo t y d p v) 0 (λ e. let f = dead-edit d p v .0 in omega arith))
+
+    -- An id that is neither EMPTY nor live is refused by every call that is handed it.
+    pub dead-refused : Refused t y
+    dead-refused =
+        let r = refusals.dead-refused 8 6 t y sized some dead in
+        record {
+          hold = r .0;
+          release = r .1;
+          counts = r .2;
+          child = r .3;
+          lookup = λ d p. rw (looked-no d p) (dead-look d p);
+          expansion = λ d l. rw (expanded-no d l) (dead-expand d (length l));
+          edit = λ d p v. rw (edited-no d p v) (dead-edit d p v);
+        }

@@ -1,0 +1,171 @@
+-- What it is to show a cube, in the tables: each cell, read from the root, has the cube's number. EMPTY shows zeros; an edit changes one cell; a kept root
+-- shows what it showed; and at another depth no less than its height it shows the same cube, scaled.
+use mathlib.Core.Path.{_≡_, refl, sym, ap, _∙_, subst}
+use mathlib.Core.Logic.{_≢_, inl}
+use mathlib.Core.Bool.{true, false, true≢false}
+use mathlib.Core.List.{List}
+use Prim.Native.Nat.{ℕ, _+_, _-_, _*_, _/_, _^_, _≤_}
+use native.Mathlib.Nat.{mul-div-cancel, div-div-eq-div-mul}
+use native.Mathlib.Decide.{decLe}
+use native.Mathlib.Omega.{arith}
+use lib.Dec.{eqb}
+use lib.Pow.{pow-pos, pow-add}
+use borrow.Author.Tests.{eq-eqb, eqb-true}
+use Rattle.nodes.specs.Values.{heightAt}
+use Rattle.basics.specs.Pick.{pick}
+use Rattle.nodes.proofs.Sums.{split, cases}
+use Rattle.paths.specs.Paths.{whole}
+use Rattle.tree.specs.Tree.{LiveOr0, look}
+use Rattle.tree.specs.Demand.{At, way}
+use Rattle.tree.specs.Cells.{cubePath}
+use Rattle.tree.proofs.Canon.{look-flat, value-empty, height-empty}
+use Rattle.tree.proofs.CellLaws.{cube-cell, cube-one}
+use Rattle.tree.proofs.Grow.{height-later}
+use Rattle.arena.specs.Tables.{Tables, cap, W, WellFormed}
+use Rattle.arena.proofs.Fits.{both}
+use Rattle.read_cell.proofs.Meaning.{wf-made}
+use Rattle.read_cell.proofs.Plain.{cell-whole, plain-deeper}
+use Rattle.read_cell.proofs.Laws.{well-small}
+use Rattle.calls.specs.Cells.{spot}
+use Rattle.calls.specs.Does.{Kept}
+use Rattle.calls.proofs.Roots.{kept-there, kept-look}
+use Rattle.edit.specs.Edit.{editNo}
+use Rattle.edit.specs.Promises.{then, gives}
+use Rattle.edit.proofs.Edits.{edit-right}
+use Rattle.promises.specs.Promises.{Cube, sameCell, changed, onto, scaled, Within, There}
+
+pub record Shows (d : ℕ) (t : Tables) (a : ℕ) (F : Cube d) : Type 0 where
+  pub well : WellFormed 8 6 t
+  pub there : LiveOr0 (cap t) (W t) a
+  pub low : heightAt (W t) a ≤ d
+  pub cells : (c : At d) → look (W t) (way c) a ≡ F c
+
+pub empty-shows : (d : ℕ) (t : Tables) → WellFormed 8 6 t → Shows d t 0 (λ c. 0)
+empty-shows d t w = record {
+  well = w;
+  there = inl refl;
+  low = (let e = height-empty (W t) 0 refl in omega arith);
+  cells = λ c. look-flat (W t) (way c) 0 (inl refl) ∙ value-empty (W t) 0 refl;
+}
+
+pub same-spot : {d : ℕ} (s c : At d) → sameCell s c ≡ true → (s .x ≡ c .x) × (s .y ≡ c .y) × (s .z ≡ c .z)
+unfolding sameCell
+same-spot s c e =
+    let a = both (eqb (s .x) (c .x)) (pick (eqb (s .y) (c .y)) (eqb (s .z) (c .z)) false) e in
+    let b = both (eqb (s .y) (c .y)) (eqb (s .z) (c .z)) (a .1) in
+    (eqb-true (s .x) (c .x) (a .0), eqb-true (s .y) (c .y) (b .0), eqb-true (s .z) (c .z) (b .1))
+
+same-yes : {d : ℕ} (s c : At d) → sameCell s c ≡ true → way s ≡ way c
+same-yes s c e =
+    let r = same-spot s c e in
+    let x = r .0 in
+    let y = r .1 in
+    let z = r .2 in
+    cc
+
+same-no : {d : ℕ} (s c : At d) → sameCell s c ≡ false → way s ≢ way c
+unfolding sameCell
+same-no {d} s c e k =
+    let r = cube-one d (s .in-x) (s .in-y) (s .in-z) (c .in-x) (c .in-y) (c .in-z) k in
+    true≢false (sym (rw (eq-eqb (s .x) (c .x) (r .0), eq-eqb (s .y) (c .y) (r .1), eq-eqb (s .z) (c .z) (r .2))) ∙ e)
+
+pub changed-here : {d : ℕ} (F : Cube d) (c : At d) (v : ℕ) → changed F c v c ≡ v
+unfolding changed sameCell
+changed-here F c v = rw (eq-eqb (c .x) (c .x) refl, eq-eqb (c .y) (c .y) refl, eq-eqb (c .z) (c .z) refl)
+
+pub changed-elsewhere : {d : ℕ} (F : Cube d) (c : At d) (v : ℕ) (s : At d) → ¬ ((s .x ≡ c .x) × (s .y ≡ c .y) × (s .z ≡ c .z)) → changed F c v s ≡ F s
+unfolding changed
+changed-elsewhere F c v s n = split (sameCell s c) (λ q. absurd (n (same-spot s c q))) (λ q. rw q)
+
+pub edit-shows : (d : ℕ) (t : Tables) (a : ℕ) (F : Cube d) (c : At d) (v : ℕ) → v ≤ 65535 → editNo t a d (spot c) v ≡ 0 → Shows d t a F
+    → Shows d (then t a c v) (gives t a c v) (changed F c v)
+unfolding changed whole
+edit-shows d t a F c v h ok s =
+    let r = edit-right t (s .well) a d (spot c) v h ok in
+    let e = r .edited in
+    record {
+      well = r .well;
+      there = subst (λ (k : ℕ). LiveOr0 k (W (then t a c v)) (gives t a c v)) (sym (r .size)) (e .there);
+      low = e .low;
+      cells = λ i. split (sameCell i c)
+          (λ q. rw q (ap (λ (l : List ℕ). look (W (then t a c v)) l (gives t a c v)) (same-yes i c q) ∙ e .changed))
+          (λ q. rw q (e .others (way i) (cube-cell d (i .x) (i .y) (i .z)) (same-no i c q) ∙ s .cells i));
+    }
+
+pub kept-shows : (d : ℕ) (t u : Tables) (a : ℕ) (F : Cube d) → Kept 8 6 t u a → Shows d t a F → Shows d u a F
+kept-shows d t u a F k s =
+    record {
+      well = k .well;
+      there = kept-there t u a (s .well) (s .there) k;
+      low = rw (height-later 8 (cap t) (W t) (W u) (wf-made 8 6 t (omega arith) (s .well)) a (s .there) (k .keeps)) at (s .low);
+      cells = λ c. kept-look t u a (s .well) (s .there) k c ∙ s .cells c;
+    }
+
+-- ## At another depth
+
+-- where a cell lies: in the block x / 2^k at a depth smaller by k ..
+pub onto-block : (d k x : ℕ) → x * 2 ^ d / 2 ^ (d + k) ≡ x / 2 ^ k
+onto-block d k x =
+    ap (λ (i : ℕ). x * 2 ^ d / i) (pow-add 2 d k)
+    ∙ sym (div-div-eq-div-mul (x * 2 ^ d) (2 ^ d) (2 ^ k))
+    ∙ ap (λ (i : ℕ). i / 2 ^ k) (mul-div-cancel x (pow-pos d))
+
+-- .. and its first corner in the cell x * 2^k at a depth greater by k
+pub onto-first : (e k x : ℕ) → x * 2 ^ (e + k) / 2 ^ e ≡ x * 2 ^ k
+onto-first e k x =
+    let q : x * (2 ^ e * 2 ^ k) ≡ x * 2 ^ k * 2 ^ e = omega arith in
+    ap (λ (i : ℕ). i / 2 ^ e) (ap (λ (i : ℕ). x * i) (pow-add 2 e k) ∙ q) ∙ mul-div-cancel (x * 2 ^ k) (pow-pos e)
+
+module _ (t : Tables) (w : WellFormed 8 6 t) (a : ℕ) (l : There t a) where
+  shown : ℕ → ℕ → ℕ → ℕ → ℕ
+  shown d x y z = look (W t) (cubePath d x y z) a
+
+  shown-as : (d : ℕ) {x y z i j k : ℕ} → x ≡ i → y ≡ j → z ≡ k → shown d x y z ≡ shown d i j k
+  shown-as d p q r = cc
+
+  -- a greater depth shows the same cube in blocks of equal cells
+  shown-deeper : (d k x y z : ℕ) → heightAt (W t) a ≤ d → shown (d + k) x y z ≡ shown d (x / 2 ^ k) (y / 2 ^ k) (z / 2 ^ k)
+  unfolding shown
+  shown-deeper d k x y z h =
+      let s = well-small 8 6 t w in
+      sym (cell-whole (W t) s (d + k) a x y z)
+      ∙ plain-deeper (cap t) (W t) (wf-made 8 6 t (omega arith) w) d k a x y z l h
+      ∙ cell-whole (W t) s d a (x / 2 ^ k) (y / 2 ^ k) (z / 2 ^ k)
+
+  shown-up : (d k x y z : ℕ) → heightAt (W t) a ≤ d
+      → shown (d + k) x y z ≡ shown d (x * 2 ^ d / 2 ^ (d + k)) (y * 2 ^ d / 2 ^ (d + k)) (z * 2 ^ d / 2 ^ (d + k))
+  shown-up d k x y z h = shown-deeper d k x y z h ∙ sym (shown-as d (onto-block d k x) (onto-block d k y) (onto-block d k z))
+
+  shown-down : (e k x y z : ℕ) → heightAt (W t) a ≤ e
+      → shown e x y z ≡ shown (e + k) (x * 2 ^ (e + k) / 2 ^ e) (y * 2 ^ (e + k) / 2 ^ e) (z * 2 ^ (e + k) / 2 ^ e)
+  shown-down e k x y z h =
+      sym
+      (shown-as (e + k) (onto-first e k x) (onto-first e k y) (onto-first e k z)
+      ∙ shown-deeper e k (x * 2 ^ k) (y * 2 ^ k) (z * 2 ^ k) h
+      ∙ shown-as e (mul-div-cancel x (pow-pos k)) (mul-div-cancel y (pow-pos k)) (mul-div-cancel z (pow-pos k)))
+
+  -- at any two depths no less than the height
+  shown-onto : (d e x y z : ℕ) → heightAt (W t) a ≤ d → heightAt (W t) a ≤ e
+      → shown e x y z ≡ shown d (x * 2 ^ d / 2 ^ e) (y * 2 ^ d / 2 ^ e) (z * 2 ^ d / 2 ^ e)
+  shown-onto d e x y z h i = cases (decLe d e)
+      (λ k.
+      let q : d + (e - d) ≡ e = omega arith in
+      subst (λ (n : ℕ). shown n x y z ≡ shown d (x * 2 ^ d / 2 ^ n) (y * 2 ^ d / 2 ^ n) (z * 2 ^ d / 2 ^ n)) q (shown-up d (e - d) x y z h))
+      (λ k.
+      let q : e + (d - e) ≡ d = omega arith in
+      subst (λ (n : ℕ). shown e x y z ≡ shown n (x * 2 ^ n / 2 ^ e) (y * 2 ^ n / 2 ^ e) (z * 2 ^ n / 2 ^ e)) q (shown-down e (d - e) x y z i))
+
+pub scale-shows : (d : ℕ) (t : Tables) (a : ℕ) (F : Cube d) (e : ℕ) → heightAt (W t) a ≤ e → Shows d t a F → Shows e t a (scaled e F)
+unfolding shown
+scale-shows d t a F e i s = record {
+  well = s .well;
+  there = s .there;
+  low = i;
+  cells = λ c. shown-onto t (s .well) a (s .there) d e (c .x) (c .y) (c .z) (s .low) i ∙ s .cells (onto d c);
+}
+
+-- the cells of a block show its number
+pub block-shown : {d : ℕ} (k : ℕ) (c : At (d + k)) (b : At d) → Within k c b → {t : Tables} (w : WellFormed 8 6 t) {a : ℕ} (l : There t a)
+    → heightAt (W t) a ≤ d → look (W t) (way c) a ≡ look (W t) (way b) a
+unfolding shown
+block-shown {d} k c b m {t} w {a} l h = shown-deeper t w a l d k (c .x) (c .y) (c .z) h ∙ shown-as t w a l d (m .0) (m .1) (m .2)

@@ -1,0 +1,180 @@
+-- Coordinates, sides, refusals, and the ends of lookup, in the forms in which the code has them.
+use Prim.Native.Nat.{ℕ, _-_, _*_, _%_, _^_, _≤_, _<_}
+use native.Mathlib.Nat.{mod-eq-of-lt, one-mul}
+use native.Mathlib.Decide.{ℕ-discrete, decLe}
+use native.Mathlib.Omega.{arith}
+use mathlib.Core.Path.{_≡_, _∙_, refl, sym, ap}
+use mathlib.Core.Bool.{Bool, true, false}
+use mathlib.Core.List.{List}
+use borrow.Author.Tests.{lt-ltb, le-ltb, le-leb, lt-leb, ne-eqb, leb-true, ltb-true, ltb-false}
+use lib.Bits.{bitOr, or-lt, or-add-and, and-le-l, and-le-r}
+use lib.Dec.{ltb, leb, eqb}
+use lib.IntN.{ℤ, pos, negsuc}
+use lib.Pow.{pow-mono}
+use lib.Signed.{mag}
+use mir.Syntax.{w32}
+use mir.ValLaws.{toZ-ofZ}
+use Rattle.basics.specs.Pick.{pick}
+use Rattle.basics.proofs.Rungs.{pick-yes, rung-yes, rung-no, via-yes, via-no, rungs, eq-via, ne-via, past-yes}
+use Rattle.nodes.specs.Words.{Words, nodes, own, kidOf, factOf, wordOf, slot, floor}
+use Rattle.nodes.proofs.Access.{word-fact}
+use Rattle.paths.specs.declared.IVec3.{IVec3}
+use Rattle.paths.specs.Paths.{coordOf, inside, whole}
+use Rattle.paths.proofs.Coords.{back}
+use Rattle.nodes.specs.Values.{valueAt}
+use Rattle.tree.specs.Cells.{cubePath}
+use Rattle.arena.specs.declared.Arena.{Arena}
+use Rattle.arena.specs.Tables.{tables}
+use Rattle.arena.specs.Calls.{fits, liveOf, liveOrEmpty}
+use Rattle.read_cell.specs.declared.End.{End}
+use Rattle.read_cell.specs.declared.Looked.{Looked}
+use Rattle.read_cell.specs.Reading.{descent, endOf, cellOf}
+use Rattle.read_cell.specs.Calls.{lookNo, looked, lookOf}
+use Rattle.read_cell.specs.Models.{val, lookNoAt, lookAt}
+use Rattle.read_cell.proofs.Ends.{look-descent, end-kids, val-facts}
+
+-- ---- sides
+
+side-small : (d : ℕ) → d ≤ 6 → 2 ^ d ≤ 64
+side-small d h = pow-mono h
+
+pub inside-test : (d x : ℕ) → d ≤ 6 → ltb x (1 * 2 ^ d % 2 ^ 32) ≡ ltb x (2 ^ d)
+inside-test d x h =
+    let k : 2 ^ d < 2 ^ 32 = omega (arith, side-small d h) in
+    rw (one-mul (2 ^ d)) (ap (ltb x) (mod-eq-of-lt k))
+
+-- one test for three coordinates
+module _ (d x y z : ℕ) where
+  any-low : bitOr (bitOr x y) z < 2 ^ d → (x < 2 ^ d) × (y < 2 ^ d) × (z < 2 ^ d)
+  any-low h =
+      let p = or-add-and (bitOr x y) z in
+      let q = or-add-and x y in
+      let i = and-le-r (bitOr x y) z in
+      let j = and-le-l (bitOr x y) z in
+      let k = and-le-r x y in
+      let l = and-le-l x y in
+      (omega arith, omega arith, omega arith)
+
+  pub all-inside : (t : Bool) (k u : ℕ) → t ≡ ltb (bitOr (bitOr x y) z) (2 ^ d) → t ≡ true → k ≡ u
+      → k ≡ pick (ltb x (2 ^ d)) (pick (ltb y (2 ^ d)) (pick (ltb z (2 ^ d)) u 3) 3) 3
+  all-inside t k u e h q =
+      let l = any-low (ltb-true (bitOr (bitOr x y) z) (2 ^ d) (sym e ∙ h)) in
+      rw (lt-ltb x (2 ^ d) (l .0), lt-ltb y (2 ^ d) (l .1), lt-ltb z (2 ^ d) (l .2)) q
+
+  pub one-outside : (t : Bool) (u : ℕ) → t ≡ ltb (bitOr (bitOr x y) z) (2 ^ d) → t ≡ false
+      → 3 ≡ pick (ltb x (2 ^ d)) (pick (ltb y (2 ^ d)) (pick (ltb z (2 ^ d)) u 3) 3) 3
+  one-outside t u e h = go (ltb x (2 ^ d)) (ltb y (2 ^ d)) (ltb z (2 ^ d)) refl refl refl
+    where
+      go : (i j k : Bool) → ltb x (2 ^ d) ≡ i → ltb y (2 ^ d) ≡ j → ltb z (2 ^ d) ≡ k → _≡_ {A = ℕ} 3 (pick i (pick j (pick k u 3) 3) 3)
+      go false j k _ _ _ = refl
+      go true false k _ _ _ = refl
+      go true true false _ _ _ = refl
+      go true true true ei ej ek =
+          let o = or-lt d (bitOr x y) z (or-lt d x y (ltb-true x (2 ^ d) ei) (ltb-true y (2 ^ d) ej)) (ltb-true z (2 ^ d) ek) in
+          absurd (omega (arith, ltb-false (bitOr (bitOr x y) z) (2 ^ d) (sym e ∙ h)))
+
+-- ---- a coordinate as a number
+
+coord-inside : (d : ℕ) (x : ℤ) → d ≤ 6 → ltb (coordOf x) (2 ^ d) ≡ inside d x
+unfolding coordOf inside
+coord-inside d (pos n) h = refl
+coord-inside d (negsuc n) h = le-ltb (2 ^ 32 - 1) (2 ^ d) (omega (arith, side-small d h))
+
+pub coord-is : (d : ℕ) (x : ℤ) → inside d x ≡ true → coordOf x ≡ whole x
+unfolding coordOf inside whole
+coord-is d (pos n) h = refl
+coord-is d (negsuc n) h = let q : _≡_ {A = ℕ} 0 1 = cc in absurd (omega arith)
+
+-- ---- is the id there?
+
+module _ (c : ℕ) (F : Words) (id : ℕ) where
+  pub there-empty : id ≡ 0 → true ≡ liveOrEmpty c F id
+  unfolding liveOrEmpty
+  there-empty e = search rungs
+
+  pub there-live : (t : Bool) → (id ≡ 0 → ⊥) → t ≡ liveOf c F id → t ≡ liveOrEmpty c F id
+  unfolding liveOrEmpty
+  there-live t h e = rung-no _ _ _ _ (ne-eqb id 0 h) e
+
+ladder-deep : (b : Bool) (d x : ℕ) → pick b (pick (leb d 6) x 2) 1 ≡ 0 → (d ≤ 6) × (x ≡ 0)
+ladder-deep b d x e =
+    let p : (b ≡ true) × (pick (leb d 6) x 2 ≡ 0) = past-yes b _ _ 0 (omega arith) e in
+    let q : (leb d 6 ≡ true) × (x ≡ 0) = past-yes (leb d 6) x 2 0 (omega arith) (p .1) in
+    (leb-true _ _ (q .0), q .1)
+
+module _ (a : Arena) (ks fs es : List ℕ) (id : ℕ) where
+  -- the facts alone tell
+  pub there-facts : (t : Bool) → t ≡ liveOrEmpty (a .capacity) (factOf fs) id → t ≡ liveOrEmpty (a .capacity) (wordOf (nodes ks fs)) id
+  unfolding liveOrEmpty liveOf
+  there-facts t e =
+      e ∙ ap (λ (w : ℕ). pick (eqb id 0) true (pick (ltb (slot id) (a .capacity)) (pick (leb floor id) (eqb w id) false) false))
+      (sym (word-fact (nodes ks fs) (slot id) own (omega arith)))
+
+-- for a ladder whose tests are flags of callees, or orders
+pub ruleset climb = (via-yes, via-no, rung-yes, rung-no, le-leb, lt-leb, all-inside, one-outside, there-facts)
+
+module _ (a : Arena) (ks fs es : List ℕ) (id d : ℕ) where
+  -- ---- lookup
+
+  pub look-refused : (x y z k : ℕ) → k ≡ lookNoAt (tables a ks fs es) id d x y z → (k ≡ 0 → ⊥) → looked k 0 ≡ lookAt (tables a ks fs es) id d x y z
+  unfolding lookAt
+  look-refused x y z k e h = rung-no _ _ _ _ (ne-via k _ 0 e h) (λ i. looked (e i) 0)
+
+  pub look-done : (x y z k r : ℕ) (t : End) → k ≡ lookNoAt (tables a ks fs es) id d x y z → k ≡ 0 → t ≡ endOf (kidOf ks) id d x y z
+      → r ≡ val (factOf fs) (t .id .0) → looked 0 r ≡ lookAt (tables a ks fs es) id d x y z
+  unfolding lookAt lookNoAt val endOf
+  look-done x y z k r t e h et er =
+      let M = wordOf (nodes ks fs) in
+      let inner : ℕ = pick (ltb x (2 ^ d)) (pick (ltb y (2 ^ d)) (pick (ltb z (2 ^ d)) (pick (liveOrEmpty (a .capacity) (wordOf (nodes ks fs)) id) 0 4) 3) 3) 3 in
+      let l : d ≤ 6 = ladder-deep (fits (tables a ks fs es)) d inner (sym e ∙ h) .0 in
+      let q : t ≡ descent M 0 (cubePath d x y z) id = et ∙ end-kids ks fs id d x y z ∙ pick-yes _ _ _ (le-leb d 6 l) in
+      let m : r ≡ cellOf M d id x y z =
+      er ∙ val-facts ks fs (t .id .0) ∙ ap (λ (i : End). valueAt M (i .id .0) % 2 ^ 16) q
+      ∙ ap (λ (i : ℕ). i % 2 ^ 16) (sym (look-descent M 0 (cubePath d x y z) id)) in
+      rung-yes _ _ _ _ (eq-via k _ 0 e h) (λ i. looked 0 (m i))
+
+  -- the number is the same, of coordinates and of what the code makes of them ..
+  pub look-no-same : (p : IVec3) → lookNoAt (tables a ks fs es) id d (coordOf (p .x)) (coordOf (p .y)) (coordOf (p .z)) ≡ lookNo (tables a ks fs es) id d p
+  unfolding lookNoAt lookNo
+  look-no-same p = go (decLe d 6)
+    where
+      go : Dec (d ≤ 6) → lookNoAt (tables a ks fs es) id d (coordOf (p .x)) (coordOf (p .y)) (coordOf (p .z)) ≡ lookNo (tables a ks fs es) id d p
+      go (yes h) = rw (coord-inside d (p .x) h, coord-inside d (p .y) h, coord-inside d (p .z) h)
+      go (no h) = rw (lt-leb d 6 (omega (arith, h)))
+
+  -- .. and where none is refused so are the coordinates
+  pub look-inside : (p : IVec3) → lookNo (tables a ks fs es) id d p ≡ 0 → (inside d (p .x) ≡ true) × (inside d (p .y) ≡ true) × (inside d (p .z) ≡ true)
+  unfolding lookNo
+  look-inside p e =
+      let four : ℕ = pick (liveOrEmpty (a .capacity) (wordOf (nodes ks fs)) id) 0 4 in
+      let q = ladder-deep (fits (tables a ks fs es)) d (pick (inside d (p .x)) (pick (inside d (p .y)) (pick (inside d (p .z)) four 3) 3) 3) e .1 in
+      let x = past-yes (inside d (p .x)) (pick (inside d (p .y)) (pick (inside d (p .z)) four 3) 3) 3 0 (omega arith) q in
+      let y = past-yes (inside d (p .y)) (pick (inside d (p .z)) four 3) 3 0 (omega arith) (x .1) in
+      let z = past-yes (inside d (p .z)) four 3 0 (omega arith) (y .1) in
+      (x .0, y .0, z .0)
+
+  look-same : (p : IVec3) → lookAt (tables a ks fs es) id d (coordOf (p .x)) (coordOf (p .y)) (coordOf (p .z)) ≡ lookOf (tables a ks fs es) id d p
+  unfolding lookAt lookOf
+  look-same p = rw (look-no-same p) (go (ℕ-discrete (lookNo (tables a ks fs es) id d p) 0))
+    where
+      k : ℕ
+      k = lookNo (tables a ks fs es) id d p
+
+      cell : (x y z : ℤ) → ℕ
+      cell x y z = cellOf (wordOf (nodes ks fs)) d id (coordOf x) (coordOf y) (coordOf z)
+
+      go : Dec (k ≡ 0) → pick (eqb k 0) (looked 0 (cell (p .x) (p .y) (p .z))) (looked k 0)
+          ≡ pick (eqb k 0) (looked 0 (cellOf (wordOf (nodes ks fs)) d id (whole (p .x)) (whole (p .y)) (whole (p .z)))) (looked k 0)
+      go (yes e) =
+          let i = look-inside p e in
+          rw (coord-is d (p .x) (i .0), coord-is d (p .y) (i .1), coord-is d (p .z) (i .2))
+      go (no e) = rw (ne-eqb k 0 e)
+
+  pub look-whole : (p : IVec3) (x y z : ℕ) (r : Looked) → mag (p .x) < 2 ^ 31 → mag (p .y) < 2 ^ 31 → mag (p .z) < 2 ^ 31
+      → x ≡ coordOf (back (p .x)) → y ≡ coordOf (back (p .y)) → z ≡ coordOf (back (p .z))
+      → r ≡ lookAt (tables a ks fs es) id d x y z → r ≡ lookOf (tables a ks fs es) id d p
+  look-whole p x y z r hx hy hz ex ey ez e =
+      let i : x ≡ coordOf (p .x) = ex ∙ ap coordOf (toZ-ofZ w32 (p .x) (record { sfits = hx })) in
+      let j : y ≡ coordOf (p .y) = ey ∙ ap coordOf (toZ-ofZ w32 (p .y) (record { sfits = hy })) in
+      let k : z ≡ coordOf (p .z) = ez ∙ ap coordOf (toZ-ofZ w32 (p .z) (record { sfits = hz })) in
+      e ∙ cc (i, j, k) ∙ look-same p

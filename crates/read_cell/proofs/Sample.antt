@@ -1,0 +1,67 @@
+-- The definitions compute: a leaf of value 1 in slot 1, and in slot 2 a branch that has it for its children 0 and 2.
+use mathlib.Core.Path.{_≡_, refl}
+use mathlib.Core.List.{List, [], _∷_, _++_}
+use Prim.Native.Nat.{ℕ}
+use native.Mathlib.Decide.{decLe}
+use lib.ListN.{replicate}
+use Rattle.ids.specs.Ids.{invalid, indexOf}
+use Rattle.nodes.specs.Words.{kidOf, factOf, wordOf, slot, floor}
+use Rattle.nodes.specs.Tally.{tabFrom}
+use Rattle.paths.specs.Paths.{inside, whole, place}
+use Rattle.tree.specs.Tree.{kind, look}
+use Rattle.nodes.specs.Values.{valueAt}
+use Rattle.tree.specs.Cells.{pathBy}
+use Rattle.paths.specs.Paths.{octant}
+use Rattle.arena.specs.Tables.{Tables, tables}
+use Rattle.arena.specs.Calls.{fitOf, liveOf, liveOrEmpty}
+use Rattle.read_cell.specs.Reading.{cubeOf}
+use Rattle.read_cell.specs.Calls.{lookNo, looked, lookOf, expandNo, expanded, expandOf}
+
+-- index 1, generation 0
+abbrev one : ℕ
+one = 0x8000000000000001
+
+-- index 2, generation 0, types and mask 5
+abbrev root : ℕ
+root = 0x0282800000000002
+
+abbrev kids : List ℕ
+kids = replicate 16 0 ++ (one ∷ 0 ∷ one ∷ 0 ∷ 0 ∷ 0 ∷ 0 ∷ 0 ∷ [])
+
+-- own, value, height, holds, places, link, spare of the slots 0, 1 and 2
+abbrev facts : List ℕ
+facts = replicate 7 0 ++ (one ∷ 1 ∷ 0 ∷ 0 ∷ 2 ∷ 0 ∷ 0 ∷ []) ++ (root ∷ 0 ∷ 1 ∷ 1 ∷ 0 ∷ 0 ∷ 0 ∷ [])
+
+abbrev sample : Tables
+sample = tables (record { capacity = 3; next = 3; top = 0; live = 2 }) kids facts (replicate 9 0)
+
+-- at depth 0 the stored average decides, 2 / 8; at depth 1 the cube is plain
+pub at-depth-0 : lookOf sample root 0 (place 0 0 0) ≡ looked 0 0
+unfolding lookOf lookNo fitOf inside whole liveOrEmpty liveOf floor look kind decLe valueAt slot indexOf wordOf kidOf factOf pathBy octant
+at-depth-0 = refl
+
+pub at-depth-1 : lookOf sample root 1 (place 0 1 0) ≡ looked 0 1
+unfolding lookOf lookNo fitOf inside whole liveOrEmpty liveOf floor look kind decLe valueAt slot indexOf wordOf kidOf factOf pathBy octant
+at-depth-1 = refl
+
+-- refusals
+pub too-deep : lookOf sample root 7 (place 0 0 0) ≡ looked 2 0
+unfolding lookOf lookNo fitOf
+too-deep = refl
+
+pub outside : lookOf sample root 1 (place 0 2 0) ≡ looked 3 0
+unfolding lookOf lookNo fitOf inside
+outside = refl
+
+pub not-live : lookOf sample invalid 1 (place 0 1 0) ≡ looked 4 0
+unfolding lookOf lookNo fitOf inside liveOrEmpty liveOf floor slot indexOf wordOf factOf
+not-live = refl
+
+-- cell (x, y, z) stands at y * 4^d + z * 2^d + x
+pub expands : expandOf sample root 1 (replicate 8 9) ≡ expanded 0 (1 ∷ 0 ∷ 0 ∷ 0 ∷ 1 ∷ 0 ∷ 0 ∷ 0 ∷ [])
+unfolding expandOf expandNo fitOf liveOrEmpty liveOf floor cubeOf tabFrom look kind decLe valueAt slot indexOf wordOf kidOf factOf pathBy octant
+expands = refl
+
+pub too-short : expandOf sample root 1 (replicate 7 9) ≡ expanded 9 (replicate 7 9)
+unfolding expandOf expandNo fitOf liveOrEmpty liveOf floor slot indexOf wordOf factOf
+too-short = refl

@@ -1,0 +1,35 @@
+-- Reading: the end that a path leads to, and the cells of a cube.
+use Prim.Native.Nat.{ℕ, _+_, _/_, _%_, _^_}
+use mathlib.Core.List.{List, [], _∷_}
+use lib.Dec.{leb}
+use Rattle.basics.specs.Pick.{pick}
+use Rattle.ids.specs.Ids.{invalid}
+use Rattle.nodes.specs.Words.{Words}
+use Rattle.nodes.specs.Tally.{tabFrom}
+use Rattle.tree.specs.Tree.{kind, empty, leaf, branch, childOf, look}
+use Rattle.tree.specs.Cells.{cubePath}
+use Rattle.read_cell.specs.declared.End.{End}
+
+-- ## The end of a path
+
+abbrev pub ended : ℕ → ℕ → End
+ended a k = record { id = record { 0 = a }; level = k }
+
+-- From the id a at level k down the path until EMPTY, a leaf, or the end of the path: the id reached, and its level.
+unfoldable pub descent : Words → ℕ → List ℕ → ℕ → End
+descent W k [] a = ended a k
+descent W k (c ∷ p) a = elim (kind a) [ empty _ ↦ ended a k | leaf _ ↦ ended a k | branch _ ↦ descent W (k + 1) p (childOf W a c) ]
+
+-- The end at the cell (x, y, z) of depth d, from id as level 0; INVALID of a depth above 6.
+unfoldable pub endOf : Words → ℕ → ℕ → ℕ → ℕ → ℕ → End
+endOf W id d x y z = pick (leb d 6) (descent W 0 (cubePath d x y z) id) (ended invalid 0)
+
+-- ## The cells of a cube
+
+-- what lookup reads at the cell, in 16 bits. (Of well-formed tables a stored value has no more)
+abbrev pub cellOf : Words → ℕ → ℕ → ℕ → ℕ → ℕ → ℕ
+cellOf W d id x y z = look W (cubePath d x y z) id % 2 ^ 16
+
+-- the cube of depth d: 8^d values; cell (x, y, z) stands at y * 4^d + z * 2^d + x
+unfoldable pub cubeOf : Words → ℕ → ℕ → List ℕ
+cubeOf W d id = tabFrom (8 ^ d) 0 (λ i. cellOf W d id (i % 2 ^ d) (i / 4 ^ d) (i / 2 ^ d % 2 ^ d))

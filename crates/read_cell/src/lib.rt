@@ -1,0 +1,211 @@
+// Reading: the end that a cell's path leads to, and lookup.
+use arena::Arena;
+use arena::fit;
+use arena::is_live;
+use arena::slot_of;
+use ids::BlockId;
+use nodes::VALUE;
+use nodes::fact;
+use nodes::kid;
+use paths::IVec3;
+use paths::coord;
+ghost use mathlib.Core.Path.{_≡_};
+ghost use Prim.Native.Nat.{_*_, _^_, _<_, _≤_};
+ghost use lib.Dec.{ltb};
+ghost use Rattle.nodes.specs.Words.{kidOf, factOf};
+ghost use Rattle.arena.specs.Tables.{tables};
+ghost use Rattle.arena.specs.Calls.{liveOrEmpty};
+ghost use Rattle.read_cell.specs.Reading.{endOf};
+ghost use Rattle.read_cell.specs.Calls.{lookOf};
+ghost use Rattle.read_cell.specs.Models.{endsAt, val, spaced, pathWord, lookNoAt, lookAt};
+
+// The lowest id of a leaf: bit 63 is the leaf flag.
+const LEAF: u64 = 0x8000_0000_0000_0000;
+
+// Where a path ended: the id reached, and its level.
+pub struct End {
+    pub id: BlockId,
+    pub level: u32,
+}
+
+// The answer of lookup.
+#[repr(C)]
+pub struct Looked {
+    pub no: u32,
+    pub value: u16,
+}
+
+// ---- ids
+
+// Is the id EMPTY or a leaf?
+fn is_end(id: u64) -> bool
+    ensures { λ r. ⌜ r ≡ endsAt id ⌝ }
+{
+    if id < LEAF {
+        return id == BlockId::EMPTY.0;
+    }
+    true
+}
+
+// The stored value, in 16 bits; EMPTY has 0.
+fn value(facts: &[u64], id: u64) -> u16
+    ensures { λ r. ⌜ r ≡ val (factOf (now (facts .entry))) id ⌝ }
+{
+    let stored = (fact(facts, slot_of(id), VALUE) % 0x1_0000) as u16;
+    if id == BlockId::EMPTY.0 {
+        return 0;
+    }
+    stored
+}
+
+// ---- down a path
+
+// The low six bits of x, bit 5 at place 5 and each lower one six places further.
+fn spread(x: u32) -> u64
+    ensures { λ r. ⌜ (r ≡ 32 * spaced 6 x) × (r < 2 ^ 36) ⌝ }
+{
+    ((x % 64) as u64 * 0x8_1020_4081) & 0x8_2082_0820
+}
+
+// The child numbers down to the cell (x, y, z) of the depth, the first lowest and each six places above the last, and a 1 above them.
+fn path_word(depth: u32, x: u32, y: u32, z: u32) -> u64
+    requires { ⌜ depth ≤ 6 ⌝ }
+    ensures { λ r. ⌜ r ≡ pathWord depth x y z ⌝ }
+{
+    (spread(x) + 2 * spread(y) + 4 * spread(z) + 0x200_0000_0000) >> (41 - 6 * depth)
+}
+
+// Down from id, as level 0, to the cell (x, y, z) of the depth: until EMPTY, a leaf, or level depth. INVALID of a depth above 6.
+pub fn descend(kids: &[u64], id: BlockId, depth: u32, x: u32, y: u32, z: u32) -> End
+    ensures { λ r. ⌜ r ≡ endOf (kidOf (now (kids .entry))) (id .0) depth x y z ⌝ }
+{
+    if 6 < depth {
+        return End {
+            id: BlockId::INVALID,
+            level: 0,
+        };
+    }
+    if is_end(id.0) {
+        return End { id: id, level: 0 };
+    }
+    let mut at = id.0;
+    let mut level: u32 = 0;
+    let mut word = path_word(depth, x, y, z);
+    while 1 < word {
+        at = kid(kids, slot_of(at), (word % 8) as usize);
+        level += 1;
+        word = word / 64;
+        if is_end(at) {
+            return End {
+                id: BlockId(at),
+                level: level,
+            };
+        }
+    }
+    End {
+        id: BlockId(at),
+        level: level,
+    }
+}
+
+// ---- refusals
+
+// Not refusal 4: EMPTY, or in all 64 bits the id of a node now in the arena.
+fn is_there(c: usize, facts: &[u64], id: u64) -> bool
+    ensures { λ r. ⌜ r ≡ liveOrEmpty c (factOf (now (facts .entry))) id ⌝ }
+{
+    if id == BlockId::EMPTY.0 {
+        return true;
+    }
+    is_live(c, facts, id)
+}
+
+// Is x below 2^d?
+fn is_inside(d: u32, x: u32) -> bool
+    requires { ⌜ d ≤ 6 ⌝ }
+    ensures { λ r. ⌜ r ≡ ltb x (2 ^ d) ⌝ }
+{
+    let one: u32 = 1;
+    x < (one << d)
+}
+
+// ---- lookup
+
+// The lowest refusal that applies to a lookup, or 0.
+pub fn look_no(
+    arena: Arena,
+    kids: &[u64],
+    facts: &[u64],
+    find: &[u16],
+    id: u64,
+    d: u32,
+    x: u32,
+    y: u32,
+    z: u32,
+) -> u32
+    ensures { λ r. ⌜ r ≡ lookNoAt (tables arena (now (kids .entry)) (now (facts .entry)) (now (find .entry))) id d x y z ⌝ }
+{
+    if fit(arena.capacity, kids.len(), facts.len(), find.len()) {
+        if d <= 6 {
+            if is_inside(d, x | y | z) {
+                if is_there(arena.capacity, facts, id) {
+                    return 0;
+                }
+                return 4;
+            }
+            return 3;
+        }
+        return 2;
+    }
+    1
+}
+
+// Lookup of coordinates that are numbers.
+fn look_at(
+    arena: Arena,
+    kids: &[u64],
+    facts: &[u64],
+    find: &[u16],
+    id: BlockId,
+    d: u32,
+    x: u32,
+    y: u32,
+    z: u32,
+) -> Looked
+    ensures { λ r. ⌜ r ≡ lookAt (tables arena (now (kids .entry)) (now (facts .entry)) (now (find .entry))) (id .0) d x y z ⌝ }
+{
+    let no = look_no(arena, kids, facts, find, id.0, d, x, y, z);
+    if no != 0 {
+        return Looked { no: no, value: 0 };
+    }
+    let end = descend(kids, id, d, x, y, z);
+    Looked {
+        no: 0,
+        value: value(facts, end.id.0),
+    }
+}
+
+// The value at a cell of a cube of the depth under id, or a refusal: 1, 2, 3 or 4.
+pub fn get_at_depth(
+    arena: Arena,
+    kids: &[u64],
+    facts: &[u64],
+    find: &[u16],
+    id: BlockId,
+    depth: u32,
+    position: IVec3,
+) -> Looked
+    ensures { λ r. ⌜ r ≡ lookOf (tables arena (now (kids .entry)) (now (facts .entry)) (now (find .entry))) (id .0) depth position ⌝ }
+{
+    look_at(
+        arena,
+        kids,
+        facts,
+        find,
+        id,
+        depth,
+        coord(position.x),
+        coord(position.y),
+        coord(position.z),
+    )
+}

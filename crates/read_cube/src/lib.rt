@@ -1,0 +1,247 @@
+// Expansion: the cells of a model into a lent cube.
+use arena::Arena;
+use arena::slot_of;
+use ids::BlockId;
+use nodes::VALUE;
+use nodes::fact;
+use nodes::kid;
+use read_cell::look_no;
+ghost use mathlib.Core.Path.{_≡_};
+ghost use Prim.Native.Nat.{_+_, _*_, _^_, _<_, _≤_};
+ghost use lib.Dec.{eqb};
+ghost use Rattle.nodes.specs.Words.{nodes, factOf, wordOf};
+ghost use Rattle.arena.specs.Tables.{tables};
+ghost use Rattle.read_cell.specs.Calls.{expanded, expandOf};
+ghost use Rattle.read_cell.specs.Models.{val};
+ghost use Rattle.read_cube.specs.Models.{fillRow, fillPlane, fillBlock, offset as offsetOf, grow, partsTo, partVal, pairOf, cubeFrom};
+
+// The lowest id of a leaf: bit 63 is the leaf flag.
+const LEAF: u64 = 0x8000_0000_0000_0000;
+
+// The stored value, in 16 bits; EMPTY has 0.
+fn value(facts: &[u64], id: u64) -> u16
+    ensures { λ r. ⌜ r ≡ val (factOf (now (facts .entry))) id ⌝ }
+{
+    let stored = (fact(facts, slot_of(id), VALUE) % 0x1_0000) as u16;
+    if id == BlockId::EMPTY.0 {
+        return 0;
+    }
+    stored
+}
+
+// ---- one value into part of a cube
+
+fn mul(a: usize, b: usize) -> usize
+    requires { ⌜ (a ≤ 4096) × (b ≤ 4096) ⌝ }
+    ensures { λ r. ⌜ (r ≡ a * b) × (r ≤ 16777216) ⌝ }
+{
+    a * b
+}
+
+// n cells from `at`.
+fn fill_row(cube: &mut [u16], at: usize, n: usize, v: u16)
+    requires { do ⌜ at + n ≤ (← ⟦cube.len()⟧) ⌝ }
+    ensures { λ _. ⌜ now (cube .exit) ≡ fillRow at n v (now (cube .entry)) ⌝ }
+{
+    let mut x: usize = 0;
+    while x < n {
+        cube[at + x] = v;
+        x += 1;
+    }
+}
+
+// n rows of n cells, `row` apart.
+fn fill_plane(cube: &mut [u16], at: usize, n: usize, row: usize, v: u16)
+    requires { ⌜ (n ≤ 64) × (row ≤ 64) ⌝ }
+    requires { do ⌜ at + n * row + n ≤ (← ⟦cube.len()⟧) + row ⌝ }
+    ensures { λ _. ⌜ now (cube .exit) ≡ fillPlane row at n n v (now (cube .entry)) ⌝ }
+{
+    let mut z: usize = 0;
+    while z < n {
+        fill_row(cube, at + mul(z, row), n, v);
+        z += 1;
+    }
+}
+
+// n planes of n rows of n cells, `plane` apart.
+fn fill_block(cube: &mut [u16], at: usize, n: usize, row: usize, plane: usize, v: u16)
+    requires { ⌜ (n ≤ 64) × (row ≤ 64) × (plane ≤ 4096) ⌝ }
+    requires { do ⌜ at + n * plane + n * row + n ≤ (← ⟦cube.len()⟧) + plane + row ⌝ }
+    ensures { λ _. ⌜ now (cube .exit) ≡ fillBlock row plane at n n v (now (cube .entry)) ⌝ }
+{
+    let mut y: usize = 0;
+    while y < n {
+        fill_plane(cube, at + mul(y, plane), n, row, v);
+        y += 1;
+    }
+}
+
+// ---- octants
+
+// v where the bit is 1, else 0.
+fn upto(bit: usize, v: usize) -> usize
+    requires { ⌜ bit < 2 ⌝ }
+    ensures { λ r. ⌜ (r ≡ bit * v) × (r ≤ v) ⌝ }
+{
+    if bit == 0 { 0 } else { v }
+}
+
+// How far octant c of side h lies from the corner.
+fn offset(c: usize, h: usize, row: usize, plane: usize) -> usize
+    requires { ⌜ (c < 8) × (h ≤ 64) × (row ≤ 64) × (plane ≤ 4096) ⌝ }
+    ensures { λ r. ⌜ (r ≡ offsetOf row plane h c) × (r ≤ h * plane + h * row + h) ⌝ }
+{
+    upto(c % 2, h) + upto(c / 2 % 2, mul(h, plane)) + upto(c / 4, mul(h, row))
+}
+
+// The stored value of child c.
+fn part_value(kids: &[u64], facts: &[u64], id: u64, c: usize) -> u16
+    requires { ⌜ c < 8 ⌝ }
+    ensures { λ r. ⌜ r ≡ partVal (wordOf (nodes (now (kids .entry)) (now (facts .entry)))) id c ⌝ }
+{
+    value(facts, kid(kids, slot_of(id), c))
+}
+
+// The children c and c + 1, side by side.
+fn fill_pair(kids: &[u64], facts: &[u64], cube: &mut [u16], id: u64, c: usize, at: usize)
+    requires { ⌜ c < 7 ⌝ }
+    requires { do ⌜ at + 2 ≤ (← ⟦cube.len()⟧) ⌝ }
+    ensures { λ _. ⌜ now (cube .exit) ≡ pairOf (wordOf (nodes (now (kids .entry)) (now (facts .entry)))) id c at (now (cube .entry)) ⌝ }
+{
+    cube[at] = part_value(kids, facts, id, c);
+    cube[at + 1] = part_value(kids, facts, id, c + 1);
+}
+
+// The eight octants of a branch that are single cells, in turn.
+fn fill_cells(
+    kids: &[u64],
+    facts: &[u64],
+    cube: &mut [u16],
+    id: u64,
+    at: usize,
+    row: usize,
+    plane: usize,
+)
+    requires { do ⌜ at + plane + row + 2 ≤ (← ⟦cube.len()⟧) ⌝ }
+    ensures { λ _. ⌜ now (cube .exit) ≡ partsTo (wordOf (nodes (now (kids .entry)) (now (facts .entry)))) 8 row plane 0 1 id at 8 (now (cube .entry)) ⌝ }
+{
+    fill_pair(kids, facts, cube, id, 0, at);
+    fill_pair(kids, facts, cube, id, 2, at + plane);
+    fill_pair(kids, facts, cube, id, 4, at + row);
+    fill_pair(kids, facts, cube, id, 6, at + plane + row);
+}
+
+// One octant of the lent cube, all 0 before: its corner at `at`, `left` levels above the cells.
+fn fill_octant(
+    kids: &[u64],
+    facts: &[u64],
+    cube: &mut [u16],
+    id: u64,
+    at: usize,
+    left: u32,
+    side: usize,
+    row: usize,
+    plane: usize,
+)
+    requires { ⌜ (side ≡ 2 ^ left) × (side ≤ 64) × (row ≤ 64) × (plane ≤ 4096) ⌝ }
+    requires { do ⌜ at + side * plane + side * row + side ≤ (← ⟦cube.len()⟧) + plane + row ⌝ }
+    ensures { λ _. ⌜ now (cube .exit) ≡ grow (wordOf (nodes (now (kids .entry)) (now (facts .entry)))) 8 row plane left side id at (now (cube .entry)) ⌝ }
+{
+    if left == 0 {
+        cube[at] = value(facts, id);
+        return;
+    }
+    if id == BlockId::EMPTY.0 {
+        return;
+    }
+    if LEAF <= id {
+        fill_block(cube, at, side, row, plane, value(facts, id));
+        return;
+    }
+    if left == 1 {
+        fill_cells(kids, facts, cube, id, at, row, plane);
+        return;
+    }
+    fill_octants(kids, facts, cube, id, at, left - 1, side / 2, row, plane);
+}
+
+// The eight octants of a branch, each of side h, in turn.
+fn fill_octants(
+    kids: &[u64],
+    facts: &[u64],
+    cube: &mut [u16],
+    id: u64,
+    at: usize,
+    left: u32,
+    h: usize,
+    row: usize,
+    plane: usize,
+)
+    requires { ⌜ (h ≡ 2 ^ left) × (h ≤ 32) × (row ≤ 64) × (plane ≤ 4096) ⌝ }
+    requires { do ⌜ at + 2 * h * plane + 2 * h * row + 2 * h ≤ (← ⟦cube.len()⟧) + plane + row ⌝ }
+    ensures { λ _. ⌜ now (cube .exit) ≡ partsTo (wordOf (nodes (now (kids .entry)) (now (facts .entry)))) 8 row plane left h id at 8 (now (cube .entry)) ⌝ }
+{
+    let s = slot_of(id);
+    let mut c: usize = 0;
+    while c < 8 {
+        let e = at + offset(c, h, row, plane);
+        fill_octant(kids, facts, cube, kid(kids, s, c), e, left, h, row, plane);
+        c += 1;
+    }
+}
+
+// The whole cube of side s: one value where the root is a leaf, else 0 and then the root's octants.
+fn fill_cube(kids: &[u64], facts: &[u64], cube: &mut [u16], id: u64, depth: u32, s: usize)
+    requires { ⌜ (s ≡ 2 ^ depth) × (s ≤ 64) ⌝ }
+    requires { do ⌜ 0 + s * (s * s) + s * s + s ≤ (← ⟦cube.len()⟧) + s * s + s ⌝ }
+    ensures { λ _. ⌜ now (cube .exit) ≡ cubeFrom (wordOf (nodes (now (kids .entry)) (now (facts .entry)))) s depth id (now (cube .entry)) ⌝ }
+{
+    let n = cube.len();
+    if LEAF <= id {
+        fill_row(cube, 0, n, value(facts, id));
+        return;
+    }
+    fill_row(cube, 0, n, 0);
+    fill_octant(kids, facts, cube, id, 0, depth, s, s, mul(s, s));
+}
+
+// 2^d
+fn side_of(d: u32) -> usize
+    requires { ⌜ d ≤ 6 ⌝ }
+    ensures { λ r. ⌜ (r ≡ 2 ^ d) × (r ≤ 64) ⌝ }
+{
+    let one: usize = 1;
+    one << d
+}
+
+// Is n 8^d?
+fn is_cube(d: u32, n: usize) -> bool
+    requires { ⌜ d ≤ 6 ⌝ }
+    ensures { λ r. ⌜ r ≡ eqb n (8 ^ d) ⌝ }
+{
+    let s = side_of(d);
+    n == mul(mul(s, s), s)
+}
+
+// Writes the cells of the cube of the depth under id, or refuses: 1, 2, 4 or 9.
+pub fn to_vec(
+    arena: Arena,
+    kids: &[u64],
+    facts: &[u64],
+    find: &[u16],
+    id: BlockId,
+    depth: u32,
+    cube: &mut [u16],
+) -> u32
+    ensures { λ r. ⌜ expanded r (now (cube .exit)) ≡ expandOf (tables arena (now (kids .entry)) (now (facts .entry)) (now (find .entry))) (id .0) depth (now (cube .entry)) ⌝ }
+{
+    let no = look_no(arena, kids, facts, find, id.0, depth, 0, 0, 0);
+    if no != 0 {
+        return no;
+    }
+    if is_cube(depth, cube.len()) {
+        fill_cube(kids, facts, cube, id.0, depth, side_of(depth));
+        return 0;
+    }
+    9
+}

@@ -1,0 +1,54 @@
+-- The numbers of the paths, of reading and of the edit as ladders: each test with its number, in the order of the tests. (That they are the numbers
+-- of the calls is proved: proofs/.)
+use mathlib.Core.Bool.{Bool, false, not}
+use mathlib.Core.List.{List, [], _∷_}
+use Prim.Native.Nat.{ℕ, _-_, _^_}
+use lib.Dec.{leb, ltb, eqb}
+use Rattle.basics.specs.Pick.{pick}
+use Rattle.nodes.specs.Values.{heightAt}
+use Rattle.nodes.specs.Words.{slot}
+use Rattle.paths.specs.declared.IVec3.{IVec3}
+use Rattle.paths.specs.Paths.{inside}
+use Rattle.tree.specs.Lacks.{Need, have, lack}
+use Rattle.arena.specs.Tables.{Tables, cap, W}
+use Rattle.arena.specs.Calls.{fits, liveOrEmpty, fullOf}
+use Rattle.edit.specs.Edit.{resultOf, cellAt}
+
+-- all three coordinates are inside
+unfoldable pub within : ℕ → IVec3 → Bool
+within d p = pick (inside d (p .x)) (pick (inside d (p .y)) (inside d (p .z)) false) false
+
+-- the depth is at most 6, and the level below it
+unfoldable pub leveled : ℕ → ℕ → Bool
+leveled k d = pick (leb d 6) (ltb k d) false
+
+abbrev pub packRungs : ℕ → List (Bool × ℕ)
+packRungs g = (not (leb g 0x7FFE), 12) ∷ []
+
+abbrev pub decodeRungs : ℕ → List (Bool × ℕ)
+decodeRungs code = (not (ltb code (2 ^ 30)), 3) ∷ []
+
+abbrev pub childRungs : IVec3 → ℕ → ℕ → List (Bool × ℕ)
+childRungs p k d = (not (leveled k d), 2) ∷ (not (within d p), 3) ∷ []
+
+abbrev pub lookRungs : Tables → ℕ → ℕ → IVec3 → List (Bool × ℕ)
+lookRungs t id d p = (not (fits t), 1) ∷ (not (leb d 6), 2) ∷ (not (within d p), 3) ∷ (not (liveOrEmpty (cap t) (W t) id), 4) ∷ []
+
+abbrev pub expandRungs : Tables → ℕ → ℕ → ℕ → List (Bool × ℕ)
+expandRungs t id d n =
+    (not (fits t), 1) ∷ (not (leb d 6), 2) ∷ (not (liveOrEmpty (cap t) (W t) id), 4) ∷ (not (eqb n (8 ^ d)), 9) ∷ []
+
+-- the result is there, isn't EMPTY, and already has 1,000,000 holds
+unfoldable pub tenOf : Tables → Need → Bool
+tenOf t (have r) = pick (eqb r 0) false (fullOf (W t) (slot r))
+tenOf t (lack k) = false
+
+-- the result lacks more nodes than there are free slots
+unfoldable pub elevenOf : Tables → Need → Bool
+elevenOf t (have r) = false
+elevenOf t (lack k) = not (leb k (cap t - 1 - t .arena .live))
+
+abbrev pub editRungs : Tables → ℕ → ℕ → IVec3 → ℕ → List (Bool × ℕ)
+editRungs t root d p v =
+    (not (fits t), 1) ∷ (not (leb d 6), 2) ∷ (not (within d p), 3) ∷ (not (liveOrEmpty (cap t) (W t) root), 4)
+    ∷ (not (leb (heightAt (W t) root) d), 8) ∷ (tenOf t (resultOf 8 t v (cellAt d p) root), 10) ∷ (elevenOf t (resultOf 8 t v (cellAt d p) root), 11) ∷ []

@@ -1,9 +1,0 @@
-use borrow.Author.Needs.{needs}
-use Rattle.summing.proofs.Steps.{height-node, height-none}
-use Rattle.summing.proofs.height_at.Statement.{statement}
-use Rattle.summing.proofs.height_at.Tie as tie
-
-pub height-at-spec : {M : Type 1} → statement M
-height-at-spec =
-    tie.close
-    (tie.spec (λ c. search height-none) (λ c κs. search needs) (λ c κs. search needs) (λ c. search height-node))

@@ -1,9 +1,0 @@
-use borrow.Author.Needs.{needs}
-use Rattle.summing.proofs.Steps.{value-node, value-none}
-use Rattle.summing.proofs.value_at.Statement.{statement}
-use Rattle.summing.proofs.value_at.Tie as tie
-
-pub value-at-spec : {M : Type 1} → statement M
-value-at-spec =
-    tie.close
-    (tie.spec (λ c. search value-none) (λ c κs. search needs) (λ c κs. search needs) (λ c. search value-node))

@@ -1,0 +1,81 @@
+-- Every public call's contract determines its answer and the tables afterwards: two that meet it on the same lent tables are equal.
+use mathlib.Core.Path.{_≡_, refl, sym, ap, ap₂, _∙_}
+use mathlib.Core.Logic.{_↔_}
+use mathlib.Core.Bool.{Bool, true, false}
+use mathlib.Core.List.{List}
+use Prim.Native.Nat.{ℕ}
+use native.Mathlib.Omega.{arith}
+use Rattle.ids.specs.declared.BlockId.{BlockId}
+use Rattle.arena.specs.declared.Answer.{Answer}
+use Rattle.arena.specs.declared.Counted.{Counted}
+use Rattle.arena.specs.declared.Made.{Made}
+use Rattle.arena.specs.Calls.{Out, Numbers, made, answered, counted}
+use Rattle.read_cell.specs.Calls.{Expanded, expanded}
+use Rattle.unique.specs.Asked.{Plain, PlainSaid, PlainMeets, Asked, fromRaw, raw, packingNo, newLeaf, newBranch, index, generation, types, mask, hasChild, isLeaf, isBranch, isInvalid, isValid, isEmpty, text, path, position, child, fresh, hold, counts, leaf, branch, release, look, expand, edit, check, Left, Said, Meets, Speaks}
+
+-- what a contract equates can be undone: so two that it equates with one are one
+one : {A B : Type 0} (f : A → B) (back : B → A) → ((a : A) → back (f a) ≡ a) → {o : B} (a b : A) → f a ≡ o → f b ≡ o → a ≡ b
+one f back e a b p q = sym (e a) ∙ ap back (p ∙ sym q) ∙ e b
+
+made-one : {o : Out} (a b : Left Made) → made (a .0) (a .1) (a .2) (a .3) ≡ o → made (b .0) (b .1) (b .2) (b .3) ≡ o → a ≡ b
+made-one = one (λ (a : Left Made). made (a .0) (a .1) (a .2) (a .3))
+    (λ o. (record { no = o .no; id = record { 0 = o .id }; arena = o .after .arena }, o .after .nodes .kids, o .after .nodes .facts, o .after .find)) (λ a. refl)
+
+answered-one : {o : Out} (a b : Left Answer) → answered (a .0) (a .1) (a .2) (a .3) ≡ o → answered (b .0) (b .1) (b .2) (b .3) ≡ o → a ≡ b
+answered-one = one (λ (a : Left Answer). answered (a .0) (a .1) (a .2) (a .3))
+    (λ o. (record { no = o .no; arena = o .after .arena }, o .after .nodes .kids, o .after .nodes .facts, o .after .find)) (λ a. refl)
+
+held-one : (k e : List ℕ) {o : Out} (a b : Answer × List ℕ) → answered (a .0) k (a .1) e ≡ o → answered (b .0) k (b .1) e ≡ o → a ≡ b
+held-one k e = one (λ (a : Answer × List ℕ). answered (a .0) k (a .1) e) (λ o. (record { no = o .no; arena = o .after .arena }, o .after .nodes .facts)) (λ a. refl)
+
+id-one : {o : ℕ} (a b : BlockId) → a .0 ≡ o → b .0 ≡ o → a ≡ b
+id-one = one (λ (a : BlockId). a .0) (λ o. record { 0 = o }) (λ a. refl)
+
+counted-one : {o : Numbers} (a b : Counted) → counted a ≡ o → counted b ≡ o → a ≡ b
+counted-one = one counted (λ o. record { no = o .no; holds = o .holds; places = o .places }) (λ a. refl)
+
+expanded-one : {o : Expanded} (a b : ℕ × List ℕ) → expanded (a .0) (a .1) ≡ o → expanded (b .0) (b .1) ≡ o → a ≡ b
+expanded-one = one (λ (a : ℕ × List ℕ). expanded (a .0) (a .1)) (λ o. (o .no, o .cube)) (λ a. refl)
+
+same : {A : Type 0} {o : A} (a b : A) → a ≡ o → b ≡ o → a ≡ b
+same a b p q = p ∙ sym q
+
+-- a test that is true exactly if P
+test-one : {P : Type 0} (a b : Bool) → (a ≡ true) ↔ P → (b ≡ true) ↔ P → a ≡ b
+test-one true true p q = refl
+test-one true false p q = sym (q .1 (p .0 refl))
+test-one false true p q = p .1 (q .0 refl)
+test-one false false p q = refl
+
+pub plain-determined : (q : Plain) (a b : PlainSaid q) → PlainMeets q a → PlainMeets q b → a ≡ b
+plain-determined (fromRaw x) = id-one
+plain-determined (raw c) = same
+plain-determined (packingNo g) = same
+plain-determined (newLeaf i g) = id-one
+plain-determined (newBranch i g y m) = id-one
+plain-determined (index c) = same
+plain-determined (generation c) = same
+plain-determined (types c) = same
+plain-determined (mask c) = same
+plain-determined (hasChild c i) = same
+plain-determined (isLeaf c) = same
+plain-determined (isBranch c) = same
+plain-determined (isInvalid c) = same
+plain-determined (isValid c) = same
+plain-determined (isEmpty c) = same
+plain-determined (text c) = same
+plain-determined (path p) = same
+plain-determined (position c) = same
+plain-determined (child p k d) = same
+
+pub determined : (q : Asked) → Speaks q → (a b : Said q) → Meets q a → Meets q b → a ≡ b
+determined (fresh c k f e) s = answered-one
+determined (hold t c) s = held-one (t .nodes .kids) (t .find)
+determined (counts t c) s = counted-one
+determined (leaf t v) s = λ a b p q. made-one a b (p 8 6 (omega arith) s) (q 8 6 (omega arith) s)
+determined (branch t ks) s = λ a b p q. made-one a b (p s) (q s)
+determined (release t c) s = λ a b p q. answered-one a b (p 8 6 (omega arith) (omega arith) s) (q 8 6 (omega arith) (omega arith) s)
+determined (look t c d p) s = same
+determined (expand t c d l) s = expanded-one
+determined (edit t c d p v) s = λ a b p q. made-one a b (p s) (q s)
+determined (check t) s = λ a b p q. ap₂ (λ (x : Bool) (y : List ℕ). (x, y)) (test-one (a .0) (b .0) (p .0) (q .0)) (same (a .1) (b .1) (p .1) (q .1))

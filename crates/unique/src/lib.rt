@@ -1,0 +1,236 @@
+// Each public call's contract determines its answer and the tables afterwards (proofs/One.antt). Nobody calls the functions below: each shows that the
+// contract of the call in its body is the one of which that is proved (specs/Asked.antt).
+ghost use Rattle.arena.specs.Tables.{tables};
+ghost use Rattle.unique.specs.Asked.{PlainMeets, fromRaw, raw, packingNo, newLeaf, newBranch, index, generation, types, mask, hasChild, isLeaf, isBranch, isInvalid, isValid, isEmpty, text, path, position, child};
+ghost use Rattle.unique.specs.Asked.{Meets, fresh, hold, counts, leaf, branch, release, look, expand, edit, check};
+use arena::Answer;
+use arena::Arena;
+use arena::Counted;
+use arena::Made;
+use ids::BlockId;
+use ids_text::IdText;
+use paths::ChildIndex;
+use paths::Decoded;
+use paths::IVec3;
+use read_cell::Looked;
+
+// ---- calls that are lent nothing
+
+fn from_raw_meets(number: u64) -> BlockId
+    ensures { λ r. ⌜ PlainMeets (fromRaw number) r ⌝ }
+{
+    BlockId::from_raw(number)
+}
+
+fn raw_meets(id: BlockId) -> u64
+    ensures { λ r. ⌜ PlainMeets (raw id) r ⌝ }
+{
+    id.raw()
+}
+
+fn packing_no_meets(turn: u16) -> u32
+    ensures { λ r. ⌜ PlainMeets (packingNo turn) r ⌝ }
+{
+    BlockId::packing_no(turn)
+}
+
+fn new_leaf_meets(place: u32, turn: u16) -> BlockId
+    ensures { λ r. ⌜ PlainMeets (newLeaf place turn) r ⌝ }
+{
+    BlockId::new_leaf(place, turn)
+}
+
+fn new_branch_meets(place: u32, turn: u16, leaves: u8, there: u8) -> BlockId
+    ensures { λ r. ⌜ PlainMeets (newBranch place turn leaves there) r ⌝ }
+{
+    BlockId::new_branch(place, turn, leaves, there)
+}
+
+fn index_meets(id: BlockId) -> u32
+    ensures { λ r. ⌜ PlainMeets (index id) r ⌝ }
+{
+    id.index()
+}
+
+fn generation_meets(id: BlockId) -> u16
+    ensures { λ r. ⌜ PlainMeets (generation id) r ⌝ }
+{
+    id.generation()
+}
+
+fn types_meets(id: BlockId) -> u8
+    ensures { λ r. ⌜ PlainMeets (types id) r ⌝ }
+{
+    id.types()
+}
+
+fn mask_meets(id: BlockId) -> u8
+    ensures { λ r. ⌜ PlainMeets (mask id) r ⌝ }
+{
+    id.mask()
+}
+
+fn has_child_meets(id: BlockId, number: u8) -> bool
+    ensures { λ r. ⌜ PlainMeets (hasChild id number) r ⌝ }
+{
+    id.has_child(number)
+}
+
+fn is_leaf_meets(id: BlockId) -> bool
+    ensures { λ r. ⌜ PlainMeets (isLeaf id) r ⌝ }
+{
+    id.is_leaf()
+}
+
+fn is_branch_meets(id: BlockId) -> bool
+    ensures { λ r. ⌜ PlainMeets (isBranch id) r ⌝ }
+{
+    id.is_branch()
+}
+
+fn is_invalid_meets(id: BlockId) -> bool
+    ensures { λ r. ⌜ PlainMeets (isInvalid id) r ⌝ }
+{
+    id.is_invalid()
+}
+
+fn is_valid_meets(id: BlockId) -> bool
+    ensures { λ r. ⌜ PlainMeets (isValid id) r ⌝ }
+{
+    id.is_valid()
+}
+
+fn is_empty_meets(id: BlockId) -> bool
+    ensures { λ r. ⌜ PlainMeets (isEmpty id) r ⌝ }
+{
+    id.is_empty()
+}
+
+fn text_meets(id: BlockId) -> IdText
+    ensures { λ r. ⌜ PlainMeets (text id) r ⌝ }
+{
+    ids_text::text(id)
+}
+
+fn path_meets(cell: IVec3) -> u32
+    ensures { λ r. ⌜ PlainMeets (path cell) r ⌝ }
+{
+    paths::encode_child_index_path(cell)
+}
+
+fn position_meets(code: u32) -> Decoded
+    ensures { λ r. ⌜ PlainMeets (position code) r ⌝ }
+{
+    paths::decode_child_index_path(code)
+}
+
+fn child_meets(cell: IVec3, level: u32, depth: u32) -> ChildIndex
+    ensures { λ r. ⌜ PlainMeets (child cell level depth) r ⌝ }
+{
+    paths::child_index2(cell, level, depth)
+}
+
+// ---- calls on lent tables
+
+fn fresh_meets(capacity: usize, kids: &mut [u64], facts: &mut [u64], find: &mut [u16]) -> Answer
+    ensures { λ r. ⌜ Meets (fresh capacity (now (kids .entry)) (now (facts .entry)) (now (find .entry))) (r, now (kids .exit), now (facts .exit), now (find .exit)) ⌝ }
+{
+    arena_hold::fresh(capacity, kids, facts, find)
+}
+
+fn hold_meets(arena: Arena, kids: &[u64], facts: &mut [u64], find: &[u16], id: BlockId) -> Answer
+    ensures { λ r. ⌜ Meets (hold (tables arena (now (kids .entry)) (now (facts .entry)) (now (find .entry))) id) (r, now (facts .exit)) ⌝ }
+{
+    arena_hold::hold(arena, kids, facts, find, id)
+}
+
+fn counts_meets(arena: Arena, kids: &[u64], facts: &[u64], find: &[u16], id: BlockId) -> Counted
+    ensures { λ r. ⌜ Meets (counts (tables arena (now (kids .entry)) (now (facts .entry)) (now (find .entry))) id) r ⌝ }
+{
+    arena_hold::counts(arena, kids, facts, find, id)
+}
+
+fn leaf_meets(
+    arena: Arena,
+    kids: &mut [u64],
+    facts: &mut [u64],
+    find: &mut [u16],
+    value: u16,
+) -> Made
+    ensures { λ r. ⌜ Meets (leaf (tables arena (now (kids .entry)) (now (facts .entry)) (now (find .entry))) value) (r, now (kids .exit), now (facts .exit), now (find .exit)) ⌝ }
+{
+    arena_leaf::intern_leaf(arena, kids, facts, find, value)
+}
+
+fn branch_meets(
+    arena: Arena,
+    kids: &mut [u64],
+    facts: &mut [u64],
+    find: &mut [u16],
+    children: [BlockId; 8],
+) -> Made
+    ensures { λ r. ⌜ Meets (branch (tables arena (now (kids .entry)) (now (facts .entry)) (now (find .entry))) children) (r, now (kids .exit), now (facts .exit), now (find .exit)) ⌝ }
+{
+    arena_branch::intern_branch(arena, kids, facts, find, children)
+}
+
+fn release_meets(
+    arena: Arena,
+    kids: &mut [u64],
+    facts: &mut [u64],
+    find: &mut [u16],
+    id: BlockId,
+) -> Answer
+    ensures { λ r. ⌜ Meets (release (tables arena (now (kids .entry)) (now (facts .entry)) (now (find .entry))) id) (r, now (kids .exit), now (facts .exit), now (find .exit)) ⌝ }
+{
+    arena_release::release(arena, kids, facts, find, id)
+}
+
+fn look_meets(
+    arena: Arena,
+    kids: &[u64],
+    facts: &[u64],
+    find: &[u16],
+    id: BlockId,
+    depth: u32,
+    position: IVec3,
+) -> Looked
+    ensures { λ r. ⌜ Meets (look (tables arena (now (kids .entry)) (now (facts .entry)) (now (find .entry))) id depth position) r ⌝ }
+{
+    read_cell::get_at_depth(arena, kids, facts, find, id, depth, position)
+}
+
+fn expand_meets(
+    arena: Arena,
+    kids: &[u64],
+    facts: &[u64],
+    find: &[u16],
+    id: BlockId,
+    depth: u32,
+    cube: &mut [u16],
+) -> u32
+    ensures { λ r. ⌜ Meets (expand (tables arena (now (kids .entry)) (now (facts .entry)) (now (find .entry))) id depth (now (cube .entry))) (r, now (cube .exit)) ⌝ }
+{
+    read_cube::to_vec(arena, kids, facts, find, id, depth, cube)
+}
+
+fn edit_meets(
+    arena: Arena,
+    kids: &mut [u64],
+    facts: &mut [u64],
+    find: &mut [u16],
+    root: BlockId,
+    depth: u32,
+    position: IVec3,
+    value: u16,
+) -> Made
+    ensures { λ r. ⌜ Meets (edit (tables arena (now (kids .entry)) (now (facts .entry)) (now (find .entry))) root depth position value) (r, now (kids .exit), now (facts .exit), now (find .exit)) ⌝ }
+{
+    edit::set_voxel(arena, kids, facts, find, root, depth, position, value)
+}
+
+fn check_meets(arena: Arena, kids: &[u64], facts: &mut [u64], find: &[u16]) -> bool
+    ensures { λ r. ⌜ Meets (check (tables arena (now (kids .entry)) (now (facts .entry)) (now (find .entry)))) (r, now (facts .exit)) ⌝ }
+{
+    check_arena::check_arena(arena, kids, facts, find)
+}
