@@ -45,11 +45,11 @@ rawIds [] = []
 rawIds (b ∷ bs) = b .0 ∷ rawIds bs
 
 -- what the code's answer and the lists afterwards come to
-abbrev pub made : Made → List ℕ → List ℕ → List ℕ → Out
-made r k f e = said (r .no) (r .id .0) (tables (r .arena) k f e)
+abbrev pub madeOf : Made → List ℕ → List ℕ → List ℕ → Out
+madeOf r k f e = said (r .no) (r .id .0) (tables (r .arena) k f e)
 
-abbrev pub answered : Answer → List ℕ → List ℕ → List ℕ → Out
-answered r k f e = did (r .no) (tables (r .arena) k f e)
+abbrev pub answeredOf : Answer → List ℕ → List ℕ → List ℕ → Out
+answeredOf r k f e = did (r .no) (tables (r .arena) k f e)
 
 -- ## Refusals
 

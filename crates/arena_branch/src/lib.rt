@@ -11,13 +11,13 @@ use arena::slot_of;
 use find::put_cell;
 use find::search;
 use ids::BlockId;
+use new_id::branch_id;
 use new_slot::fresh_slot;
 use new_slot::give;
-use new_id::branch_id;
+use new_value::sums_of;
 use nodes::HOLDS;
 use nodes::OWN;
 use nodes::fact;
-use new_value::sums_of;
 use nodes_write::put_fact;
 use nodes_write::write_slot;
 ghost use mathlib.Core.Path.{_≡_};
@@ -27,9 +27,10 @@ ghost use Prim.Native.Nat.{ℕ, _≤_};
 ghost use Rattle.basics.specs.Pick.{pick};
 ghost use Rattle.nodes.specs.Tally.{occ};
 ghost use Rattle.nodes.specs.Words.{nodes as nodesOf, factOf};
-ghost use Rattle.arena.specs.Calls.{made, Fair, liveOrEmpty, enoughFor, allLive, enough, noneOf, unheldKid, unheld, internBranchOf, rawIds};
+ghost use Rattle.arena.specs.Calls.{madeOf, Fair, liveOrEmpty, enoughFor, allLive, enough, noneOf, unheldKid, unheld, internBranchOf, rawIds};
 ghost use Rattle.arena.specs.Models.{settledKid, settles, branchMissBy, branchHitBy, branchAt, branchBy, branchLow, kidsNo, internBranchBy, valueBy};
 ghost use Rattle.arena.specs.Tables.{tables};
+ghost use Rattle.arena.specs.Lent.{before, made};
 
 // Is the id EMPTY or live?
 fn live_or_empty(capacity: usize, facts: &[u64], k: u64) -> bool
@@ -104,7 +105,7 @@ fn each_no(capacity: usize, facts: &[u64], ks: [u64; 8]) -> u32
 
 // Refusals 1, 4, 5 and 7.
 fn kids_no(a: Arena, kids: &[u64], facts: &[u64], find: &[u16], ks: [u64; 8]) -> u32
-    ensures { λ r. ⌜ r ≡ kidsNo (tables a (now (kids .entry)) (now (facts .entry)) (now (find .entry))) ks ⌝ }
+    ensures { λ r. ⌜ r ≡ kidsNo (before a kids facts find) ks ⌝ }
 {
     if fit(a.capacity, kids.len(), facts.len(), find.len()) {
         return each_no(a.capacity, facts, ks);
@@ -157,7 +158,7 @@ fn unhold_all(facts: &mut [u64], ks: [u64; 8])
 
 // The node in slot s is there already: the holds of the children end, and a hold on it is granted.
 fn branch_hit(a: Arena, facts: &mut [u64], ks: [u64; 8], s: usize) -> Made
-    ensures { λ r. ⌜ ((k e : List ℕ) → made r k (now (facts .exit)) e ≡ branchHitBy (tables a k (now (facts .entry)) e) ks s) ⌝ }
+    ensures { λ r. ⌜ ((k e : List ℕ) → madeOf r k (now (facts .exit)) e ≡ branchHitBy (tables a k (now (facts .entry)) e) ks s) ⌝ }
 {
     if 1000000 <= fact(facts, s, HOLDS) {
         return Made {
@@ -187,7 +188,7 @@ fn branch_miss(
     up: u64,
     at: usize,
 ) -> Made
-    ensures { λ r. ⌜ made r (now (kids .exit)) (now (facts .exit)) (now (find .exit)) ≡ branchMissBy (tables a (now (kids .entry)) (now (facts .entry)) (now (find .entry))) ks v up at ⌝ }
+    ensures { λ r. ⌜ made r kids facts find ≡ branchMissBy (before a kids facts find) ks v up at ⌝ }
 {
     if (a.live as u64) < less(a.capacity as u64) {
         let s = fresh_slot(a);
@@ -221,7 +222,7 @@ fn branch_at(
     s: usize,
     at: usize,
 ) -> Made
-    ensures { λ r. ⌜ made r (now (kids .exit)) (now (facts .exit)) (now (find .exit)) ≡ branchAt (tables a (now (kids .entry)) (now (facts .entry)) (now (find .entry))) ks v up s at ⌝ }
+    ensures { λ r. ⌜ made r kids facts find ≡ branchAt (before a kids facts find) ks v up s at ⌝ }
 {
     if s == 0 {
         return branch_miss(a, kids, facts, find, ks, v, up, at);
@@ -240,7 +241,7 @@ fn branch(
     top: u64,
 ) -> Made
     requires { ⌜ (v ≡ valueBy 8 (factOf (now facts)) ks) × (top ≤ 6) ⌝ }
-    ensures { λ r. ⌜ made r (now (kids .exit)) (now (facts .exit)) (now (find .exit)) ≡ branchBy 8 (tables a (now (kids .entry)) (now (facts .entry)) (now (find .entry))) ks top ⌝ }
+    ensures { λ r. ⌜ made r kids facts find ≡ branchBy 8 (before a kids facts find) ks top ⌝ }
 {
     let f = search(find, kids, facts, a.capacity, ks, v);
     branch_at(a, kids, facts, find, ks, v, top + 1, f.slot, f.cell)
@@ -248,7 +249,7 @@ fn branch(
 
 // The branch of these children unless it is taller than 6: refusal 8.
 fn branch_low(a: Arena, kids: &mut [u64], facts: &mut [u64], find: &mut [u16], ks: [u64; 8]) -> Made
-    ensures { λ r. ⌜ made r (now (kids .exit)) (now (facts .exit)) (now (find .exit)) ≡ branchLow 8 6 (tables a (now (kids .entry)) (now (facts .entry)) (now (find .entry))) ks ⌝ }
+    ensures { λ r. ⌜ made r kids facts find ≡ branchLow 8 6 (before a kids facts find) ks ⌝ }
 {
     let sums = sums_of(facts, ks);
     if sums.top < 6 {
@@ -263,7 +264,7 @@ fn branch_low(a: Arena, kids: &mut [u64], facts: &mut [u64], find: &mut [u16], k
 
 // Intern branch on any tables.
 fn branch_any(a: Arena, kids: &mut [u64], facts: &mut [u64], find: &mut [u16], ks: [u64; 8]) -> Made
-    ensures { λ r. ⌜ made r (now (kids .exit)) (now (facts .exit)) (now (find .exit)) ≡ internBranchBy 8 6 (tables a (now (kids .entry)) (now (facts .entry)) (now (find .entry))) ks ⌝ }
+    ensures { λ r. ⌜ made r kids facts find ≡ internBranchBy 8 6 (before a kids facts find) ks ⌝ }
 {
     let no = kids_no(a, kids, facts, find, ks);
     if no != 0 {
@@ -301,7 +302,7 @@ pub fn intern_branch(
     find: &mut [u16],
     children: [BlockId; 8],
 ) -> Made
-    ensures { λ r. ⌜ (Fair 8 6 (tables arena (now (kids .entry)) (now (facts .entry)) (now (find .entry))) → made r (now (kids .exit)) (now (facts .exit)) (now (find .exit)) ≡ internBranchOf 8 6 (tables arena (now (kids .entry)) (now (facts .entry)) (now (find .entry))) (rawIds children)) ⌝ }
+    ensures { λ r. ⌜ (Fair 8 6 (before arena kids facts find) → made r kids facts find ≡ internBranchOf 8 6 (before arena kids facts find) (rawIds children)) ⌝ }
 {
     branch_any(arena, kids, facts, find, raw_ids(children))
 }

@@ -12,12 +12,12 @@ use nodes::PLACES;
 use nodes::fact;
 ghost use mathlib.Core.Path.{_≡_};
 ghost use lib.ListN.{length, replicate};
-ghost use Rattle.arena.specs.Calls.{answered, counted, holdNo, holdOf, countsOf, freshOf};
-ghost use Rattle.arena.specs.Tables.{tables};
+ghost use Rattle.arena.specs.Calls.{counted, holdNo, holdOf, countsOf, freshOf};
+ghost use Rattle.arena.specs.Lent.{before, answered};
 
 // Refusals 1, 4 and 10.
 fn hold_no(a: Arena, kids: &[u64], facts: &[u64], find: &[u16], id: u64) -> u32
-    ensures { λ r. ⌜ r ≡ holdNo (tables a (now (kids .entry)) (now (facts .entry)) (now (find .entry))) id ⌝ }
+    ensures { λ r. ⌜ r ≡ holdNo (before a kids facts find) id ⌝ }
 {
     if fit(a.capacity, kids.len(), facts.len(), find.len()) {
         if id == 0 {
@@ -36,7 +36,7 @@ fn hold_no(a: Arena, kids: &[u64], facts: &[u64], find: &[u16], id: u64) -> u32
 
 // Hold: the caller gets one hold more. EMPTY: nothing.
 pub fn hold(arena: Arena, kids: &[u64], facts: &mut [u64], find: &[u16], id: BlockId) -> Answer
-    ensures { λ r. ⌜ answered r (now (kids .entry)) (now (facts .exit)) (now (find .entry)) ≡ holdOf (tables arena (now (kids .entry)) (now (facts .entry)) (now (find .entry))) (id .0) ⌝ }
+    ensures { λ r. ⌜ answered r kids facts find ≡ holdOf (before arena kids facts find) (id .0) ⌝ }
 {
     // The state as it is, number by number: a copy of the whole would wait for the caller's stores.
     let same = Arena {
@@ -62,7 +62,7 @@ pub fn hold(arena: Arena, kids: &[u64], facts: &mut [u64], find: &[u16], id: Blo
 
 // Counts: the holds and the places of a node.
 pub fn counts(arena: Arena, kids: &[u64], facts: &[u64], find: &[u16], id: BlockId) -> Counted
-    ensures { λ r. ⌜ counted r ≡ countsOf (tables arena (now (kids .entry)) (now (facts .entry)) (now (find .entry))) (id .0) ⌝ }
+    ensures { λ r. ⌜ counted r ≡ countsOf (before arena kids facts find) (id .0) ⌝ }
 {
     let raw = id.0;
     if fit(arena.capacity, kids.len(), facts.len(), find.len()) {
@@ -118,7 +118,7 @@ fn clear_cells(find: &mut [u16])
 
 // A fresh arena: clears every slot, with generation 0 and none given out.
 pub fn fresh(capacity: usize, kids: &mut [u64], facts: &mut [u64], find: &mut [u16]) -> Answer
-    ensures { λ r. ⌜ answered r (now (kids .exit)) (now (facts .exit)) (now (find .exit)) ≡ freshOf capacity (now (kids .entry)) (now (facts .entry)) (now (find .entry)) ⌝ }
+    ensures { λ r. ⌜ answered r kids facts find ≡ freshOf capacity (now (kids .entry)) (now (facts .entry)) (now (find .entry)) ⌝ }
 {
     let a = Arena {
         capacity: capacity,

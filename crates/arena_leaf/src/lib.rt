@@ -17,16 +17,17 @@ use nodes_write::write_slot;
 ghost use mathlib.Core.Path.{_≡_};
 ghost use mathlib.Core.List.{List};
 ghost use Prim.Native.Nat.{ℕ, _≤_};
-ghost use Rattle.arena.specs.Calls.{made, Fair, internLeafOf};
+ghost use Rattle.arena.specs.Calls.{madeOf, Fair, internLeafOf};
 ghost use Rattle.arena.specs.Models.{hitBy, leafMissBy, leafAt, leafBy, internLeafBy};
 ghost use Rattle.arena.specs.Tables.{tables};
+ghost use Rattle.arena.specs.Lent.{before, made};
 
 // Eight EMPTY children.
 const NONE: [u64; 8] = [0, 0, 0, 0, 0, 0, 0, 0];
 
 // One hold more on the node in slot s, which is there already.
 fn hit(a: Arena, facts: &mut [u64], s: usize) -> Made
-    ensures { λ r. ⌜ ((k e : List ℕ) → made r k (now (facts .exit)) e ≡ hitBy (tables a k (now (facts .entry)) e) s) ⌝ }
+    ensures { λ r. ⌜ ((k e : List ℕ) → madeOf r k (now (facts .exit)) e ≡ hitBy (tables a k (now (facts .entry)) e) s) ⌝ }
 {
     let h = fact(facts, s, HOLDS);
     if 1000000 <= h {
@@ -54,7 +55,7 @@ fn leaf_miss(
     v: u64,
     at: usize,
 ) -> Made
-    ensures { λ r. ⌜ made r (now (kids .exit)) (now (facts .exit)) (now (find .exit)) ≡ leafMissBy (tables a (now (kids .entry)) (now (facts .entry)) (now (find .entry))) v at ⌝ }
+    ensures { λ r. ⌜ made r kids facts find ≡ leafMissBy (before a kids facts find) v at ⌝ }
 {
     if (a.live as u64) < less(a.capacity as u64) {
         let s = fresh_slot(a);
@@ -85,7 +86,7 @@ fn leaf_at(
     s: usize,
     at: usize,
 ) -> Made
-    ensures { λ r. ⌜ made r (now (kids .exit)) (now (facts .exit)) (now (find .exit)) ≡ leafAt (tables a (now (kids .entry)) (now (facts .entry)) (now (find .entry))) v s at ⌝ }
+    ensures { λ r. ⌜ made r kids facts find ≡ leafAt (before a kids facts find) v s at ⌝ }
 {
     if s == 0 {
         return leaf_miss(a, kids, facts, find, v, at);
@@ -95,7 +96,7 @@ fn leaf_at(
 
 // The leaf of value v: the live node if there is one, else a fresh one.
 fn leaf(a: Arena, kids: &mut [u64], facts: &mut [u64], find: &mut [u16], v: u64) -> Made
-    ensures { λ r. ⌜ made r (now (kids .exit)) (now (facts .exit)) (now (find .exit)) ≡ leafBy (tables a (now (kids .entry)) (now (facts .entry)) (now (find .entry))) v ⌝ }
+    ensures { λ r. ⌜ made r kids facts find ≡ leafBy (before a kids facts find) v ⌝ }
 {
     let f = search_leaf(find, kids, facts, a.capacity, v);
     leaf_at(a, kids, facts, find, v, f.slot, f.cell)
@@ -103,7 +104,7 @@ fn leaf(a: Arena, kids: &mut [u64], facts: &mut [u64], find: &mut [u16], v: u64)
 
 // Intern leaf on any tables.
 fn leaf_any(a: Arena, kids: &mut [u64], facts: &mut [u64], find: &mut [u16], value: u16) -> Made
-    ensures { λ r. ⌜ made r (now (kids .exit)) (now (facts .exit)) (now (find .exit)) ≡ internLeafBy (tables a (now (kids .entry)) (now (facts .entry)) (now (find .entry))) value ⌝ }
+    ensures { λ r. ⌜ made r kids facts find ≡ internLeafBy (before a kids facts find) value ⌝ }
 {
     if fit(a.capacity, kids.len(), facts.len(), find.len()) {
         if value == 0 {
@@ -130,7 +131,7 @@ pub fn intern_leaf(
     find: &mut [u16],
     value: u16,
 ) -> Made
-    ensures { λ r. ⌜ ((n tallest : ℕ) → n ≤ 8 → Fair n tallest (tables arena (now (kids .entry)) (now (facts .entry)) (now (find .entry))) → made r (now (kids .exit)) (now (facts .exit)) (now (find .exit)) ≡ internLeafOf (tables arena (now (kids .entry)) (now (facts .entry)) (now (find .entry))) value) ⌝ }
+    ensures { λ r. ⌜ ((n tallest : ℕ) → n ≤ 8 → Fair n tallest (before arena kids facts find) → made r kids facts find ≡ internLeafOf (before arena kids facts find) value) ⌝ }
 {
     leaf_any(arena, kids, facts, find, value)
 }

@@ -7,6 +7,7 @@ use arena::less;
 use arena::settle;
 use arena::slot_of;
 use find_hash::home_for;
+use find_remove::remove_from;
 use ids::BlockId;
 use nodes::HOLDS;
 use nodes::OWN;
@@ -14,7 +15,6 @@ use nodes::PLACES;
 use nodes::VALUE;
 use nodes::children;
 use nodes::fact;
-use find_remove::remove_from;
 use nodes_write::write_slot;
 ghost use mathlib.Core.Path.{_≡_};
 ghost use Prim.Native.Nat.{ℕ, _+_, _*_, _^_, _≤_};
@@ -23,10 +23,10 @@ ghost use Rattle.basics.specs.Pick.{pick};
 ghost use Rattle.ids.specs.Ids.{generationOf};
 ghost use Rattle.nodes.specs.Words.{own as ownWord, nodes as nodesOf, factOf, wordOf, written, slot};
 ghost use Rattle.find.specs.Content.{homeAt};
-ghost use Rattle.arena.specs.Calls.{answered, Fair, empties, deadFacts, recycled, each, releaseNo, releaseOf, enough, noneOf};
+ghost use Rattle.arena.specs.Calls.{Fair, empties, deadFacts, recycled, each, releaseNo, releaseOf, enough, noneOf};
 ghost use Rattle.arena.specs.Models.{dropPlace, releaseBy, releaseAny};
 ghost use Rattle.arena.specs.Node.{nextGeneration};
-ghost use Rattle.arena.specs.Tables.{tables};
+ghost use Rattle.arena.specs.Lent.{before, after, answered};
 ghost use Rattle.arena_release.specs.Drop.{stateOf, lastAt, takenAt, lastOf, takenOf, dropSlot};
 
 // Eight EMPTY children.
@@ -69,7 +69,7 @@ fn recycle(
     from: usize,
 ) -> Slots
     requires { ⌜ from ≡ homeAt capacity (wordOf (nodesOf (now kids) (now facts))) s ⌝ }
-    ensures { λ r. ⌜ tables (stateOf capacity (r .next) (r .top) (r .live)) (now (kids .exit)) (now (facts .exit)) (now (find .exit)) ≡ recycled (tables (stateOf capacity (a .next) (a .top) (a .live)) (now (kids .entry)) (now (facts .entry)) (now (find .entry))) s ⌝ }
+    ensures { λ r. ⌜ after (stateOf capacity (r .next) (r .top) (r .live)) kids facts find ≡ recycled (before (stateOf capacity (a .next) (a .top) (a .live)) kids facts find) s ⌝ }
 {
     remove_from(find, kids, facts, capacity, s, from);
     clear_slot(kids, facts, s, a.top);
@@ -138,7 +138,7 @@ fn drop_slot(
     s: usize,
     left: u64,
 ) -> Slots
-    ensures { λ r. ⌜ tables (stateOf capacity (r .next) (r .top) (r .live)) (now (kids .exit)) (now (facts .exit)) (now (find .exit)) ≡ dropSlot left (tables (stateOf capacity (a .next) (a .top) (a .live)) (now (kids .entry)) (now (facts .entry)) (now (find .entry))) s ⌝ }
+    ensures { λ r. ⌜ after (stateOf capacity (r .next) (r .top) (r .live)) kids facts find ≡ dropSlot left (before (stateOf capacity (a .next) (a .top) (a .live)) kids facts find) s ⌝ }
 {
     let below = children(kids, s);
     let from = home_for(capacity, below, fact(facts, s, VALUE));
@@ -162,7 +162,7 @@ fn drop_all(
     below: [u64; 8],
     left: u64,
 ) -> Slots
-    ensures { λ r. ⌜ tables (stateOf capacity (r .next) (r .top) (r .live)) (now (kids .exit)) (now (facts .exit)) (now (find .exit)) ≡ each (dropPlace (left + 1)) (tables (stateOf capacity (a .next) (a .top) (a .live)) (now (kids .entry)) (now (facts .entry)) (now (find .entry))) below ⌝ }
+    ensures { λ r. ⌜ after (stateOf capacity (r .next) (r .top) (r .live)) kids facts find ≡ each (dropPlace (left + 1)) (before (stateOf capacity (a .next) (a .top) (a .live)) kids facts find) below ⌝ }
 {
     let mut b = a;
     let mut i: usize = 0;
@@ -178,7 +178,7 @@ fn drop_all(
 
 // Takes one hold from the node of `id`; EMPTY: nothing. Seven levels are enough: no node is taller than 6.
 fn release_at(a: Arena, kids: &mut [u64], facts: &mut [u64], find: &mut [u16], id: u64) -> Arena
-    ensures { λ r. ⌜ tables r (now (kids .exit)) (now (facts .exit)) (now (find .exit)) ≡ pick (eqb id 0) (tables a (now (kids .entry)) (now (facts .entry)) (now (find .entry))) (releaseBy (tables a (now (kids .entry)) (now (facts .entry)) (now (find .entry))) id) ⌝ }
+    ensures { λ r. ⌜ after r kids facts find ≡ pick (eqb id 0) (before a kids facts find) (releaseBy (before a kids facts find) id) ⌝ }
 {
     if id == 0 {
         return a;
@@ -204,7 +204,7 @@ fn release_at(a: Arena, kids: &mut [u64], facts: &mut [u64], find: &mut [u16], i
 
 // Refusals 1, 4 and 5.
 fn release_no(a: Arena, kids: &[u64], facts: &[u64], find: &[u16], id: u64) -> u32
-    ensures { λ r. ⌜ r ≡ releaseNo (tables a (now (kids .entry)) (now (facts .entry)) (now (find .entry))) id ⌝ }
+    ensures { λ r. ⌜ r ≡ releaseNo (before a kids facts find) id ⌝ }
 {
     if fit(a.capacity, kids.len(), facts.len(), find.len()) {
         if id == 0 {
@@ -223,7 +223,7 @@ fn release_no(a: Arena, kids: &[u64], facts: &[u64], find: &[u16], id: u64) -> u
 
 // Release on any tables.
 fn release_any(a: Arena, kids: &mut [u64], facts: &mut [u64], find: &mut [u16], id: u64) -> Answer
-    ensures { λ r. ⌜ answered r (now (kids .exit)) (now (facts .exit)) (now (find .exit)) ≡ releaseAny (tables a (now (kids .entry)) (now (facts .entry)) (now (find .entry))) id ⌝ }
+    ensures { λ r. ⌜ answered r kids facts find ≡ releaseAny (before a kids facts find) id ⌝ }
 {
     let no = release_no(a, kids, facts, find, id);
     if no != 0 {
@@ -241,7 +241,7 @@ pub fn release(
     find: &mut [u16],
     id: BlockId,
 ) -> Answer
-    ensures { λ r. ⌜ ((n tallest : ℕ) → n ≤ 8 → tallest ≤ 6 → Fair n tallest (tables arena (now (kids .entry)) (now (facts .entry)) (now (find .entry))) → answered r (now (kids .exit)) (now (facts .exit)) (now (find .exit)) ≡ releaseOf (tables arena (now (kids .entry)) (now (facts .entry)) (now (find .entry))) (id .0)) ⌝ }
+    ensures { λ r. ⌜ ((n tallest : ℕ) → n ≤ 8 → tallest ≤ 6 → Fair n tallest (before arena kids facts find) → answered r kids facts find ≡ releaseOf (before arena kids facts find) (id .0)) ⌝ }
 {
     release_any(arena, kids, facts, find, id.0)
 }

@@ -2,8 +2,8 @@
 // cites the same definition. A slice goes as its address and its length, an id as its raw number, eight ids as a struct that holds them.
 ghost use mathlib.Core.Path.{_≡_};
 ghost use Prim.Native.Nat.{ℕ, _≤_};
-ghost use Rattle.arena.specs.Tables.{tables};
-ghost use Rattle.arena.specs.Calls.{made, answered, counted, Fair, rawIds, freshOf, internLeafOf, internBranchOf, holdOf, releaseOf, countsOf};
+ghost use Rattle.arena.specs.Calls.{counted, Fair, rawIds, freshOf, internLeafOf, internBranchOf, holdOf, releaseOf, countsOf};
+ghost use Rattle.arena.specs.Lent.{before, made, answered};
 use arena::Answer;
 use arena::Arena;
 use arena::Counted;
@@ -23,7 +23,7 @@ pub extern "C" fn fenpiling_fresh(
     facts: &mut [u64],
     find: &mut [u16],
 ) -> Answer
-    ensures { λ r. ⌜ answered r (now (kids .exit)) (now (facts .exit)) (now (find .exit)) ≡ freshOf capacity (now (kids .entry)) (now (facts .entry)) (now (find .entry)) ⌝ }
+    ensures { λ r. ⌜ answered r kids facts find ≡ freshOf capacity (now (kids .entry)) (now (facts .entry)) (now (find .entry)) ⌝ }
 {
     arena_hold::fresh(capacity, kids, facts, find)
 }
@@ -36,7 +36,7 @@ pub extern "C" fn fenpiling_intern_leaf(
     find: &mut [u16],
     value: u16,
 ) -> Made
-    ensures { λ r. ⌜ ((n tallest : ℕ) → n ≤ 8 → Fair n tallest (tables arena (now (kids .entry)) (now (facts .entry)) (now (find .entry))) → made r (now (kids .exit)) (now (facts .exit)) (now (find .exit)) ≡ internLeafOf (tables arena (now (kids .entry)) (now (facts .entry)) (now (find .entry))) value) ⌝ }
+    ensures { λ r. ⌜ ((n tallest : ℕ) → n ≤ 8 → Fair n tallest (before arena kids facts find) → made r kids facts find ≡ internLeafOf (before arena kids facts find) value) ⌝ }
 {
     arena_leaf::intern_leaf(arena, kids, facts, find, value)
 }
@@ -49,7 +49,7 @@ pub extern "C" fn fenpiling_intern_branch(
     find: &mut [u16],
     children: Children,
 ) -> Made
-    ensures { λ r. ⌜ (Fair 8 6 (tables arena (now (kids .entry)) (now (facts .entry)) (now (find .entry))) → made r (now (kids .exit)) (now (facts .exit)) (now (find .exit)) ≡ internBranchOf 8 6 (tables arena (now (kids .entry)) (now (facts .entry)) (now (find .entry))) (rawIds (children .ids))) ⌝ }
+    ensures { λ r. ⌜ (Fair 8 6 (before arena kids facts find) → made r kids facts find ≡ internBranchOf 8 6 (before arena kids facts find) (rawIds (children .ids))) ⌝ }
 {
     let ids = children.ids;
     arena_branch::intern_branch(arena, kids, facts, find, ids)
@@ -63,7 +63,7 @@ pub extern "C" fn fenpiling_hold(
     find: &[u16],
     id: u64,
 ) -> Answer
-    ensures { λ r. ⌜ answered r (now (kids .entry)) (now (facts .exit)) (now (find .entry)) ≡ holdOf (tables arena (now (kids .entry)) (now (facts .entry)) (now (find .entry))) id ⌝ }
+    ensures { λ r. ⌜ answered r kids facts find ≡ holdOf (before arena kids facts find) id ⌝ }
 {
     arena_hold::hold(arena, kids, facts, find, BlockId(id))
 }
@@ -76,7 +76,7 @@ pub extern "C" fn fenpiling_release(
     find: &mut [u16],
     id: u64,
 ) -> Answer
-    ensures { λ r. ⌜ ((n tallest : ℕ) → n ≤ 8 → tallest ≤ 6 → Fair n tallest (tables arena (now (kids .entry)) (now (facts .entry)) (now (find .entry))) → answered r (now (kids .exit)) (now (facts .exit)) (now (find .exit)) ≡ releaseOf (tables arena (now (kids .entry)) (now (facts .entry)) (now (find .entry))) id) ⌝ }
+    ensures { λ r. ⌜ ((n tallest : ℕ) → n ≤ 8 → tallest ≤ 6 → Fair n tallest (before arena kids facts find) → answered r kids facts find ≡ releaseOf (before arena kids facts find) id) ⌝ }
 {
     arena_release::release(arena, kids, facts, find, BlockId(id))
 }
@@ -89,7 +89,7 @@ pub extern "C" fn fenpiling_counts(
     find: &[u16],
     id: u64,
 ) -> Counted
-    ensures { λ r. ⌜ counted r ≡ countsOf (tables arena (now (kids .entry)) (now (facts .entry)) (now (find .entry))) id ⌝ }
+    ensures { λ r. ⌜ counted r ≡ countsOf (before arena kids facts find) id ⌝ }
 {
     arena_hold::counts(arena, kids, facts, find, BlockId(id))
 }

@@ -3,8 +3,9 @@
 ghost use mathlib.Core.Path.{_≡_};
 ghost use mathlib.Core.Bool.{true};
 ghost use mathlib.Core.Logic.{_↔_};
-ghost use Rattle.arena.specs.Tables.{tables, WellFormed};
-ghost use Rattle.arena.specs.Calls.{made, Fair};
+ghost use Rattle.arena.specs.Tables.{WellFormed};
+ghost use Rattle.arena.specs.Calls.{Fair};
+ghost use Rattle.arena.specs.Lent.{before, made};
 ghost use Rattle.read_cell.specs.Calls.{lookOf, expanded, expandOf};
 ghost use Rattle.edit.specs.Edit.{editOf};
 use arena::Arena;
@@ -20,7 +21,7 @@ pub extern "C" fn fenpiling_check(
     facts: &mut [u64],
     find: &[u16],
 ) -> bool
-    ensures { λ r. ⌜ ((r ≡ true) ↔ WellFormed 8 6 (tables arena (now (kids .entry)) (now (facts .entry)) (now (find .entry)))) × (now (facts .exit) ≡ now (facts .entry)) ⌝ }
+    ensures { λ r. ⌜ ((r ≡ true) ↔ WellFormed 8 6 (before arena kids facts find)) × (now (facts .exit) ≡ now (facts .entry)) ⌝ }
 {
     check_arena::check_arena(arena, kids, facts, find)
 }
@@ -35,7 +36,7 @@ pub extern "C" fn fenpiling_get_at_depth(
     depth: u32,
     position: IVec3,
 ) -> Looked
-    ensures { λ r. ⌜ r ≡ lookOf (tables arena (now (kids .entry)) (now (facts .entry)) (now (find .entry))) id depth position ⌝ }
+    ensures { λ r. ⌜ r ≡ lookOf (before arena kids facts find) id depth position ⌝ }
 {
     read_cell::get_at_depth(arena, kids, facts, find, BlockId(id), depth, position)
 }
@@ -50,7 +51,7 @@ pub extern "C" fn fenpiling_to_vec(
     depth: u32,
     cube: &mut [u16],
 ) -> u32
-    ensures { λ r. ⌜ expanded r (now (cube .exit)) ≡ expandOf (tables arena (now (kids .entry)) (now (facts .entry)) (now (find .entry))) id depth (now (cube .entry)) ⌝ }
+    ensures { λ r. ⌜ expanded r (now (cube .exit)) ≡ expandOf (before arena kids facts find) id depth (now (cube .entry)) ⌝ }
 {
     read_cube::to_vec(arena, kids, facts, find, BlockId(id), depth, cube)
 }
@@ -66,7 +67,7 @@ pub extern "C" fn fenpiling_set_voxel(
     position: IVec3,
     value: u16,
 ) -> Made
-    ensures { λ r. ⌜ (Fair 8 6 (tables arena (now (kids .entry)) (now (facts .entry)) (now (find .entry))) → made r (now (kids .exit)) (now (facts .exit)) (now (find .exit)) ≡ editOf (tables arena (now (kids .entry)) (now (facts .entry)) (now (find .entry))) root depth position value) ⌝ }
+    ensures { λ r. ⌜ (Fair 8 6 (before arena kids facts find) → made r kids facts find ≡ editOf (before arena kids facts find) root depth position value) ⌝ }
 {
     edit::set_voxel(
         arena,

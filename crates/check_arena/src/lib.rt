@@ -2,9 +2,14 @@
 // capacity, and the first that says no ends the check. See specs/Models.antt.
 use arena::Arena;
 use arena::slot_of;
+use check_find::find_fine;
+use check_freed::FLOOR;
+use check_freed::is_given;
+use check_freed::state_fine;
+use check_places::tallies;
 use ids::BlockId;
-use new_slot::leaf_id;
 use new_id::branch_id;
+use new_slot::leaf_id;
 use nodes::HEIGHT;
 use nodes::HOLDS;
 use nodes::LINK;
@@ -15,11 +20,6 @@ use nodes::VALUE;
 use nodes::children;
 use nodes::fact;
 use nodes::kid;
-use check_freed::FLOOR;
-use check_freed::is_given;
-use check_freed::state_fine;
-use check_find::find_fine;
-use check_places::tallies;
 ghost use mathlib.Core.Path.{_≡_};
 ghost use mathlib.Core.Logic.{_↔_};
 ghost use mathlib.Core.Bool.{true};
@@ -28,7 +28,8 @@ ghost use lib.Dec.{leb};
 ghost use Rattle.basics.specs.Sums.{sumTo};
 ghost use Rattle.nodes.specs.Words.{factOf, holds, places};
 ghost use Rattle.nodes.specs.Values.{maxTo};
-ghost use Rattle.arena.specs.Tables.{tables, WellFormed};
+ghost use Rattle.arena.specs.Tables.{WellFormed};
+ghost use Rattle.arena.specs.Lent.{before};
 ghost use Rattle.check_freed.specs.Models.{allIn};
 ghost use Rattle.check_arena.specs.Models.{bareFrom, blankAt, deadFine, countsFine, leafNamed, leafFine, branchNamed, liveId, kidFine, kidValue, kidHeight, averageAt, tallAt, branchFine, liveFine, restsAt, plainAt, slotFine, sizedBy, rangedBy, soundBy};
 
@@ -426,7 +427,7 @@ fn check_any(
     tallest: u64,
 ) -> bool
     requires { ⌜ (1 ≤ n) × (n ≤ 8) ⌝ }
-    ensures { λ r. ⌜ ((r ≡ true) ↔ WellFormed n tallest (tables arena (now (kids .entry)) (now (facts .entry)) (now (find .entry)))) × (now (facts .exit) ≡ now (facts .entry)) ⌝ }
+    ensures { λ r. ⌜ ((r ≡ true) ↔ WellFormed n tallest (before arena kids facts find)) × (now (facts .exit) ≡ now (facts .entry)) ⌝ }
 {
     if !is_sound(kids, facts, find, arena, n, tallest) {
         return false;
@@ -436,7 +437,7 @@ fn check_any(
 
 // The arena check: yes exactly if the tables are well formed, on any tables; with refusal 1 it says no. The tables are as before.
 pub fn check_arena(arena: Arena, kids: &[u64], facts: &mut [u64], find: &[u16]) -> bool
-    ensures { λ r. ⌜ ((r ≡ true) ↔ WellFormed 8 6 (tables arena (now (kids .entry)) (now (facts .entry)) (now (find .entry)))) × (now (facts .exit) ≡ now (facts .entry)) ⌝ }
+    ensures { λ r. ⌜ ((r ≡ true) ↔ WellFormed 8 6 (before arena kids facts find)) × (now (facts .exit) ≡ now (facts .entry)) ⌝ }
 {
     check_any(arena, kids, facts, find, 8, 6)
 }

@@ -1,5 +1,6 @@
 // The finding table of any tables, whatever they hold, in one pass over its cells and one over the slots. See the crate check_freed' specs/Models.antt.
 use arena::Arena;
+use check_freed::FLOOR;
 use find::Found;
 use find::cell;
 use find::search;
@@ -7,7 +8,6 @@ use nodes::OWN;
 use nodes::VALUE;
 use nodes::children;
 use nodes::fact;
-use check_freed::FLOOR;
 ghost use mathlib.Core.Path.{_≡_};
 ghost use lib.ListN.{length, getD};
 ghost use Rattle.check_freed.specs.Models.{allIn, cellFor, liveAt, namedAt, cellFine, foundAt, findFine};

@@ -1,14 +1,14 @@
 // The tally of all nodes of any tables, whatever they hold, in three passes over the slots: a counter in the link word of live slots, 0 before and 0
 // again after. See the crate check_freed' specs/Models.antt.
 use arena::slot_of;
+use check_freed::FLOOR;
 use nodes::LINK;
 use nodes::OWN;
 use nodes::PLACES;
 use nodes::children;
 use nodes::fact;
-use check_freed::FLOOR;
-use std::num::wrapping_add_u64;
 use nodes_write::put_fact;
+use std::num::wrapping_add_u64;
 ghost use mathlib.Core.Path.{_≡_};
 ghost use Prim.Native.Nat.{_+_};
 ghost use Rattle.find_hash.specs.Hash.{wrap};

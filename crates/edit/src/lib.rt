@@ -3,22 +3,22 @@
 use arena::Arena;
 use arena::Made;
 use arena::slot_of;
-use ids::BlockId;
-use nodes::HOLDS;
-use nodes::fact;
-use paths::IVec3;
-use paths::coord;
+use edit_make::make;
 use edit_plan::Plan;
 use edit_plan::result;
-use read_cell::look_no;
-use edit_make::make;
-use std::num::wrapping_add_u64;
+use ids::BlockId;
 use new_value::height_at;
+use nodes::HOLDS;
+use nodes::fact;
 use nodes_write::put_fact;
+use paths::IVec3;
+use paths::coord;
+use read_cell::look_no;
+use std::num::wrapping_add_u64;
 ghost use mathlib.Core.Path.{_≡_};
 ghost use Prim.Native.Nat.{_-_};
-ghost use Rattle.arena.specs.Tables.{tables};
-ghost use Rattle.arena.specs.Calls.{made, Fair};
+ghost use Rattle.arena.specs.Calls.{Fair};
+ghost use Rattle.arena.specs.Lent.{before, made};
 ghost use Rattle.edit.specs.Edit.{editOf};
 ghost use Rattle.edit.specs.Models.{grantBy, grantOf, editNoAt, answerBy, editPast, editBy};
 
@@ -34,7 +34,7 @@ fn free_slots(a: Arena) -> u64
 
 // Refusals 10 and 11.
 fn grant_no(a: Arena, kids: &[u64], facts: &[u64], find: &[u16], p: Plan) -> u32
-    ensures { λ r. ⌜ r ≡ grantBy (tables a (now (kids .entry)) (now (facts .entry)) (now (find .entry))) p ⌝ }
+    ensures { λ r. ⌜ r ≡ grantBy (before a kids facts find) p ⌝ }
 {
     if p.new == 0 {
         if p.id == BlockId::EMPTY.0 {
@@ -63,7 +63,7 @@ fn edit_no(
     y: u32,
     z: u32,
 ) -> u32
-    ensures { λ r. ⌜ r ≡ editNoAt (tables a (now (kids .entry)) (now (facts .entry)) (now (find .entry))) root d x y z ⌝ }
+    ensures { λ r. ⌜ r ≡ editNoAt (before a kids facts find) root d x y z ⌝ }
 {
     let no = look_no(a, kids, facts, find, root, d, x, y, z);
     if no != 0 {
@@ -100,7 +100,7 @@ fn answer(
     v: u64,
     p: Plan,
 ) -> Made
-    ensures { λ r. ⌜ made r (now (kids .exit)) (now (facts .exit)) (now (find .exit)) ≡ answerBy (tables a (now (kids .entry)) (now (facts .entry)) (now (find .entry))) v d x y z root p ⌝ }
+    ensures { λ r. ⌜ made r kids facts find ≡ answerBy (before a kids facts find) v d x y z root p ⌝ }
 {
     if p.new == 0 {
         grant(facts, p.id);
@@ -127,7 +127,7 @@ fn edit_past(
     v: u64,
     p: Plan,
 ) -> Made
-    ensures { λ r. ⌜ made r (now (kids .exit)) (now (facts .exit)) (now (find .exit)) ≡ editPast (tables a (now (kids .entry)) (now (facts .entry)) (now (find .entry))) v d x y z root p ⌝ }
+    ensures { λ r. ⌜ made r kids facts find ≡ editPast (before a kids facts find) v d x y z root p ⌝ }
 {
     let no = grant_no(a, kids, facts, find, p);
     if no != 0 {
@@ -153,7 +153,7 @@ fn edit_any(
     z: u32,
     v: u16,
 ) -> Made
-    ensures { λ r. ⌜ made r (now (kids .exit)) (now (facts .exit)) (now (find .exit)) ≡ editBy (tables a (now (kids .entry)) (now (facts .entry)) (now (find .entry))) root d x y z v ⌝ }
+    ensures { λ r. ⌜ made r kids facts find ≡ editBy (before a kids facts find) root d x y z v ⌝ }
 {
     let no = edit_no(a, kids, facts, find, root, d, x, y, z);
     if no != 0 {
@@ -179,8 +179,8 @@ pub fn set_voxel(
     position: IVec3,
     value: u16,
 ) -> Made
-    ensures { λ r. ⌜ (Fair 8 6 (tables arena (now (kids .entry)) (now (facts .entry)) (now (find .entry)))
-        → made r (now (kids .exit)) (now (facts .exit)) (now (find .exit)) ≡ editOf (tables arena (now (kids .entry)) (now (facts .entry)) (now (find .entry))) (root .0) depth position value) ⌝ }
+    ensures { λ r. ⌜ (Fair 8 6 (before arena kids facts find)
+        → made r kids facts find ≡ editOf (before arena kids facts find) (root .0) depth position value) ⌝ }
 {
     edit_any(
         arena,

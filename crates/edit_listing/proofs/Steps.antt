@@ -12,7 +12,7 @@ use mir.ValLaws.{toZ-ofZ}
 use borrow.Author.Tests.{eq-eqb, ne-eqb}
 use Rattle.paths.specs.declared.IVec3.{IVec3}
 use Rattle.arena.specs.Tables.{Tables, tables}
-use Rattle.arena.specs.Calls.{Out, Fair, fits, made, answered, releaseNo, releaseOf, freshOf}
+use Rattle.arena.specs.Calls.{Out, Fair, fits, madeOf, answeredOf, releaseNo, releaseOf, freshOf}
 use Rattle.arena.specs.declared.Made.{Made}
 use Rattle.arena.specs.declared.Answer.{Answer}
 use Rattle.arena.proofs.Releasing.{release-well}
@@ -65,7 +65,7 @@ count-by n j e = e
 -- ---- the code's edit and release
 
 module _ (run : Run) (k f e : List ℕ) (p : IVec3) (v : ℕ) (small : v < 65536) (m : Made) (k₁ f₁ e₁ : List ℕ)
-    (edited : Fair 8 6 (tables (run .arena) k f e) → made m k₁ f₁ e₁ ≡ editOf (tables (run .arena) k f e) (run .root .0) 6 p v)
+    (edited : Fair 8 6 (tables (run .arena) k f e) → madeOf m k₁ f₁ e₁ ≡ editOf (tables (run .arena) k f e) (run .root .0) 6 p v)
     (j : ℕ) (more : j ≡ (run .count + 1) % 2 ^ 64) where
   after-edit : Fair 8 6 (tables (run .arena) k f e) → Fair 8 6 (tables (m .arena) k₁ f₁ e₁)
   after-edit fair = subst (λ (o : Out). Fair 8 6 (o .after)) (sym (edited fair)) (edit-fair (tables (run .arena) k f e) (run .root .0) 6 p v small fair)
@@ -76,12 +76,12 @@ module _ (run : Run) (k f e : List ℕ) (p : IVec3) (v : ℕ) (small : v < 65536
   once-refused z fair = (
     after-edit fair,
     ap (λ (i : ℕ). record { state = record { tables = tables (m .arena) k₁ f₁ e₁; root = run .root .0; count = i }; no = m .no }) (count-by (run .count) j more)
-        ∙ ap (λ (s : State). record { state = s; no = m .no }) (sym (step-refused (stateOf run k f e) (made m k₁ f₁ e₁) z))
-        ∙ stepped-by (stateOf run k f e) p v (made m k₁ f₁ e₁) (edited fair),
+        ∙ ap (λ (s : State). record { state = s; no = m .no }) (sym (step-refused (stateOf run k f e) (madeOf m k₁ f₁ e₁) z))
+        ∙ stepped-by (stateOf run k f e) p v (madeOf m k₁ f₁ e₁) (edited fair),
   )
 
   pub once-accepted : m .no ≡ 0 → (r : Answer) (k₂ f₂ e₂ : List ℕ)
-      → ((n tallest : ℕ) → n ≤ 8 → tallest ≤ 6 → Fair n tallest (tables (m .arena) k₁ f₁ e₁) → answered r k₂ f₂ e₂ ≡ releaseOf (tables (m .arena) k₁ f₁ e₁) (run .root .0))
+      → ((n tallest : ℕ) → n ≤ 8 → tallest ≤ 6 → Fair n tallest (tables (m .arena) k₁ f₁ e₁) → answeredOf r k₂ f₂ e₂ ≡ releaseOf (tables (m .arena) k₁ f₁ e₁) (run .root .0))
       → Fair 8 6 (tables (run .arena) k f e)
       → Fair 8 6 (tables (r .arena) k₂ f₂ e₂)
       × (_≡_ {A = Stepped} (record { state = record { tables = tables (r .arena) k₂ f₂ e₂; root = m .id .0; count = j }; no = 0 }) (steppedOf (stateOf run k f e) p v))
@@ -91,9 +91,9 @@ module _ (run : Run) (k f e : List ℕ) (p : IVec3) (v : ℕ) (small : v < 65536
         subst (λ (o : Out). Fair 8 6 (o .after)) (sym q) (release-fair t (run .root .0) (after-edit fair)),
         ap (λ (o : Out). record { state = record { tables = o .after; root = m .id .0; count = j }; no = 0 }) q
             ∙ ap (λ (i : ℕ). record { state = record { tables = releaseOf t (run .root .0) .after; root = m .id .0; count = i }; no = 0 }) (count-by (run .count) j more)
-            ∙ ap (λ (s : State). record { state = s; no = 0 }) (sym (step-accepted (stateOf run k f e) (made m k₁ f₁ e₁) z))
-            ∙ ap (λ (i : ℕ). record { state = stepTo (stateOf run k f e) (made m k₁ f₁ e₁); no = i }) (sym z)
-            ∙ stepped-by (stateOf run k f e) p v (made m k₁ f₁ e₁) (edited fair),
+            ∙ ap (λ (s : State). record { state = s; no = 0 }) (sym (step-accepted (stateOf run k f e) (madeOf m k₁ f₁ e₁) z))
+            ∙ ap (λ (i : ℕ). record { state = stepTo (stateOf run k f e) (madeOf m k₁ f₁ e₁); no = i }) (sym z)
+            ∙ stepped-by (stateOf run k f e) p v (madeOf m k₁ f₁ e₁) (edited fair),
       )
 
 -- ---- a record, and the start
@@ -107,7 +107,7 @@ pub cell-is : (b : List ℕ) (i x y z : ℕ) → x ≡ word b (8 * i) → x < 65
 unfolding cellIn
 cell-is b i x y z ex hx ey hy ez hz = rw (coord-is x (word b (8 * i)) ex hx, coord-is y (word b (8 * i + 2)) ey hy, coord-is z (word b (8 * i + 4)) ez hz)
 
-pub start-is : (a : Answer) (c : ℕ) (k f e k₁ f₁ e₁ : List ℕ) → answered a k₁ f₁ e₁ ≡ freshOf c k f e
+pub start-is : (a : Answer) (c : ℕ) (k f e k₁ f₁ e₁ : List ℕ) → answeredOf a k₁ f₁ e₁ ≡ freshOf c k f e
     → _≡_ {A = State} (record { tables = tables (a .arena) k₁ f₁ e₁; root = 0; count = 0 }) (startOf c k f e)
 unfolding startOf
 start-is a c k f e k₁ f₁ e₁ h = ap (λ (o : Out). record { tables = o .after; root = 0; count = 0 }) h

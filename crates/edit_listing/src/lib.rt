@@ -13,8 +13,8 @@ ghost use mathlib.Core.List.{[], _∷_, _++_};
 ghost use lib.ListN.{length, set, take};
 ghost use Rattle.ids_text.specs.Text.{textOf};
 ghost use Rattle.nodes.specs.Words.{putsFrom};
-ghost use Rattle.arena.specs.Tables.{tables};
 ghost use Rattle.arena.specs.Calls.{Fair};
+ghost use Rattle.arena.specs.Lent.{before, after};
 ghost use Rattle.edit_listing.specs.Listing.{digitsOf, decimal, lineOf, shortOf, endingOf, word as wordIn, cellIn, valueIn, startOf, takenOf, stateOf, told, toldOf};
 ghost use Rattle.edit_listing.specs.Models.{stepped, steppedOf, kept, oneOf};
 
@@ -201,8 +201,8 @@ fn edit_once(
     cell: IVec3,
     value: u16,
 ) -> Step
-    ensures { λ r. ⌜ (Fair 8 6 (tables (run .arena) (now (kids .entry)) (now (facts .entry)) (now (find .entry)))
-        → Fair 8 6 (tables (r .run .arena) (now (kids .exit)) (now (facts .exit)) (now (find .exit)))
+    ensures { λ r. ⌜ (Fair 8 6 (before (run .arena) kids facts find)
+        → Fair 8 6 (after (r .run .arena) kids facts find)
         × (stepped r (now (kids .exit)) (now (facts .exit)) (now (find .exit)) ≡ steppedOf (stateOf run (now (kids .entry)) (now (facts .entry)) (now (find .entry))) cell value)) ⌝ }
 {
     let count = wrapping_add_u64(run.count, 1);
@@ -259,8 +259,8 @@ fn one(
 ) -> Lined
     requires { ⌜ (8 * i + 8 ≤ length (now bytes)) × (len + 84 < 2 ^ 64) ⌝ }
     ensures { λ r. ⌜ (r .len ≤ len + 84)
-        × (Fair 8 6 (tables (run .arena) (now (kids .entry)) (now (facts .entry)) (now (find .entry)))
-        → Fair 8 6 (tables (r .run .arena) (now (kids .exit)) (now (facts .exit)) (now (find .exit)))
+        × (Fair 8 6 (before (run .arena) kids facts find)
+        → Fair 8 6 (after (r .run .arena) kids facts find)
         × (kept (stateOf (r .run) (now (kids .exit)) (now (facts .exit)) (now (find .exit))) (r .len) (now (out .exit))
         ≡ oneOf (kept (stateOf run (now (kids .entry)) (now (facts .entry)) (now (find .entry))) len (now (out .entry))) (now (bytes .entry)) i)) ⌝ }
 {
@@ -299,7 +299,7 @@ pub fn edit_records(
     out: &mut [u8],
 ) -> Ran
     ensures { λ r. ⌜ (r .records ≡ takenOf (length (now (bytes .entry))) (length (now (out .entry))))
-        × (Fair 8 6 (tables (run .arena) (now (kids .entry)) (now (facts .entry)) (now (find .entry)))
+        × (Fair 8 6 (before (run .arena) kids facts find)
         → told r (now (kids .exit)) (now (facts .exit)) (now (find .exit)) (now (out .exit)) ≡ toldOf (stateOf run (now (kids .entry)) (now (facts .entry)) (now (find .entry))) (now (bytes .entry)) (now (out .entry)) (takenOf (length (now (bytes .entry))) (length (now (out .entry))))) ⌝ }
 {
     let most = least(bytes.len() / RECORD, out.len() / WIDEST);

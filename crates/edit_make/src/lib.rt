@@ -2,29 +2,29 @@
 use arena::Arena;
 use arena::Made;
 use arena::slot_of;
+use edit_plan::parts;
 use find::put_cell;
 use find_hash::home_for;
+use find_remove::number_from;
 use ids::BlockId;
+use new_id::branch_id;
 use new_slot::fresh_slot;
 use new_slot::give;
 use new_slot::leaf_id;
-use new_id::branch_id;
+use new_value::sums_of;
 use nodes::OWN;
 use nodes::PLACES;
 use nodes::fact;
-use paths::octant;
-use edit_plan::parts;
-use find_remove::number_from;
-use std::num::wrapping_add_u64;
-use new_value::sums_of;
 use nodes_write::put_fact;
 use nodes_write::write_slot;
+use paths::octant;
+use std::num::wrapping_add_u64;
 ghost use mathlib.Core.Path.{_≡_};
 ghost use Prim.Native.Nat.{_+_, _≤_, _<_};
 ghost use Rattle.tree.specs.Cells.{cubePath};
-ghost use Rattle.arena.specs.Tables.{tables};
-ghost use Rattle.arena.specs.Calls.{made};
 ghost use Rattle.edit_make.specs.Models.{owe as oweOf, oweAll, freshBy, leafAnewBy, branchAnewBy, upBy, makeBy, makeAt};
+ghost use Rattle.arena.specs.Calls.{madeOf};
+ghost use Rattle.arena.specs.Lent.{before, made};
 
 // Eight EMPTY children.
 const NONE: [u64; 8] = [0, 0, 0, 0, 0, 0, 0, 0];
@@ -64,7 +64,7 @@ fn fresh_node(
     h: u64,
     q: u64,
 ) -> Made
-    ensures { λ r. ⌜ made r (now (kids .exit)) (now (facts .exit)) (now (find .exit)) ≡ freshBy (tables a (now (kids .entry)) (now (facts .entry)) (now (find .entry))) id ks v up h q ⌝ }
+    ensures { λ r. ⌜ made r kids facts find ≡ freshBy (before a kids facts find) id ks v up h q ⌝ }
 {
     let s = fresh_slot(a);
     let at = number_from(find, s, home_for(a.capacity, ks, v));
@@ -87,7 +87,7 @@ fn leaf_anew(
     h: u64,
     q: u64,
 ) -> Made
-    ensures { λ r. ⌜ made r (now (kids .exit)) (now (facts .exit)) (now (find .exit)) ≡ leafAnewBy (tables a (now (kids .entry)) (now (facts .entry)) (now (find .entry))) v h q ⌝ }
+    ensures { λ r. ⌜ made r kids facts find ≡ leafAnewBy (before a kids facts find) v h q ⌝ }
 {
     let s = fresh_slot(a);
     let id = leaf_id(s, fact(facts, s, OWN));
@@ -103,7 +103,7 @@ fn branch_anew(
     h: u64,
     q: u64,
 ) -> Made
-    ensures { λ r. ⌜ made r (now (kids .exit)) (now (facts .exit)) (now (find .exit)) ≡ branchAnewBy (tables a (now (kids .entry)) (now (facts .entry)) (now (find .entry))) ks h q ⌝ }
+    ensures { λ r. ⌜ made r kids facts find ≡ branchAnewBy (before a kids facts find) ks h q ⌝ }
 {
     let s = fresh_slot(a);
     let id = branch_id(ks, s, fact(facts, s, OWN));
@@ -124,7 +124,7 @@ fn branch_over(
     q: u64,
 ) -> Made
     requires { ⌜ c < 8 ⌝ }
-    ensures { λ r. ⌜ made r (now (kids .exit)) (now (facts .exit)) (now (find .exit)) ≡ upBy (made low (now (kids .entry)) (now (facts .entry)) (now (find .entry))) ks c h q ⌝ }
+    ensures { λ r. ⌜ made r kids facts find ≡ upBy (madeOf low (now (kids .entry)) (now (facts .entry)) (now (find .entry))) ks c h q ⌝ }
 {
     let mut others = ks;
     others[c] = BlockId::EMPTY.0;
@@ -152,7 +152,7 @@ pub fn make(
     h: u64,
     q: u64,
 ) -> Made
-    ensures { λ r. ⌜ made r (now (kids .exit)) (now (facts .exit)) (now (find .exit)) ≡ makeAt (tables a (now (kids .entry)) (now (facts .entry)) (now (find .entry))) v d x y z id new part h q ⌝ }
+    ensures { λ r. ⌜ made r kids facts find ≡ makeAt (before a kids facts find) v d x y z id new part h q ⌝ }
 {
     if 6 < d {
         return Made {
@@ -193,7 +193,7 @@ fn make_over(
     q: u64,
 ) -> Made
     requires { ⌜ (d ≤ 5) × (1 ≤ new) ⌝ }
-    ensures { λ r. ⌜ made r (now (kids .exit)) (now (facts .exit)) (now (find .exit)) ≡ makeBy (tables a (now (kids .entry)) (now (facts .entry)) (now (find .entry))) v (cubePath (d + 1) x y z) id new part h q ⌝ }
+    ensures { λ r. ⌜ made r kids facts find ≡ makeBy (before a kids facts find) v (cubePath (d + 1) x y z) id new part h q ⌝ }
 {
     let ks = parts(kids, id);
     let c = octant(d, x, y, z);

@@ -4,21 +4,21 @@ use arena::slot_of;
 use find::search;
 use find::search_leaf;
 use ids::BlockId;
+use new_value::value_at;
+use new_value::value_of;
 use nodes::OWN;
 use nodes::children;
 use nodes::fact;
 use paths::octant;
 use read_cell::descend;
 use std::num::wrapping_add_u64;
-use new_value::value_at;
-use new_value::value_of;
 ghost use mathlib.Core.Path.{_≡_};
 ghost use Prim.Native.Nat.{_≤_, _<_};
 ghost use lib.Dec.{eqb};
 ghost use Rattle.nodes.specs.Words.{kidOf, factOf};
 ghost use Rattle.tree.specs.Cells.{cubePath};
-ghost use Rattle.arena.specs.Tables.{tables};
 ghost use Rattle.arena.specs.Calls.{allOf};
+ghost use Rattle.arena.specs.Lent.{before};
 ghost use Rattle.edit_plan.specs.Models.{eightParts, leafKids, slotPlan, cellPlan, needPlan, upPlan, planBy, resultBy};
 
 // The lowest id of a leaf: bit 63 is the leaf flag.
@@ -82,7 +82,7 @@ fn plan_slot(facts: &[u64], found: usize, s: u64) -> Plan
 
 // The cell itself: EMPTY for 0, the leaf of the value if it lives.
 fn plan_cell(a: Arena, kids: &[u64], facts: &[u64], find: &[u16], v: u64) -> Plan
-    ensures { λ r. ⌜ r ≡ cellPlan (tables a (now (kids .entry)) (now (facts .entry)) (now (find .entry))) v ⌝ }
+    ensures { λ r. ⌜ r ≡ cellPlan (before a kids facts find) v ⌝ }
 {
     if v == 0 {
         return Plan {
@@ -96,7 +96,7 @@ fn plan_cell(a: Arena, kids: &[u64], facts: &[u64], find: &[u16], v: u64) -> Pla
 
 // What eight parts come to, the last of them made being s.
 fn plan_node(a: Arena, kids: &[u64], facts: &[u64], find: &[u16], ks: [u64; 8], s: u64) -> Plan
-    ensures { λ r. ⌜ r ≡ needPlan (tables a (now (kids .entry)) (now (facts .entry)) (now (find .entry))) ks s ⌝ }
+    ensures { λ r. ⌜ r ≡ needPlan (before a kids facts find) ks s ⌝ }
 {
     if all_are(ks, BlockId::EMPTY.0) {
         return Plan {
@@ -122,7 +122,7 @@ fn plan_up(
     below: Plan,
 ) -> Plan
     requires { ⌜ c < 8 ⌝ }
-    ensures { λ r. ⌜ r ≡ upPlan (tables a (now (kids .entry)) (now (facts .entry)) (now (find .entry))) ks c below ⌝ }
+    ensures { λ r. ⌜ r ≡ upPlan (before a kids facts find) ks c below ⌝ }
 {
     if below.new == 0 {
         let mut new = ks;
@@ -149,7 +149,7 @@ fn dry_run(
     v: u64,
 ) -> Plan
     requires { ⌜ left ≤ 6 ⌝ }
-    ensures { λ r. ⌜ r ≡ planBy (tables a (now (kids .entry)) (now (facts .entry)) (now (find .entry))) v (cubePath left x y z) id ⌝ }
+    ensures { λ r. ⌜ r ≡ planBy (before a kids facts find) v (cubePath left x y z) id ⌝ }
 {
     if left == 0 {
         return plan_cell(a, kids, facts, find, v);
@@ -173,7 +173,7 @@ pub fn result(
     z: u32,
     v: u16,
 ) -> Plan
-    ensures { λ r. ⌜ r ≡ resultBy (tables a (now (kids .entry)) (now (facts .entry)) (now (find .entry))) v d x y z root ⌝ }
+    ensures { λ r. ⌜ r ≡ resultBy (before a kids facts find) v d x y z root ⌝ }
 {
     if 6 < d {
         return Plan {

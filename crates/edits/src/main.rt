@@ -6,10 +6,10 @@
 // Where the file can't be opened or read, or a line can't be written, it says so on standard error and writes no `live` line.
 ghost use Prim.Native.Nat.{_+_, _≤_};
 ghost use lib.ListN.{length};
+use edit_listing::Run;
 use libc::STDERR_FILENO;
 use libc::STDIN_FILENO;
 use libc::STDOUT_FILENO;
-use edit_listing::Run;
 
 // The slots of the arena. Its tables have 8 and 7 words and 3 cells a slot, 64,512 bytes.
 const SLOTS: usize = 512;

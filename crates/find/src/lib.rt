@@ -6,7 +6,8 @@ use nodes::fact;
 ghost use mathlib.Core.Path.{_≡_};
 ghost use Prim.Native.Nat.{_%_};
 ghost use lib.ListN.{getD, set};
-ghost use Rattle.nodes.specs.Words.{nodes, kidOf, wordOf};
+ghost use Rattle.nodes.specs.Words.{kidOf};
+ghost use Rattle.nodes.specs.Lent.{wordsIn};
 ghost use Rattle.find.specs.Content.{noKids, agree, contentIs};
 ghost use Rattle.find.specs.Cells.{cellOf};
 
@@ -51,7 +52,7 @@ pub fn put_cell(find: &mut [u16], at: usize, s: usize)
 
 // Has slot s the value v and the children ks?
 fn content_is(kids: &[u64], facts: &[u64], ks: [u64; 8], v: u64, s: usize) -> bool
-    ensures { λ r. ⌜ r ≡ contentIs (wordOf (nodes (now (kids .entry)) (now (facts .entry)))) ks v s ⌝ }
+    ensures { λ r. ⌜ r ≡ contentIs (wordsIn kids facts) ks v s ⌝ }
 {
     if fact(facts, s, VALUE) != v {
         return false;
@@ -77,7 +78,7 @@ pub fn search(
     ks: [u64; 8],
     v: u64,
 ) -> Found
-    ensures { λ r. ⌜ (r .cell ≡ cellOf (now (find .entry)) capacity (wordOf (nodes (now (kids .entry)) (now (facts .entry)))) ks v) × (r .slot ≡ getD (now (find .entry)) (r .cell) 0) ⌝ }
+    ensures { λ r. ⌜ (r .cell ≡ cellOf (now (find .entry)) capacity (wordsIn kids facts) ks v) × (r .slot ≡ getD (now (find .entry)) (r .cell) 0) ⌝ }
 {
     let mut i = home_for(capacity, ks, v);
     let slot = loop {
@@ -135,7 +136,7 @@ fn childless(kids: &[u64], s: usize) -> bool
 
 // Has slot s the value v and eight EMPTY children?
 fn is_leaf_of(kids: &[u64], facts: &[u64], v: u64, s: usize) -> bool
-    ensures { λ r. ⌜ r ≡ contentIs (wordOf (nodes (now (kids .entry)) (now (facts .entry)))) noKids v s ⌝ }
+    ensures { λ r. ⌜ r ≡ contentIs (wordsIn kids facts) noKids v s ⌝ }
 {
     if fact(facts, s, VALUE) == v {
         return childless(kids, s);
@@ -145,7 +146,7 @@ fn is_leaf_of(kids: &[u64], facts: &[u64], v: u64, s: usize) -> bool
 
 // Searches for the leaf of value v: answers what `search` does of eight EMPTY children and v.
 pub fn search_leaf(find: &[u16], kids: &[u64], facts: &[u64], capacity: usize, v: u64) -> Found
-    ensures { λ r. ⌜ (r .cell ≡ cellOf (now (find .entry)) capacity (wordOf (nodes (now (kids .entry)) (now (facts .entry)))) noKids v) × (r .slot ≡ getD (now (find .entry)) (r .cell) 0) ⌝ }
+    ensures { λ r. ⌜ (r .cell ≡ cellOf (now (find .entry)) capacity (wordsIn kids facts) noKids v) × (r .slot ≡ getD (now (find .entry)) (r .cell) 0) ⌝ }
 {
     let mut i = home_for(capacity, NONE, v);
     let slot = loop {

@@ -6,13 +6,13 @@ use nodes::children;
 use nodes::fact;
 ghost use mathlib.Core.Path.{_≡_};
 ghost use lib.Dec.{eqb};
-ghost use Rattle.nodes.specs.Words.{nodes, wordOf};
+ghost use Rattle.nodes.specs.Lent.{wordsIn};
 ghost use Rattle.find.specs.Content.{homeAt};
 ghost use Rattle.find.specs.Cells.{probe, erase};
 
 // The first cell to look at for the content of slot s.
 fn home_at(kids: &[u64], facts: &[u64], capacity: usize, s: usize) -> usize
-    ensures { λ r. ⌜ r ≡ homeAt capacity (wordOf (nodes (now (kids .entry)) (now (facts .entry)))) s ⌝ }
+    ensures { λ r. ⌜ r ≡ homeAt capacity (wordsIn kids facts) s ⌝ }
 {
     home_for(capacity, children(kids, s), fact(facts, s, VALUE))
 }
@@ -37,7 +37,7 @@ pub fn number_from(find: &[u16], s: usize, from: usize) -> usize
 
 // Cell `at` taken out: what stands above it and can be nearer to its home moves down, so that no search ends too early.
 fn erase_at(find: &mut [u16], kids: &[u64], facts: &[u64], capacity: usize, at: usize)
-    ensures { λ _. ⌜ now (find .exit) ≡ erase (homeAt capacity (wordOf (nodes (now (kids .entry)) (now (facts .entry))))) (now (find .entry)) at ⌝ }
+    ensures { λ _. ⌜ now (find .exit) ≡ erase (homeAt capacity (wordsIn kids facts)) (now (find .entry)) at ⌝ }
 {
     if find.len() <= at {
         return;
@@ -73,7 +73,7 @@ pub fn remove_from(
     s: usize,
     from: usize,
 )
-    ensures { λ _. ⌜ now (find .exit) ≡ erase (homeAt capacity (wordOf (nodes (now (kids .entry)) (now (facts .entry))))) (now (find .entry)) (probe (eqb s) (now (find .entry)) from) ⌝ }
+    ensures { λ _. ⌜ now (find .exit) ≡ erase (homeAt capacity (wordsIn kids facts)) (now (find .entry)) (probe (eqb s) (now (find .entry)) from) ⌝ }
 {
     let at = number_from(find, s, from);
     erase_at(find, kids, facts, capacity, at);

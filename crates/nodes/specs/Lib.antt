@@ -1,3 +1,4 @@
 pub mod Words
 pub mod Tally
 pub mod Values
+pub mod Lent

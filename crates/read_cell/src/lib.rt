@@ -13,8 +13,8 @@ ghost use mathlib.Core.Path.{_≡_};
 ghost use Prim.Native.Nat.{_*_, _^_, _<_, _≤_};
 ghost use lib.Dec.{ltb};
 ghost use Rattle.nodes.specs.Words.{kidOf, factOf};
-ghost use Rattle.arena.specs.Tables.{tables};
 ghost use Rattle.arena.specs.Calls.{liveOrEmpty};
+ghost use Rattle.arena.specs.Lent.{before};
 ghost use Rattle.read_cell.specs.Reading.{endOf};
 ghost use Rattle.read_cell.specs.Calls.{lookOf};
 ghost use Rattle.read_cell.specs.Models.{endsAt, val, spaced, pathWord, lookNoAt, lookAt};
@@ -143,7 +143,7 @@ pub fn look_no(
     y: u32,
     z: u32,
 ) -> u32
-    ensures { λ r. ⌜ r ≡ lookNoAt (tables arena (now (kids .entry)) (now (facts .entry)) (now (find .entry))) id d x y z ⌝ }
+    ensures { λ r. ⌜ r ≡ lookNoAt (before arena kids facts find) id d x y z ⌝ }
 {
     if fit(arena.capacity, kids.len(), facts.len(), find.len()) {
         if d <= 6 {
@@ -172,7 +172,7 @@ fn look_at(
     y: u32,
     z: u32,
 ) -> Looked
-    ensures { λ r. ⌜ r ≡ lookAt (tables arena (now (kids .entry)) (now (facts .entry)) (now (find .entry))) (id .0) d x y z ⌝ }
+    ensures { λ r. ⌜ r ≡ lookAt (before arena kids facts find) (id .0) d x y z ⌝ }
 {
     let no = look_no(arena, kids, facts, find, id.0, d, x, y, z);
     if no != 0 {
@@ -195,7 +195,7 @@ pub fn get_at_depth(
     depth: u32,
     position: IVec3,
 ) -> Looked
-    ensures { λ r. ⌜ r ≡ lookOf (tables arena (now (kids .entry)) (now (facts .entry)) (now (find .entry))) (id .0) depth position ⌝ }
+    ensures { λ r. ⌜ r ≡ lookOf (before arena kids facts find) (id .0) depth position ⌝ }
 {
     look_at(
         arena,

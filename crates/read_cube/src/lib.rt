@@ -9,8 +9,9 @@ use read_cell::look_no;
 ghost use mathlib.Core.Path.{_≡_};
 ghost use Prim.Native.Nat.{_+_, _*_, _^_, _<_, _≤_};
 ghost use lib.Dec.{eqb};
-ghost use Rattle.nodes.specs.Words.{nodes, factOf, wordOf};
-ghost use Rattle.arena.specs.Tables.{tables};
+ghost use Rattle.nodes.specs.Words.{factOf};
+ghost use Rattle.nodes.specs.Lent.{wordsIn};
+ghost use Rattle.arena.specs.Lent.{before};
 ghost use Rattle.read_cell.specs.Calls.{expanded, expandOf};
 ghost use Rattle.read_cell.specs.Models.{val};
 ghost use Rattle.read_cube.specs.Models.{fillRow, fillPlane, fillBlock, offset as offsetOf, grow, partsTo, partVal, pairOf, cubeFrom};
@@ -97,7 +98,7 @@ fn offset(c: usize, h: usize, row: usize, plane: usize) -> usize
 // The stored value of child c.
 fn part_value(kids: &[u64], facts: &[u64], id: u64, c: usize) -> u16
     requires { ⌜ c < 8 ⌝ }
-    ensures { λ r. ⌜ r ≡ partVal (wordOf (nodes (now (kids .entry)) (now (facts .entry)))) id c ⌝ }
+    ensures { λ r. ⌜ r ≡ partVal (wordsIn kids facts) id c ⌝ }
 {
     value(facts, kid(kids, slot_of(id), c))
 }
@@ -106,7 +107,7 @@ fn part_value(kids: &[u64], facts: &[u64], id: u64, c: usize) -> u16
 fn fill_pair(kids: &[u64], facts: &[u64], cube: &mut [u16], id: u64, c: usize, at: usize)
     requires { ⌜ c < 7 ⌝ }
     requires { do ⌜ at + 2 ≤ (← ⟦cube.len()⟧) ⌝ }
-    ensures { λ _. ⌜ now (cube .exit) ≡ pairOf (wordOf (nodes (now (kids .entry)) (now (facts .entry)))) id c at (now (cube .entry)) ⌝ }
+    ensures { λ _. ⌜ now (cube .exit) ≡ pairOf (wordsIn kids facts) id c at (now (cube .entry)) ⌝ }
 {
     cube[at] = part_value(kids, facts, id, c);
     cube[at + 1] = part_value(kids, facts, id, c + 1);
@@ -123,7 +124,7 @@ fn fill_cells(
     plane: usize,
 )
     requires { do ⌜ at + plane + row + 2 ≤ (← ⟦cube.len()⟧) ⌝ }
-    ensures { λ _. ⌜ now (cube .exit) ≡ partsTo (wordOf (nodes (now (kids .entry)) (now (facts .entry)))) 8 row plane 0 1 id at 8 (now (cube .entry)) ⌝ }
+    ensures { λ _. ⌜ now (cube .exit) ≡ partsTo (wordsIn kids facts) 8 row plane 0 1 id at 8 (now (cube .entry)) ⌝ }
 {
     fill_pair(kids, facts, cube, id, 0, at);
     fill_pair(kids, facts, cube, id, 2, at + plane);
@@ -145,7 +146,7 @@ fn fill_octant(
 )
     requires { ⌜ (side ≡ 2 ^ left) × (side ≤ 64) × (row ≤ 64) × (plane ≤ 4096) ⌝ }
     requires { do ⌜ at + side * plane + side * row + side ≤ (← ⟦cube.len()⟧) + plane + row ⌝ }
-    ensures { λ _. ⌜ now (cube .exit) ≡ grow (wordOf (nodes (now (kids .entry)) (now (facts .entry)))) 8 row plane left side id at (now (cube .entry)) ⌝ }
+    ensures { λ _. ⌜ now (cube .exit) ≡ grow (wordsIn kids facts) 8 row plane left side id at (now (cube .entry)) ⌝ }
 {
     if left == 0 {
         cube[at] = value(facts, id);
@@ -179,7 +180,7 @@ fn fill_octants(
 )
     requires { ⌜ (h ≡ 2 ^ left) × (h ≤ 32) × (row ≤ 64) × (plane ≤ 4096) ⌝ }
     requires { do ⌜ at + 2 * h * plane + 2 * h * row + 2 * h ≤ (← ⟦cube.len()⟧) + plane + row ⌝ }
-    ensures { λ _. ⌜ now (cube .exit) ≡ partsTo (wordOf (nodes (now (kids .entry)) (now (facts .entry)))) 8 row plane left h id at 8 (now (cube .entry)) ⌝ }
+    ensures { λ _. ⌜ now (cube .exit) ≡ partsTo (wordsIn kids facts) 8 row plane left h id at 8 (now (cube .entry)) ⌝ }
 {
     let s = slot_of(id);
     let mut c: usize = 0;
@@ -194,7 +195,7 @@ fn fill_octants(
 fn fill_cube(kids: &[u64], facts: &[u64], cube: &mut [u16], id: u64, depth: u32, s: usize)
     requires { ⌜ (s ≡ 2 ^ depth) × (s ≤ 64) ⌝ }
     requires { do ⌜ 0 + s * (s * s) + s * s + s ≤ (← ⟦cube.len()⟧) + s * s + s ⌝ }
-    ensures { λ _. ⌜ now (cube .exit) ≡ cubeFrom (wordOf (nodes (now (kids .entry)) (now (facts .entry)))) s depth id (now (cube .entry)) ⌝ }
+    ensures { λ _. ⌜ now (cube .exit) ≡ cubeFrom (wordsIn kids facts) s depth id (now (cube .entry)) ⌝ }
 {
     let n = cube.len();
     if LEAF <= id {
@@ -233,7 +234,7 @@ pub fn to_vec(
     depth: u32,
     cube: &mut [u16],
 ) -> u32
-    ensures { λ r. ⌜ expanded r (now (cube .exit)) ≡ expandOf (tables arena (now (kids .entry)) (now (facts .entry)) (now (find .entry))) (id .0) depth (now (cube .entry)) ⌝ }
+    ensures { λ r. ⌜ expanded r (now (cube .exit)) ≡ expandOf (before arena kids facts find) (id .0) depth (now (cube .entry)) ⌝ }
 {
     let no = look_no(arena, kids, facts, find, id.0, depth, 0, 0, 0);
     if no != 0 {

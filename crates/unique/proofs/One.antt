@@ -9,7 +9,7 @@ use Rattle.ids.specs.declared.BlockId.{BlockId}
 use Rattle.arena.specs.declared.Answer.{Answer}
 use Rattle.arena.specs.declared.Counted.{Counted}
 use Rattle.arena.specs.declared.Made.{Made}
-use Rattle.arena.specs.Calls.{Out, Numbers, made, answered, counted}
+use Rattle.arena.specs.Calls.{Out, Numbers, madeOf, answeredOf, counted}
 use Rattle.read_cell.specs.Calls.{Expanded, expanded}
 use Rattle.unique.specs.Asked.{Plain, PlainSaid, PlainMeets, Asked, fromRaw, raw, packingNo, newLeaf, newBranch, index, generation, types, mask, hasChild, isLeaf, isBranch, isInvalid, isValid, isEmpty, text, path, position, child, fresh, hold, counts, leaf, branch, release, look, expand, edit, check, Left, Said, Meets, Speaks}
 
@@ -17,16 +17,16 @@ use Rattle.unique.specs.Asked.{Plain, PlainSaid, PlainMeets, Asked, from
 one : {A B : Type 0} (f : A → B) (back : B → A) → ((a : A) → back (f a) ≡ a) → {o : B} (a b : A) → f a ≡ o → f b ≡ o → a ≡ b
 one f back e a b p q = sym (e a) ∙ ap back (p ∙ sym q) ∙ e b
 
-made-one : {o : Out} (a b : Left Made) → made (a .0) (a .1) (a .2) (a .3) ≡ o → made (b .0) (b .1) (b .2) (b .3) ≡ o → a ≡ b
-made-one = one (λ (a : Left Made). made (a .0) (a .1) (a .2) (a .3))
+made-one : {o : Out} (a b : Left Made) → madeOf (a .0) (a .1) (a .2) (a .3) ≡ o → madeOf (b .0) (b .1) (b .2) (b .3) ≡ o → a ≡ b
+made-one = one (λ (a : Left Made). madeOf (a .0) (a .1) (a .2) (a .3))
     (λ o. (record { no = o .no; id = record { 0 = o .id }; arena = o .after .arena }, o .after .nodes .kids, o .after .nodes .facts, o .after .find)) (λ a. refl)
 
-answered-one : {o : Out} (a b : Left Answer) → answered (a .0) (a .1) (a .2) (a .3) ≡ o → answered (b .0) (b .1) (b .2) (b .3) ≡ o → a ≡ b
-answered-one = one (λ (a : Left Answer). answered (a .0) (a .1) (a .2) (a .3))
+answered-one : {o : Out} (a b : Left Answer) → answeredOf (a .0) (a .1) (a .2) (a .3) ≡ o → answeredOf (b .0) (b .1) (b .2) (b .3) ≡ o → a ≡ b
+answered-one = one (λ (a : Left Answer). answeredOf (a .0) (a .1) (a .2) (a .3))
     (λ o. (record { no = o .no; arena = o .after .arena }, o .after .nodes .kids, o .after .nodes .facts, o .after .find)) (λ a. refl)
 
-held-one : (k e : List ℕ) {o : Out} (a b : Answer × List ℕ) → answered (a .0) k (a .1) e ≡ o → answered (b .0) k (b .1) e ≡ o → a ≡ b
-held-one k e = one (λ (a : Answer × List ℕ). answered (a .0) k (a .1) e) (λ o. (record { no = o .no; arena = o .after .arena }, o .after .nodes .facts)) (λ a. refl)
+held-one : (k e : List ℕ) {o : Out} (a b : Answer × List ℕ) → answeredOf (a .0) k (a .1) e ≡ o → answeredOf (b .0) k (b .1) e ≡ o → a ≡ b
+held-one k e = one (λ (a : Answer × List ℕ). answeredOf (a .0) k (a .1) e) (λ o. (record { no = o .no; arena = o .after .arena }, o .after .nodes .facts)) (λ a. refl)
 
 id-one : {o : ℕ} (a b : BlockId) → a .0 ≡ o → b .0 ≡ o → a ≡ b
 id-one = one (λ (a : BlockId). a .0) (λ o. record { 0 = o }) (λ a. refl)

@@ -17,7 +17,7 @@ use Rattle.arena.specs.declared.Answer.{Answer}
 use Rattle.arena.specs.declared.Counted.{Counted}
 use Rattle.arena.specs.declared.Made.{Made}
 use Rattle.arena.specs.Tables.{Tables, WellFormed}
-use Rattle.arena.specs.Calls.{Fair, rawIds, made, answered, counted, freshOf, holdOf, countsOf, internLeafOf, internBranchOf, releaseOf}
+use Rattle.arena.specs.Calls.{Fair, rawIds, madeOf, answeredOf, counted, freshOf, holdOf, countsOf, internLeafOf, internBranchOf, releaseOf}
 use Rattle.read_cell.specs.declared.Looked.{Looked}
 use Rattle.read_cell.specs.Calls.{lookOf, expanded, expandOf}
 use Rattle.edit.specs.Edit.{editOf}
@@ -124,15 +124,15 @@ Said (check t) = Bool × List ℕ
 
 -- its contract
 abbrev pub Meets : (q : Asked) → Said q → Type 0
-Meets (fresh c k f e) a = answered (a .0) (a .1) (a .2) (a .3) ≡ freshOf c k f e
-Meets (hold t b) a = answered (a .0) (t .nodes .kids) (a .1) (t .find) ≡ holdOf t (b .0)
+Meets (fresh c k f e) a = answeredOf (a .0) (a .1) (a .2) (a .3) ≡ freshOf c k f e
+Meets (hold t b) a = answeredOf (a .0) (t .nodes .kids) (a .1) (t .find) ≡ holdOf t (b .0)
 Meets (counts t b) a = counted a ≡ countsOf t (b .0)
-Meets (leaf t v) a = (n tallest : ℕ) → n ≤ 8 → Fair n tallest t → made (a .0) (a .1) (a .2) (a .3) ≡ internLeafOf t v
-Meets (branch t ks) a = Fair 8 6 t → made (a .0) (a .1) (a .2) (a .3) ≡ internBranchOf 8 6 t (rawIds ks)
-Meets (release t b) a = (n tallest : ℕ) → n ≤ 8 → tallest ≤ 6 → Fair n tallest t → answered (a .0) (a .1) (a .2) (a .3) ≡ releaseOf t (b .0)
+Meets (leaf t v) a = (n tallest : ℕ) → n ≤ 8 → Fair n tallest t → madeOf (a .0) (a .1) (a .2) (a .3) ≡ internLeafOf t v
+Meets (branch t ks) a = Fair 8 6 t → madeOf (a .0) (a .1) (a .2) (a .3) ≡ internBranchOf 8 6 t (rawIds ks)
+Meets (release t b) a = (n tallest : ℕ) → n ≤ 8 → tallest ≤ 6 → Fair n tallest t → answeredOf (a .0) (a .1) (a .2) (a .3) ≡ releaseOf t (b .0)
 Meets (look t b d p) a = a ≡ lookOf t (b .0) d p
 Meets (expand t b d l) a = expanded (a .0) (a .1) ≡ expandOf t (b .0) d l
-Meets (edit t b d p v) a = Fair 8 6 t → made (a .0) (a .1) (a .2) (a .3) ≡ editOf t (b .0) d p v
+Meets (edit t b d p v) a = Fair 8 6 t → madeOf (a .0) (a .1) (a .2) (a .3) ≡ editOf t (b .0) d p v
 Meets (check t) a = ((a .0 ≡ true) ↔ WellFormed 8 6 t) × (a .1 ≡ t .nodes .facts)
 
 -- on which tables it speaks: interning, release and edit on those that are not sized or well formed, all others on any

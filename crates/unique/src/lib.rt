@@ -1,8 +1,8 @@
 // Each public call's contract determines its answer and the tables afterwards (proofs/One.antt). Nobody calls the functions below: each shows that the
 // contract of the call in its body is the one of which that is proved (specs/Asked.antt).
-ghost use Rattle.arena.specs.Tables.{tables};
 ghost use Rattle.unique.specs.Asked.{PlainMeets, fromRaw, raw, packingNo, newLeaf, newBranch, index, generation, types, mask, hasChild, isLeaf, isBranch, isInvalid, isValid, isEmpty, text, path, position, child};
 ghost use Rattle.unique.specs.Asked.{Meets, fresh, hold, counts, leaf, branch, release, look, expand, edit, check};
+ghost use Rattle.arena.specs.Lent.{before};
 use arena::Answer;
 use arena::Arena;
 use arena::Counted;
@@ -139,13 +139,13 @@ fn fresh_meets(capacity: usize, kids: &mut [u64], facts: &mut [u64], find: &mut 
 }
 
 fn hold_meets(arena: Arena, kids: &[u64], facts: &mut [u64], find: &[u16], id: BlockId) -> Answer
-    ensures { λ r. ⌜ Meets (hold (tables arena (now (kids .entry)) (now (facts .entry)) (now (find .entry))) id) (r, now (facts .exit)) ⌝ }
+    ensures { λ r. ⌜ Meets (hold (before arena kids facts find) id) (r, now (facts .exit)) ⌝ }
 {
     arena_hold::hold(arena, kids, facts, find, id)
 }
 
 fn counts_meets(arena: Arena, kids: &[u64], facts: &[u64], find: &[u16], id: BlockId) -> Counted
-    ensures { λ r. ⌜ Meets (counts (tables arena (now (kids .entry)) (now (facts .entry)) (now (find .entry))) id) r ⌝ }
+    ensures { λ r. ⌜ Meets (counts (before arena kids facts find) id) r ⌝ }
 {
     arena_hold::counts(arena, kids, facts, find, id)
 }
@@ -157,7 +157,7 @@ fn leaf_meets(
     find: &mut [u16],
     value: u16,
 ) -> Made
-    ensures { λ r. ⌜ Meets (leaf (tables arena (now (kids .entry)) (now (facts .entry)) (now (find .entry))) value) (r, now (kids .exit), now (facts .exit), now (find .exit)) ⌝ }
+    ensures { λ r. ⌜ Meets (leaf (before arena kids facts find) value) (r, now (kids .exit), now (facts .exit), now (find .exit)) ⌝ }
 {
     arena_leaf::intern_leaf(arena, kids, facts, find, value)
 }
@@ -169,7 +169,7 @@ fn branch_meets(
     find: &mut [u16],
     children: [BlockId; 8],
 ) -> Made
-    ensures { λ r. ⌜ Meets (branch (tables arena (now (kids .entry)) (now (facts .entry)) (now (find .entry))) children) (r, now (kids .exit), now (facts .exit), now (find .exit)) ⌝ }
+    ensures { λ r. ⌜ Meets (branch (before arena kids facts find) children) (r, now (kids .exit), now (facts .exit), now (find .exit)) ⌝ }
 {
     arena_branch::intern_branch(arena, kids, facts, find, children)
 }
@@ -181,7 +181,7 @@ fn release_meets(
     find: &mut [u16],
     id: BlockId,
 ) -> Answer
-    ensures { λ r. ⌜ Meets (release (tables arena (now (kids .entry)) (now (facts .entry)) (now (find .entry))) id) (r, now (kids .exit), now (facts .exit), now (find .exit)) ⌝ }
+    ensures { λ r. ⌜ Meets (release (before arena kids facts find) id) (r, now (kids .exit), now (facts .exit), now (find .exit)) ⌝ }
 {
     arena_release::release(arena, kids, facts, find, id)
 }
@@ -195,7 +195,7 @@ fn look_meets(
     depth: u32,
     position: IVec3,
 ) -> Looked
-    ensures { λ r. ⌜ Meets (look (tables arena (now (kids .entry)) (now (facts .entry)) (now (find .entry))) id depth position) r ⌝ }
+    ensures { λ r. ⌜ Meets (look (before arena kids facts find) id depth position) r ⌝ }
 {
     read_cell::get_at_depth(arena, kids, facts, find, id, depth, position)
 }
@@ -209,7 +209,7 @@ fn expand_meets(
     depth: u32,
     cube: &mut [u16],
 ) -> u32
-    ensures { λ r. ⌜ Meets (expand (tables arena (now (kids .entry)) (now (facts .entry)) (now (find .entry))) id depth (now (cube .entry))) (r, now (cube .exit)) ⌝ }
+    ensures { λ r. ⌜ Meets (expand (before arena kids facts find) id depth (now (cube .entry))) (r, now (cube .exit)) ⌝ }
 {
     read_cube::to_vec(arena, kids, facts, find, id, depth, cube)
 }
@@ -224,13 +224,13 @@ fn edit_meets(
     position: IVec3,
     value: u16,
 ) -> Made
-    ensures { λ r. ⌜ Meets (edit (tables arena (now (kids .entry)) (now (facts .entry)) (now (find .entry))) root depth position value) (r, now (kids .exit), now (facts .exit), now (find .exit)) ⌝ }
+    ensures { λ r. ⌜ Meets (edit (before arena kids facts find) root depth position value) (r, now (kids .exit), now (facts .exit), now (find .exit)) ⌝ }
 {
     edit::set_voxel(arena, kids, facts, find, root, depth, position, value)
 }
 
 fn check_meets(arena: Arena, kids: &[u64], facts: &mut [u64], find: &[u16]) -> bool
-    ensures { λ r. ⌜ Meets (check (tables arena (now (kids .entry)) (now (facts .entry)) (now (find .entry)))) (r, now (facts .exit)) ⌝ }
+    ensures { λ r. ⌜ Meets (check (before arena kids facts find)) (r, now (facts .exit)) ⌝ }
 {
     check_arena::check_arena(arena, kids, facts, find)
 }

@@ -3,7 +3,7 @@ use mathlib.Core.Path.{_≡_}
 use mathlib.Core.List.{List}
 use Prim.Native.Nat.{ℕ}
 use borrow.Author.Tests.{eq-eqb, ne-eqb}
-use Rattle.arena.specs.Calls.{Out, made}
+use Rattle.arena.specs.Calls.{Out, madeOf}
 use Rattle.arena.specs.Models.{branchAt, branchHitBy, branchMissBy}
 use Rattle.arena.specs.Tables.{tables}
 use Rattle.arena.specs.declared.Arena.{Arena}
@@ -16,7 +16,7 @@ module _ (a : Arena) (k f e ks : List ℕ) (v up s at : ℕ) where
   unfolding branchAt
   miss x z h = rw (eq-eqb s 0 z) h
 
-  found : (r : Made) (f′ : List ℕ) → (s ≡ 0 → ⊥) → ((j g : List ℕ) → made r j f′ g ≡ branchHitBy (tables a j f g) ks s) → made r k f′ e ≡ branchAt (tables a k f e) ks v up s at
+  found : (r : Made) (f′ : List ℕ) → (s ≡ 0 → ⊥) → ((j g : List ℕ) → madeOf r j f′ g ≡ branchHitBy (tables a j f g) ks s) → madeOf r k f′ e ≡ branchAt (tables a k f e) ks v up s at
   unfolding branchAt
   found r f′ z h = rw (ne-eqb s 0 z) (h k e)
 

@@ -3,7 +3,7 @@ use mathlib.Core.Path.{_≡_}
 use mathlib.Core.List.{List}
 use Prim.Native.Nat.{ℕ}
 use borrow.Author.Tests.{eq-eqb, ne-eqb}
-use Rattle.arena.specs.Calls.{Out, made}
+use Rattle.arena.specs.Calls.{Out, madeOf}
 use Rattle.arena.specs.Models.{hitBy, leafAt, leafMissBy}
 use Rattle.arena.specs.Tables.{tables}
 use Rattle.arena.specs.declared.Arena.{Arena}
@@ -16,7 +16,7 @@ module _ (a : Arena) (k f e : List ℕ) (v s at : ℕ) where
   unfolding leafAt
   miss x z h = rw (eq-eqb s 0 z) h
 
-  found : (r : Made) (f′ : List ℕ) → (s ≡ 0 → ⊥) → ((j g : List ℕ) → made r j f′ g ≡ hitBy (tables a j f g) s) → made r k f′ e ≡ leafAt (tables a k f e) v s at
+  found : (r : Made) (f′ : List ℕ) → (s ≡ 0 → ⊥) → ((j g : List ℕ) → madeOf r j f′ g ≡ hitBy (tables a j f g) s) → madeOf r k f′ e ≡ leafAt (tables a k f e) v s at
   unfolding leafAt
   found r f′ z h = rw (ne-eqb s 0 z) (h k e)
 
