@@ -50,7 +50,7 @@ sized-fits t s =
 
 pub room-yes : (a : Arena) → roomOf a ≡ true → a .live + 1 < a .capacity
 unfolding roomOf
-room-yes a e = let p = ltb-true (a .live) (a .capacity - 1) e in omega arith
+room-yes a e = let p = ltb-true 0 (a .capacity - 1 - a .live) e in omega arith
 
 pub live-is : (t : Tables) (id : ℕ) → liveOf (cap t) (W t) id ≡ true → Live (cap t) (W t) id
 unfolding liveOf

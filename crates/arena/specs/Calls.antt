@@ -6,6 +6,7 @@ use mathlib.Core.List.{List, [], _∷_}
 use Prim.Native.Nat.{ℕ, zero, suc, _+_, _-_, _*_, _^_}
 use lib.Dec.{eqb, leb, ltb}
 use lib.ListN.{length, replicate}
+use Rattle.basics.specs.Limits.{deepest, kidWords, factWords, slotCells, leastSlots, mostSlots, mostHolds}
 use Rattle.basics.specs.Pick.{pick}
 use Rattle.ids.specs.Ids.{empty, invalid, isLeaf, generationOf}
 use Rattle.nodes.specs.Tally.{occ, kidsOf}
@@ -56,7 +57,7 @@ answeredOf r k f e = did (r .no) (tables (r .arena) k f e)
 -- not refusal 1: capacity 2 to 65,536, and each table's length the one fixed for it: 8 and 7 words and 3 cells a slot
 unfoldable pub fitOf : ℕ → ℕ → ℕ → ℕ → Bool
 fitOf c k f e =
-    pick (leb 2 c) (pick (leb c 65536) (pick (eqb k (8 * c)) (pick (eqb f (7 * c)) (eqb e (3 * c)) false) false) false) false
+    pick (leb leastSlots c) (pick (leb c mostSlots) (pick (eqb k (kidWords * c)) (pick (eqb f (factWords * c)) (eqb e (slotCells * c)) false) false) false) false
 
 abbrev pub fits : Tables → Bool
 fits t = fitOf (cap t) (length (t .nodes .kids)) (length (t .nodes .facts)) (length (t .find))
@@ -71,11 +72,15 @@ liveOf c W id = pick (ltb (slot id) c) (pick (leb floor id) (eqb (W (slot id) ow
 
 -- refusal 10: the node in slot s already has 1,000,000 holds
 unfoldable pub fullOf : Words → ℕ → Bool
-fullOf W s = leb 1000000 (W s holds)
+fullOf W s = leb mostHolds (W s holds)
 
--- not refusal 11: there is a free slot (capacity - 1 - live is not 0)
+-- the free slots: capacity - 1 - live
+abbrev pub freeSlots : Arena → ℕ
+freeSlots a = a .capacity - 1 - a .live
+
+-- not refusal 11: there is one
 unfoldable pub roomOf : Arena → Bool
-roomOf a = ltb (a .live) (a .capacity - 1)
+roomOf a = ltb 0 (freeSlots a)
 
 -- ## A hold: the caller gets one hold on the node in slot s
 
@@ -175,7 +180,7 @@ unfoldable pub takes : ℕ → ℕ → Tables → ℕ → Tables
 takes zero f t id = t
 takes (suc k) f t id =
     let less = lessOf f t id in
-    let gone = each (takes k places) (recycled less (slot id)) (kidsOf 8 (W less) (slot id)) in
+    let gone = each (takes k places) (recycled less (slot id)) (kidsOf kidWords (W less) (slot id)) in
     let left = pick (unusedOf less id) gone less in
     pick (eqb id 0) t left
 
@@ -185,7 +190,7 @@ releaseNo t id =
     pick (fits t) (pick (eqb id 0) 0 (pick (liveOf (cap t) (W t) id) (pick (eqb (W t (slot id) holds) 0) 5 0) 4)) 1
 
 unfoldable pub releaseOf : Tables → ℕ → Out
-releaseOf t id = pick (eqb (releaseNo t id) 0) (did 0 (takes 7 holds t id)) (did (releaseNo t id) t)
+releaseOf t id = pick (eqb (releaseNo t id) 0) (did 0 (takes (suc deepest) holds t id)) (did (releaseNo t id) t)
 
 -- ## Hold: EMPTY is accepted and changes nothing. Refusals 1, 4, 10
 

@@ -3,6 +3,7 @@ use mathlib.Core.List.{List, []}
 use Prim.Native.Nat.{ℕ, zero, suc, _+_, _-_, _/_, _%_, _^_}
 use lib.Dec.{eqb, leb, ltb}
 use lib.ListN.{getD, set}
+use Rattle.basics.specs.Limits.{deepest, kidWords}
 use Rattle.basics.specs.Pick.{pick}
 use Rattle.basics.specs.Sums.{sumTo}
 use Rattle.ids.specs.Ids.{generationOf, newLeaf, newBranch}
@@ -32,7 +33,7 @@ unfoldable pub step : Tables → ℕ → Step
 step t x =
     pick (eqb x 0) (stepOf t [])
     (pick (eqb (W t (slot x) holds) 0)
-    (pick (leb (W t (slot x) places) 1) (stepOf (recycled t (slot x)) (kidsOf 8 (W t) (slot x))) (stepOf (unplaced t (slot x)) []))
+    (pick (leb (W t (slot x) places) 1) (stepOf (recycled t (slot x)) (kidsOf kidWords (W t) (slot x))) (stepOf (unplaced t (slot x)) []))
     (stepOf (unplaced t (slot x)) []))
 
 unfoldable pub dropOne : (Tables → ℕ → Tables) → Tables → ℕ → Tables
@@ -115,7 +116,7 @@ unfoldable pub settled : Tables → ℕ → Tables
 settled t s = tablesOf (t .arena) (settledN (t .nodes) s) (t .find)
 
 unfoldable pub releaseBy : Tables → ℕ → Tables
-releaseBy t id = dropPlace 7 (settled t (slot id)) id
+releaseBy t id = dropPlace (suc deepest) (settled t (slot id)) id
 
 unfoldable pub releaseAny : Tables → ℕ → Out
 releaseAny t id = pick (eqb (releaseNo t id) 0) (did 0 (pick (eqb id 0) t (releaseBy t id))) (did (releaseNo t id) t)

@@ -6,6 +6,7 @@ use mathlib.Core.List.{List, [], _∷_}
 use Prim.Native.Nat.{ℕ, suc, _+_, _*_, _≤_, _<_}
 use lib.Dec.{eqb, ltb}
 use lib.ListN.{getD}
+use Rattle.basics.specs.Limits.{kidWords, largestValue, mostHolds, lastGeneration}
 use Rattle.basics.specs.Pick.{pick}
 use Rattle.basics.specs.Sums.{average}
 use Rattle.ids.specs.Ids.{isLeaf, generationOf, pack}
@@ -38,7 +39,7 @@ branchId ks s g = pack 0 (kidTypes ks) (kidMask ks) g s
 
 -- one higher, or 0 where that would reach 0x7FFE
 unfoldable pub nextGeneration : ℕ → ℕ
-nextGeneration g = pick (ltb g 0x7FFD) (g + 1) 0
+nextGeneration g = pick (ltb g lastGeneration) (g + 1) 0
 
 -- the stored value and the height of a branch with the n children ks
 unfoldable pub valueFor : ℕ → Words → List ℕ → ℕ
@@ -53,16 +54,16 @@ heightFor n W ks = suc (maxTo n (λ i. heightAt W (getD ks i 0)))
 pub record LeafNode (W : Words) (s : ℕ) : Type 0 where
   pub id : W s own ≡ leafId s (generationOf (W s own))
   pub some : 1 ≤ W s value
-  pub bare : (i : ℕ) → i < 8 → W s i ≡ 0
+  pub bare : (i : ℕ) → i < kidWords → W s i ≡ 0
   pub flat : W s height ≡ 0
 
 -- a branch has n child ids, not all EMPTY; its stored value is the sum of the children's stored values divided by n, rounded down;
 -- its height is one more than its tallest child's, at most the tallest allowed; its children are live or EMPTY
 pub record BranchNode (n tallest cap : ℕ) (W : Words) (s : ℕ) : Type 0 where
-  pub id : W s own ≡ branchId (kidsOf 8 W s) s (generationOf (W s own))
+  pub id : W s own ≡ branchId (kidsOf kidWords W s) s (generationOf (W s own))
   pub children : (i : ℕ) → i < n → W s i ≢ 0 → Live cap W (W s i)
   pub some : (i : ℕ) × (i < n) × (W s i ≢ 0)
-  pub beyond : (i : ℕ) → n ≤ i → i < 8 → W s i ≡ 0
+  pub beyond : (i : ℕ) → n ≤ i → i < kidWords → W s i ≡ 0
   pub averaged : W s value ≡ average n (λ i. valueAt W (W s i))
   pub tall : W s height ≡ suc (maxTo n (λ i. heightAt W (W s i)))
   pub low : W s height ≤ tallest
@@ -70,6 +71,6 @@ pub record BranchNode (n tallest cap : ℕ) (W : Words) (s : ℕ) : Type 0 where
 pub record Node (n tallest cap : ℕ) (W : Words) (s : ℕ) : Type 0 where
   pub kind : LeafNode W s ⊎ BranchNode n tallest cap W s
   -- values 0 to 65,535. (A branch's follows from its children's; said here so that no induction is needed)
-  pub small : W s value ≤ 65535
+  pub small : W s value ≤ largestValue
   -- at most 1,000,000 holds
-  pub few : W s holds ≤ 1000000
+  pub few : W s holds ≤ mostHolds

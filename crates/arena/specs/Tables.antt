@@ -4,6 +4,7 @@ use mathlib.Core.Logic.{_≢_}
 use mathlib.Core.List.{List}
 use Prim.Native.Nat.{ℕ, _+_, _*_, _%_, _^_, _≤_, _<_}
 use lib.ListN.{length}
+use Rattle.basics.specs.Limits.{kidWords, factWords, slotCells, leastSlots, mostSlots, lastGeneration}
 use Rattle.ids.specs.Ids.{generationOf}
 use Rattle.nodes.specs.Tally.{tally, Free, Freed, liveCount}
 use Rattle.nodes.specs.Words.{Nodes, Words, wordOf, own, value, holds, places, link, spare, floor, nodes as nodesOf}
@@ -37,11 +38,11 @@ LiveSlot t s = (s < cap t) × (floor ≤ W t s own)
 
 -- capacity 2 to 65,536 slots, and each table's length is the one fixed for it: 8 and 7 words and 3 cells a slot
 pub record Sized (t : Tables) : Type 0 where
-  pub least : 2 ≤ cap t
-  pub most : cap t ≤ 65536
-  pub kids : length (t .nodes .kids) ≡ 8 * cap t
-  pub facts : length (t .nodes .facts) ≡ 7 * cap t
-  pub cells : length (t .find) ≡ 3 * cap t
+  pub least : leastSlots ≤ cap t
+  pub most : cap t ≤ mostSlots
+  pub kids : length (t .nodes .kids) ≡ kidWords * cap t
+  pub facts : length (t .nodes .facts) ≡ factWords * cap t
+  pub cells : length (t .find) ≡ slotCells * cap t
 
 -- a slot that is not live is cleared: value 0, children EMPTY, both counts 0 (and height and spare 0); its own word is a generation alone
 pub record Cleared (W : Words) (s : ℕ) : Type 0 where
@@ -57,9 +58,9 @@ pub record WellFormed (n tallest : ℕ) (t : Tables) : Type 0 where
   -- live nodes meet the rules on content, stored value, height and id, with at most 1,000,000 holds; their children are live or EMPTY
   pub nodes : (s : ℕ) → LiveSlot t s → Node n tallest (cap t) (W t) s
   -- no two have equal content
-  pub distinct : (s b : ℕ) → LiveSlot t s → LiveSlot t b → ((i : ℕ) → i < 8 → W t s i ≡ W t b i) → W t s value ≡ W t b value → s ≡ b
+  pub distinct : (s b : ℕ) → LiveSlot t s → LiveSlot t b → ((i : ℕ) → i < kidWords → W t s i ≡ W t b i) → W t s value ≡ W t b value → s ≡ b
   -- places equal the true tally
-  pub tallied : (s : ℕ) → LiveSlot t s → W t s places ≡ tally 8 (cap t) (W t) (W t s own)
+  pub tallied : (s : ℕ) → LiveSlot t s → W t s places ≡ tally kidWords (cap t) (W t) (W t s own)
   -- holds plus places is at least 1
   pub used : (s : ℕ) → LiveSlot t s → 1 ≤ W t s holds + W t s places
   -- the search finds every live node, and the finding table names live slots only, each once
@@ -70,6 +71,6 @@ pub record WellFormed (n tallest : ℕ) (t : Tables) : Type 0 where
   pub linked : (s : ℕ) → s < cap t → 1 ≤ W t s link → Free (W t) (t .arena .next) s
   pub spared : (s : ℕ) → s < cap t → W t s spare ≡ 0
   -- no generation is above 0x7FFD
-  pub gens : (s : ℕ) → s < cap t → generationOf (W t s own) ≤ 0x7FFD
+  pub gens : (s : ℕ) → s < cap t → generationOf (W t s own) ≤ lastGeneration
   -- how many live
   pub lives : t .arena .live ≡ liveCount (cap t) (W t)

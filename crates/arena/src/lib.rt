@@ -1,6 +1,11 @@
 // The arena: its state, which goes by value beside three lent tables, `kids` and `facts` with the nodes (crate nodes) and `find`, which says what
 // slot has a content (crate find); and what the calls on it share. What each call answers and leaves is in specs/Calls.antt; a fresh arena, hold
 // and counts are in the crate arena_hold, intern leaf in leaves, intern branch in branches, release in releasing.
+use basics::FACT_WORDS;
+use basics::KID_WORDS;
+use basics::LEAST_SLOTS;
+use basics::MOST_SLOTS;
+use basics::SLOT_CELLS;
 use ids::BlockId;
 use nodes::HOLDS;
 use nodes::OWN;
@@ -64,11 +69,11 @@ pub fn slot_of(id: u64) -> usize
 pub fn fit(capacity: usize, kids: usize, facts: usize, find: usize) -> bool
     ensures { λ r. ⌜ r ≡ fitOf capacity kids facts find ⌝ }
 {
-    if 2 <= capacity {
-        if capacity <= 65536 {
-            if kids == 8 * capacity {
-                if facts == 7 * capacity {
-                    return find == 3 * capacity;
+    if LEAST_SLOTS <= capacity {
+        if capacity <= MOST_SLOTS {
+            if kids == KID_WORDS * capacity {
+                if facts == FACT_WORDS * capacity {
+                    return find == SLOT_CELLS * capacity;
                 }
             }
         }

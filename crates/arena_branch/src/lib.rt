@@ -8,10 +8,15 @@ use arena::is_live;
 use arena::less;
 use arena::settle;
 use arena::slot_of;
+use basics::KID_WORDS;
+use basics::Kids;
+use basics::MOST_HOLDS;
+use basics::TALLEST;
 use find::put_cell;
 use find::search;
 use ids::BlockId;
 use new_id::branch_id;
+use new_slot::free_slots;
 use new_slot::fresh_slot;
 use new_slot::give;
 use new_value::sums_of;
@@ -24,6 +29,7 @@ ghost use mathlib.Core.Path.{_≡_};
 ghost use mathlib.Core.Bool.{false};
 ghost use mathlib.Core.List.{List};
 ghost use Prim.Native.Nat.{ℕ, _≤_};
+ghost use Rattle.basics.specs.Limits.{deepest, cubeKids};
 ghost use Rattle.basics.specs.Pick.{pick};
 ghost use Rattle.nodes.specs.Tally.{occ};
 ghost use Rattle.nodes.specs.Words.{nodes as nodesOf, factOf};
@@ -43,12 +49,12 @@ fn live_or_empty(capacity: usize, facts: &[u64], k: u64) -> bool
 }
 
 // How often y stands among the eight.
-fn occurs(ks: [u64; 8], y: u64) -> u64
+fn occurs(ks: Kids, y: u64) -> u64
     ensures { λ r. ⌜ r ≡ occ y ks ⌝ }
 {
     let mut n: u64 = 0;
     let mut i: usize = 0;
-    while i < 8 {
+    while i < KID_WORDS {
         if y == ks[i] {
             n += 1;
         }
@@ -58,7 +64,7 @@ fn occurs(ks: [u64; 8], y: u64) -> u64
 }
 
 // Has k a hold for each of its places among the eight? Eight holds are always enough.
-fn enough_for(facts: &[u64], ks: [u64; 8], k: u64) -> bool
+fn enough_for(facts: &[u64], ks: Kids, k: u64) -> bool
     ensures { λ r. ⌜ r ≡ enoughFor (factOf (now (facts .entry))) ks k ⌝ }
 {
     if k == 0 {
@@ -79,13 +85,13 @@ fn both(x: bool, y: bool) -> bool
 }
 
 // Refusals 4, 5 and 7, in one pass: a child that is neither EMPTY nor live, one without the holds that the call would take, and eight EMPTY ones.
-fn each_no(capacity: usize, facts: &[u64], ks: [u64; 8]) -> u32
+fn each_no(capacity: usize, facts: &[u64], ks: Kids) -> u32
     ensures { λ r. ⌜ r ≡ pick (allLive capacity (factOf (now (facts .entry))) ks) (pick (enough (factOf (now (facts .entry))) ks) (pick (noneOf ks) 7 0) 5) 4 ⌝ }
 {
     let mut held = true;
     let mut none = true;
     let mut i: usize = 0;
-    while i < 8 {
+    while i < KID_WORDS {
         let k = ks[i];
         if !live_or_empty(capacity, facts, k) {
             return 4;
@@ -104,7 +110,7 @@ fn each_no(capacity: usize, facts: &[u64], ks: [u64; 8]) -> u32
 }
 
 // Refusals 1, 4, 5 and 7.
-fn kids_no(a: Arena, kids: &[u64], facts: &[u64], find: &[u16], ks: [u64; 8]) -> u32
+fn kids_no(a: Arena, kids: &[u64], facts: &[u64], find: &[u16], ks: Kids) -> u32
     ensures { λ r. ⌜ r ≡ kidsNo (before a kids facts find) ks ⌝ }
 {
     if fit(a.capacity, kids.len(), facts.len(), find.len()) {
@@ -124,11 +130,11 @@ fn settle_kid(facts: &mut [u64], k: u64)
 }
 
 // The holds become places.
-fn settle_all(facts: &mut [u64], ks: [u64; 8])
+fn settle_all(facts: &mut [u64], ks: Kids)
     ensures { λ _. ⌜ ((j : List ℕ) → nodesOf j (now (facts .exit)) ≡ settles (nodesOf j (now (facts .entry))) ks) ⌝ }
 {
     let mut i: usize = 0;
-    while i < 8 {
+    while i < KID_WORDS {
         settle_kid(facts, ks[i]);
         i += 1;
     }
@@ -146,21 +152,21 @@ fn unhold_kid(facts: &mut [u64], k: u64)
 }
 
 // The holds end.
-fn unhold_all(facts: &mut [u64], ks: [u64; 8])
+fn unhold_all(facts: &mut [u64], ks: Kids)
     ensures { λ _. ⌜ ((j : List ℕ) → nodesOf j (now (facts .exit)) ≡ unheld (nodesOf j (now (facts .entry))) ks) ⌝ }
 {
     let mut i: usize = 0;
-    while i < 8 {
+    while i < KID_WORDS {
         unhold_kid(facts, ks[i]);
         i += 1;
     }
 }
 
 // The node in slot s is there already: the holds of the children end, and a hold on it is granted.
-fn branch_hit(a: Arena, facts: &mut [u64], ks: [u64; 8], s: usize) -> Made
+fn branch_hit(a: Arena, facts: &mut [u64], ks: Kids, s: usize) -> Made
     ensures { λ r. ⌜ ((k e : List ℕ) → madeOf r k (now (facts .exit)) e ≡ branchHitBy (tables a k (now (facts .entry)) e) ks s) ⌝ }
 {
-    if 1000000 <= fact(facts, s, HOLDS) {
+    if MOST_HOLDS <= fact(facts, s, HOLDS) {
         return Made {
             no: 10,
             id: BlockId::INVALID,
@@ -183,14 +189,14 @@ fn branch_miss(
     kids: &mut [u64],
     facts: &mut [u64],
     find: &mut [u16],
-    ks: [u64; 8],
+    ks: Kids,
     v: u64,
     up: u64,
     at: usize,
 ) -> Made
     ensures { λ r. ⌜ made r kids facts find ≡ branchMissBy (before a kids facts find) ks v up at ⌝ }
 {
-    if (a.live as u64) < less(a.capacity as u64) {
+    if 0 < free_slots(a) {
         let s = fresh_slot(a);
         let id = branch_id(ks, s, fact(facts, s, OWN));
         settle_all(facts, ks);
@@ -216,7 +222,7 @@ fn branch_at(
     kids: &mut [u64],
     facts: &mut [u64],
     find: &mut [u16],
-    ks: [u64; 8],
+    ks: Kids,
     v: u64,
     up: u64,
     s: usize,
@@ -236,23 +242,23 @@ fn branch(
     kids: &mut [u64],
     facts: &mut [u64],
     find: &mut [u16],
-    ks: [u64; 8],
+    ks: Kids,
     v: u64,
     top: u64,
 ) -> Made
-    requires { ⌜ (v ≡ valueBy 8 (factOf (now facts)) ks) × (top ≤ 6) ⌝ }
-    ensures { λ r. ⌜ made r kids facts find ≡ branchBy 8 (before a kids facts find) ks top ⌝ }
+    requires { ⌜ (v ≡ valueBy cubeKids (factOf (now facts)) ks) × (top ≤ 6) ⌝ }
+    ensures { λ r. ⌜ made r kids facts find ≡ branchBy cubeKids (before a kids facts find) ks top ⌝ }
 {
     let f = search(find, kids, facts, a.capacity, ks, v);
     branch_at(a, kids, facts, find, ks, v, top + 1, f.slot, f.cell)
 }
 
 // The branch of these children unless it is taller than 6: refusal 8.
-fn branch_low(a: Arena, kids: &mut [u64], facts: &mut [u64], find: &mut [u16], ks: [u64; 8]) -> Made
-    ensures { λ r. ⌜ made r kids facts find ≡ branchLow 8 6 (before a kids facts find) ks ⌝ }
+fn branch_low(a: Arena, kids: &mut [u64], facts: &mut [u64], find: &mut [u16], ks: Kids) -> Made
+    ensures { λ r. ⌜ made r kids facts find ≡ branchLow cubeKids deepest (before a kids facts find) ks ⌝ }
 {
     let sums = sums_of(facts, ks);
-    if sums.top < 6 {
+    if sums.top < TALLEST {
         return branch(a, kids, facts, find, ks, sums.value, sums.top);
     }
     Made {
@@ -263,8 +269,8 @@ fn branch_low(a: Arena, kids: &mut [u64], facts: &mut [u64], find: &mut [u16], k
 }
 
 // Intern branch on any tables.
-fn branch_any(a: Arena, kids: &mut [u64], facts: &mut [u64], find: &mut [u16], ks: [u64; 8]) -> Made
-    ensures { λ r. ⌜ made r kids facts find ≡ internBranchBy 8 6 (before a kids facts find) ks ⌝ }
+fn branch_any(a: Arena, kids: &mut [u64], facts: &mut [u64], find: &mut [u16], ks: Kids) -> Made
+    ensures { λ r. ⌜ made r kids facts find ≡ internBranchBy cubeKids deepest (before a kids facts find) ks ⌝ }
 {
     let no = kids_no(a, kids, facts, find, ks);
     if no != 0 {
@@ -278,7 +284,7 @@ fn branch_any(a: Arena, kids: &mut [u64], facts: &mut [u64], find: &mut [u16], k
 }
 
 // The raw numbers of eight ids.
-fn raw_ids(ids: [BlockId; 8]) -> [u64; 8]
+fn raw_ids(ids: [BlockId; KID_WORDS]) -> Kids
     ensures { λ r. ⌜ r ≡ rawIds ids ⌝ }
 {
     [
@@ -300,9 +306,9 @@ pub fn intern_branch(
     kids: &mut [u64],
     facts: &mut [u64],
     find: &mut [u16],
-    children: [BlockId; 8],
+    children: [BlockId; KID_WORDS],
 ) -> Made
-    ensures { λ r. ⌜ (Fair 8 6 (before arena kids facts find) → made r kids facts find ≡ internBranchOf 8 6 (before arena kids facts find) (rawIds children)) ⌝ }
+    ensures { λ r. ⌜ (Fair cubeKids deepest (before arena kids facts find) → made r kids facts find ≡ internBranchOf cubeKids deepest (before arena kids facts find) (rawIds children)) ⌝ }
 {
     branch_any(arena, kids, facts, find, raw_ids(children))
 }

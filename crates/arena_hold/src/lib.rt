@@ -6,6 +6,7 @@ use arena::fit;
 use arena::grant;
 use arena::is_live;
 use arena::slot_of;
+use basics::MOST_HOLDS;
 use ids::BlockId;
 use nodes::HOLDS;
 use nodes::PLACES;
@@ -24,7 +25,7 @@ fn hold_no(a: Arena, kids: &[u64], facts: &[u64], find: &[u16], id: u64) -> u32
             return 0;
         }
         if is_live(a.capacity, facts, id) {
-            if 1000000 <= fact(facts, slot_of(id), HOLDS) {
+            if MOST_HOLDS <= fact(facts, slot_of(id), HOLDS) {
                 return 10;
             }
             return 0;

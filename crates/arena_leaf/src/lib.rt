@@ -2,10 +2,12 @@
 use arena::Arena;
 use arena::Made;
 use arena::fit;
-use arena::less;
+use basics::MOST_HOLDS;
+use basics::NO_KIDS;
 use find::put_cell;
 use find::search_leaf;
 use ids::BlockId;
+use new_slot::free_slots;
 use new_slot::fresh_slot;
 use new_slot::give;
 use new_slot::leaf_id;
@@ -17,20 +19,19 @@ use nodes_write::write_slot;
 ghost use mathlib.Core.Path.{_≡_};
 ghost use mathlib.Core.List.{List};
 ghost use Prim.Native.Nat.{ℕ, _≤_};
+ghost use Rattle.basics.specs.Limits.{kidWords};
 ghost use Rattle.arena.specs.Calls.{madeOf, Fair, internLeafOf};
 ghost use Rattle.arena.specs.Models.{hitBy, leafMissBy, leafAt, leafBy, internLeafBy};
 ghost use Rattle.arena.specs.Tables.{tables};
 ghost use Rattle.arena.specs.Lent.{before, made};
 
 // Eight EMPTY children.
-const NONE: [u64; 8] = [0, 0, 0, 0, 0, 0, 0, 0];
-
 // One hold more on the node in slot s, which is there already.
 fn hit(a: Arena, facts: &mut [u64], s: usize) -> Made
     ensures { λ r. ⌜ ((k e : List ℕ) → madeOf r k (now (facts .exit)) e ≡ hitBy (tables a k (now (facts .entry)) e) s) ⌝ }
 {
     let h = fact(facts, s, HOLDS);
-    if 1000000 <= h {
+    if MOST_HOLDS <= h {
         return Made {
             no: 10,
             id: BlockId::INVALID,
@@ -57,11 +58,11 @@ fn leaf_miss(
 ) -> Made
     ensures { λ r. ⌜ made r kids facts find ≡ leafMissBy (before a kids facts find) v at ⌝ }
 {
-    if (a.live as u64) < less(a.capacity as u64) {
+    if 0 < free_slots(a) {
         let s = fresh_slot(a);
         let id = leaf_id(s, fact(facts, s, OWN));
         let b = give(a, facts);
-        write_slot(kids, facts, s, NONE, [id, v, 0, 1, 0, 0, 0]);
+        write_slot(kids, facts, s, NO_KIDS, [id, v, 0, 1, 0, 0, 0]);
         put_cell(find, at, s);
         return Made {
             no: 0,
@@ -131,7 +132,7 @@ pub fn intern_leaf(
     find: &mut [u16],
     value: u16,
 ) -> Made
-    ensures { λ r. ⌜ ((n tallest : ℕ) → n ≤ 8 → Fair n tallest (before arena kids facts find) → made r kids facts find ≡ internLeafOf (before arena kids facts find) value) ⌝ }
+    ensures { λ r. ⌜ ((n tallest : ℕ) → n ≤ kidWords → Fair n tallest (before arena kids facts find) → made r kids facts find ≡ internLeafOf (before arena kids facts find) value) ⌝ }
 {
     leaf_any(arena, kids, facts, find, value)
 }

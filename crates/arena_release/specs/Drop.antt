@@ -4,6 +4,7 @@ use mathlib.Core.Bool.{Bool, true, false}
 use mathlib.Core.List.{List}
 use Prim.Native.Nat.{ℕ, _-_}
 use lib.Dec.{eqb, ltb}
+use Rattle.basics.specs.Limits.{kidWords}
 use Rattle.basics.specs.Pick.{pick}
 use Rattle.nodes.specs.Tally.{kidsOf}
 use Rattle.nodes.specs.Words.{Words, holds, places, factOf, factPut, slot}
@@ -37,4 +38,4 @@ takenOf f id = pick (eqb id 0) f (takenAt f (slot id))
 
 -- slot s recycled, and its children dropped in turn
 unfoldable pub dropSlot : ℕ → Tables → ℕ → Tables
-dropSlot k t s = each (dropPlace k) (recycled t s) (kidsOf 8 (W t) s)
+dropSlot k t s = each (dropPlace k) (recycled t s) (kidsOf kidWords (W t) s)

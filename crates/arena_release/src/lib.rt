@@ -6,6 +6,12 @@ use arena::is_live;
 use arena::less;
 use arena::settle;
 use arena::slot_of;
+use basics::FACT_WORDS;
+use basics::KID_WORDS;
+use basics::Kids;
+use basics::LAST_GENERATION;
+use basics::NO_KIDS;
+use basics::TALLEST;
 use find_hash::home_for;
 use find_remove::remove_from;
 use ids::BlockId;
@@ -19,6 +25,7 @@ use nodes_write::write_slot;
 ghost use mathlib.Core.Path.{_≡_};
 ghost use Prim.Native.Nat.{ℕ, _+_, _*_, _^_, _≤_};
 ghost use lib.Dec.{eqb};
+ghost use Rattle.basics.specs.Limits.{deepest, kidWords};
 ghost use Rattle.basics.specs.Pick.{pick};
 ghost use Rattle.ids.specs.Ids.{generationOf};
 ghost use Rattle.nodes.specs.Words.{own as ownWord, nodes as nodesOf, factOf, wordOf, written, slot};
@@ -30,8 +37,6 @@ ghost use Rattle.arena.specs.Lent.{before, after, answered};
 ghost use Rattle.arena_release.specs.Drop.{stateOf, lastAt, takenAt, lastOf, takenOf, dropSlot};
 
 // Eight EMPTY children.
-const NONE: [u64; 8] = [0, 0, 0, 0, 0, 0, 0, 0];
-
 // An arena's state but for its capacity: three numbers go to a function in registers.
 struct Slots {
     next: usize,
@@ -43,9 +48,9 @@ struct Slots {
 fn next_own(o: u64) -> u64
     ensures { λ r. ⌜ r ≡ nextGeneration (generationOf o) * 2 ^ 32 ⌝ }
 {
-    let g = BlockId(o).generation() as u64;
-    if g < 0x7FFD {
-        return (g + 1) * 0x1_0000_0000;
+    let g = BlockId(o).generation();
+    if g < LAST_GENERATION {
+        return (g as u64 + 1) * 0x1_0000_0000;
     }
     0
 }
@@ -55,7 +60,7 @@ fn clear_slot(kids: &mut [u64], facts: &mut [u64], s: usize, top: usize)
     ensures { λ _. ⌜ nodesOf (now (kids .exit)) (now (facts .exit)) ≡ written (nodesOf (now (kids .entry)) (now (facts .entry))) s empties (deadFacts (factOf (now (facts .entry)) s ownWord) top) ⌝ }
 {
     let o = next_own(fact(facts, s, OWN));
-    write_slot(kids, facts, s, NONE, [o, 0, 0, 0, 0, top as u64, 0]);
+    write_slot(kids, facts, s, NO_KIDS, [o, 0, 0, 0, 0, top as u64, 0]);
 }
 
 // Clears slot s and puts it on top of the freed ones; the finding table no longer names it. `from` is the home of its content.
@@ -88,7 +93,7 @@ fn take_place(facts: &mut [u64], s: usize) -> bool
     if facts.len() <= s {
         return true;
     }
-    let placed = 7 * s + (PLACES - OWN);
+    let placed = FACT_WORDS * s + (PLACES - OWN);
     if facts.len() <= placed {
         return fact(facts, s, HOLDS) == 0;
     }
@@ -97,7 +102,7 @@ fn take_place(facts: &mut [u64], s: usize) -> bool
         facts[placed] = p - 1;
         return false;
     }
-    if facts[7 * s + (HOLDS - OWN)] == 0 {
+    if facts[FACT_WORDS * s + (HOLDS - OWN)] == 0 {
         return true;
     }
     facts[placed] = 0;
@@ -115,11 +120,11 @@ fn is_last(facts: &mut [u64], id: u64) -> bool
 }
 
 // Are all eight EMPTY, as a leaf's are?
-fn no_kids(ks: [u64; 8]) -> bool
+fn no_kids(ks: Kids) -> bool
     ensures { λ r. ⌜ r ≡ noneOf ks ⌝ }
 {
     let mut at: usize = 0;
-    while at < 8 {
+    while at < KID_WORDS {
         if !BlockId(ks[at]).is_empty() {
             return false;
         }
@@ -159,14 +164,14 @@ fn drop_all(
     kids: &mut [u64],
     facts: &mut [u64],
     find: &mut [u16],
-    below: [u64; 8],
+    below: Kids,
     left: u64,
 ) -> Slots
     ensures { λ r. ⌜ after (stateOf capacity (r .next) (r .top) (r .live)) kids facts find ≡ each (dropPlace (left + 1)) (before (stateOf capacity (a .next) (a .top) (a .live)) kids facts find) below ⌝ }
 {
     let mut b = a;
     let mut i: usize = 0;
-    while i < 8 {
+    while i < KID_WORDS {
         let id = below[i];
         i += 1;
         if is_last(facts, id) {
@@ -191,7 +196,7 @@ fn release_at(a: Arena, kids: &mut [u64], facts: &mut [u64], find: &mut [u16], i
             top: a.top,
             live: a.live,
         };
-        let b = drop_slot(a.capacity, slots, kids, facts, find, s, 6);
+        let b = drop_slot(a.capacity, slots, kids, facts, find, s, TALLEST);
         return Arena {
             capacity: a.capacity,
             next: b.next,
@@ -241,7 +246,7 @@ pub fn release(
     find: &mut [u16],
     id: BlockId,
 ) -> Answer
-    ensures { λ r. ⌜ ((n tallest : ℕ) → n ≤ 8 → tallest ≤ 6 → Fair n tallest (before arena kids facts find) → answered r kids facts find ≡ releaseOf (before arena kids facts find) (id .0)) ⌝ }
+    ensures { λ r. ⌜ ((n tallest : ℕ) → n ≤ kidWords → tallest ≤ deepest → Fair n tallest (before arena kids facts find) → answered r kids facts find ≡ releaseOf (before arena kids facts find) (id .0)) ⌝ }
 {
     release_any(arena, kids, facts, find, id.0)
 }

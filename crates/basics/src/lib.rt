@@ -1,2 +1,38 @@
-// Definitions and laws that speak of no id, table or tree: a choice by a test, the bits of a number, sums and averages, the characters of a text.
-// No code: see specs/ and proofs/.
+// Definitions and laws that speak of no id, table or tree: the limits, a choice by a test, the bits of a number, sums and averages, the characters of a text.
+// In code only the limits: see specs/ and proofs/ for the rest.
+
+// The deepest tree: no depth, and no node's height, is above it.
+pub const DEEPEST: u32 = 6;
+
+// The same of a height, which is a word of a slot.
+pub const TALLEST: u64 = 6;
+
+// The deepest cube that is expanded.
+pub const DEEPEST_CUBE: u32 = 6;
+
+// The words of a slot in the tables `kids` and `facts`, and its cells in the table `find`.
+pub const KID_WORDS: usize = 8;
+
+pub const FACT_WORDS: usize = 7;
+
+pub const SLOT_CELLS: usize = 3;
+
+// The children of a node: as many words as its slot has in `kids`.
+pub type Kids = [u64; KID_WORDS];
+
+// The children of a leaf.
+pub const NO_KIDS: Kids = [0, 0, 0, 0, 0, 0, 0, 0];
+
+// The capacity of an arena.
+pub const LEAST_SLOTS: usize = 2;
+
+pub const MOST_SLOTS: usize = 65536;
+
+// Values are 0 to this.
+pub const LARGEST_VALUE: u64 = 65535;
+
+// Callers' holds on one node.
+pub const MOST_HOLDS: u64 = 1000000;
+
+// The generation after which a slot's next is 0.
+pub const LAST_GENERATION: u16 = 0x7FFD;

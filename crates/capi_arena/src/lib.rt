@@ -1,7 +1,9 @@
 // The arena for C and Rust: each function calls the one of its name in the crates `arena_hold`, `arena_leaf`, `arena_branch` and `arena_release`, and its contract
 // cites the same definition. A slice goes as its address and its length, an id as its raw number, eight ids as a struct that holds them.
+use basics::KID_WORDS;
 ghost use mathlib.Core.Path.{_≡_};
 ghost use Prim.Native.Nat.{ℕ, _≤_};
+ghost use Rattle.basics.specs.Limits.{deepest, cubeKids, kidWords};
 ghost use Rattle.arena.specs.Calls.{counted, Fair, rawIds, freshOf, internLeafOf, internBranchOf, holdOf, releaseOf, countsOf};
 ghost use Rattle.arena.specs.Lent.{before, made, answered};
 use arena::Answer;
@@ -13,7 +15,7 @@ use ids::BlockId;
 // The eight child ids of a branch. An array alone can't be passed.
 #[repr(C)]
 pub struct Children {
-    pub ids: [BlockId; 8],
+    pub ids: [BlockId; KID_WORDS],
 }
 
 #[no_mangle]
@@ -36,7 +38,7 @@ pub extern "C" fn fenpiling_intern_leaf(
     find: &mut [u16],
     value: u16,
 ) -> Made
-    ensures { λ r. ⌜ ((n tallest : ℕ) → n ≤ 8 → Fair n tallest (before arena kids facts find) → made r kids facts find ≡ internLeafOf (before arena kids facts find) value) ⌝ }
+    ensures { λ r. ⌜ ((n tallest : ℕ) → n ≤ kidWords → Fair n tallest (before arena kids facts find) → made r kids facts find ≡ internLeafOf (before arena kids facts find) value) ⌝ }
 {
     arena_leaf::intern_leaf(arena, kids, facts, find, value)
 }
@@ -49,7 +51,7 @@ pub extern "C" fn fenpiling_intern_branch(
     find: &mut [u16],
     children: Children,
 ) -> Made
-    ensures { λ r. ⌜ (Fair 8 6 (before arena kids facts find) → made r kids facts find ≡ internBranchOf 8 6 (before arena kids facts find) (rawIds (children .ids))) ⌝ }
+    ensures { λ r. ⌜ (Fair cubeKids deepest (before arena kids facts find) → made r kids facts find ≡ internBranchOf cubeKids deepest (before arena kids facts find) (rawIds (children .ids))) ⌝ }
 {
     let ids = children.ids;
     arena_branch::intern_branch(arena, kids, facts, find, ids)
@@ -76,7 +78,7 @@ pub extern "C" fn fenpiling_release(
     find: &mut [u16],
     id: u64,
 ) -> Answer
-    ensures { λ r. ⌜ ((n tallest : ℕ) → n ≤ 8 → tallest ≤ 6 → Fair n tallest (before arena kids facts find) → answered r kids facts find ≡ releaseOf (before arena kids facts find) id) ⌝ }
+    ensures { λ r. ⌜ ((n tallest : ℕ) → n ≤ kidWords → tallest ≤ deepest → Fair n tallest (before arena kids facts find) → answered r kids facts find ≡ releaseOf (before arena kids facts find) id) ⌝ }
 {
     arena_release::release(arena, kids, facts, find, BlockId(id))
 }

@@ -5,6 +5,7 @@ use mathlib.Core.List.{List}
 use Prim.Native.Nat.{ℕ, _+_, _-_, _*_, _/_, _%_, _^_}
 use lib.Dec.{eqb, leb, ltb}
 use lib.ListN.{length}
+use Rattle.basics.specs.Limits.{kidWords, factWords, slotCells, leastSlots, mostSlots, largestValue, mostHolds, lastGeneration}
 use Rattle.basics.specs.Pick.{pick}
 use Rattle.basics.specs.Sums.{sumTo}
 use Rattle.ids.specs.Ids.{generationOf, newLeaf, newBranch}
@@ -22,7 +23,7 @@ kidEmpty k s i = eqb (kidOf k s i) 0
 
 -- the children of slot s from i on are EMPTY
 unfoldable pub bareFrom : List ℕ → ℕ → ℕ → Bool
-bareFrom k s i = allIn i 8 (kidEmpty k s)
+bareFrom k s i = allIn i kidWords (kidEmpty k s)
 
 unfoldable pub factZero : List ℕ → ℕ → ℕ → Bool
 factZero f s g = eqb (factOf f s g) 0
@@ -39,8 +40,8 @@ deadFine k f s = choose (eqb (factOf f s own % 2 ^ 32) 0) (choose (bareFrom k s 
 -- the value and both counts of a live slot, and no link
 unfoldable pub countsFine : List ℕ → ℕ → Bool
 countsFine f s =
-    choose (leb (factOf f s value) 65535)
-    (choose (leb (factOf f s holds) 1000000) (choose (leb 1 (factOf f s holds + factOf f s places)) (eqb (factOf f s link) 0) false) false) false
+    choose (leb (factOf f s value) largestValue)
+    (choose (leb (factOf f s holds) mostHolds) (choose (leb 1 (factOf f s holds + factOf f s places)) (eqb (factOf f s link) 0) false) false) false
 
 unfoldable pub leafNamed : List ℕ → ℕ → Bool
 leafNamed f s = eqb (factOf f s own) (newLeaf (s % 2 ^ 32) (generationOf (factOf f s own)))
@@ -52,7 +53,7 @@ leafFine k f s =
 
 unfoldable pub branchNamed : List ℕ → List ℕ → ℕ → Bool
 branchNamed k f s =
-    let ks = kidsOf 8 (kidOf k) s in
+    let ks = kidsOf kidWords (kidOf k) s in
     eqb (factOf f s own) (newBranch (s % 2 ^ 32) (generationOf (factOf f s own)) (kidTypes ks) (kidMask ks))
 
 unfoldable pub liveId : List ℕ → ℕ → ℕ → Bool
@@ -93,7 +94,7 @@ unfoldable pub restsAt : List ℕ → ℕ → ℕ → Bool
 restsAt f next s = choose (isGiven next s) true (choose (eqb (factOf f s own) 0) (eqb (factOf f s link) 0) false)
 
 unfoldable pub plainAt : List ℕ → ℕ → Bool
-plainAt f s = choose (eqb (factOf f s spare) 0) (leb (generationOf (factOf f s own)) 0x7FFD) false
+plainAt f s = choose (eqb (factOf f s spare) 0) (leb (generationOf (factOf f s own)) lastGeneration) false
 
 unfoldable pub slotFine : List ℕ → List ℕ → ℕ → ℕ → ℕ → ℕ → ℕ → Bool
 slotFine k f c next n tallest s =
@@ -103,7 +104,7 @@ slotFine k f c next n tallest s =
 -- ## All of it
 
 unfoldable pub sizedBy : ℕ → ℕ → ℕ → ℕ → Bool
-sizedBy c x y z = choose (leb 2 c) (choose (leb c 65536) (choose (eqb x (8 * c)) (choose (eqb y (7 * c)) (eqb z (3 * c)) false) false) false) false
+sizedBy c x y z = choose (leb leastSlots c) (choose (leb c mostSlots) (choose (eqb x (kidWords * c)) (choose (eqb y (factWords * c)) (eqb z (slotCells * c)) false) false) false) false
 
 unfoldable pub rangedBy : ℕ → ℕ → Bool
 rangedBy next c = choose (leb 1 next) (leb next c) false

@@ -2,6 +2,13 @@
 // capacity, and the first that says no ends the check. See specs/Models.antt.
 use arena::Arena;
 use arena::slot_of;
+use basics::FACT_WORDS;
+use basics::KID_WORDS;
+use basics::LARGEST_VALUE;
+use basics::LAST_GENERATION;
+use basics::MOST_HOLDS;
+use basics::MOST_SLOTS;
+use basics::SLOT_CELLS;
 use check_find::find_fine;
 use check_freed::FLOOR;
 use check_freed::is_given;
@@ -25,6 +32,7 @@ ghost use mathlib.Core.Logic.{_↔_};
 ghost use mathlib.Core.Bool.{true};
 ghost use Prim.Native.Nat.{_+_, _%_, _^_, _<_, _≤_, max};
 ghost use lib.Dec.{leb};
+ghost use Rattle.basics.specs.Limits.{deepest, cubeKids, kidWords};
 ghost use Rattle.basics.specs.Sums.{sumTo};
 ghost use Rattle.nodes.specs.Words.{factOf, holds, places};
 ghost use Rattle.nodes.specs.Values.{maxTo};
@@ -34,15 +42,10 @@ ghost use Rattle.check_freed.specs.Models.{allIn};
 ghost use Rattle.check_arena.specs.Models.{bareFrom, blankAt, deadFine, countsFine, leafNamed, leafFine, branchNamed, liveId, kidFine, kidValue, kidHeight, averageAt, tallAt, branchFine, liveFine, restsAt, plainAt, slotFine, sizedBy, rangedBy, soundBy};
 
 // No generation is above this.
-const LAST_GENERATION: u16 = 0x7FFD;
 
 // Values are 0 to 65,535.
-const LARGEST_VALUE: u64 = 65535;
 
 // Caller's holds on one node.
-const MOST_HOLDS: u64 = 1000000;
-
-const LARGEST_CAPACITY: usize = 65536;
 
 // ---- a slot that is not live
 
@@ -51,7 +54,7 @@ fn bare(kids: &[u64], s: usize, from: usize) -> bool
     ensures { λ r. ⌜ r ≡ bareFrom (now (kids .entry)) s from ⌝ }
 {
     let mut i = from;
-    while i < 8 {
+    while i < KID_WORDS {
         if kid(kids, s, i) != 0 {
             return false;
         }
@@ -200,7 +203,7 @@ fn kid_value(kids: &[u64], facts: &[u64], s: usize, i: usize) -> u64
 
 // The sum of the stored values of the n children of slot s.
 fn kid_sum(kids: &[u64], facts: &[u64], n: usize, s: usize) -> u64
-    requires { ⌜ n ≤ 8 ⌝ }
+    requires { ⌜ n ≤ kidWords ⌝ }
     ensures { λ r. ⌜ r ≡ sumTo n (kidValue (now (kids .entry)) (now (facts .entry)) s) ⌝ }
 {
     let mut sum: u64 = 0;
@@ -214,7 +217,7 @@ fn kid_sum(kids: &[u64], facts: &[u64], n: usize, s: usize) -> u64
 
 // The stored value of slot s is the sum of the children's stored values divided by n, rounded down.
 fn is_average(kids: &[u64], facts: &[u64], n: usize, s: usize) -> bool
-    requires { ⌜ (1 ≤ n) × (n ≤ 8) ⌝ }
+    requires { ⌜ (1 ≤ n) × (n ≤ kidWords) ⌝ }
     ensures { λ r. ⌜ r ≡ averageAt (now (kids .entry)) (now (facts .entry)) n s ⌝ }
 {
     fact(facts, s, VALUE) == kid_sum(kids, facts, n, s) / (n as u64)
@@ -274,7 +277,7 @@ fn branch_fine(
     tallest: u64,
     s: usize,
 ) -> bool
-    requires { ⌜ (1 ≤ n) × (n ≤ 8) ⌝ }
+    requires { ⌜ (1 ≤ n) × (n ≤ kidWords) ⌝ }
     ensures { λ r. ⌜ r ≡ branchFine (now (kids .entry)) (now (facts .entry)) capacity n tallest s ⌝ }
 {
     if !branch_named(kids, facts, s) {
@@ -297,7 +300,7 @@ fn branch_fine(
 
 // A live node meets the rules on content, stored value, height and id, with at most 1,000,000 holds.
 fn live_fine(kids: &[u64], facts: &[u64], capacity: usize, n: usize, tallest: u64, s: usize) -> bool
-    requires { ⌜ (1 ≤ n) × (n ≤ 8) ⌝ }
+    requires { ⌜ (1 ≤ n) × (n ≤ kidWords) ⌝ }
     ensures { λ r. ⌜ r ≡ liveFine (now (kids .entry)) (now (facts .entry)) capacity n tallest s ⌝ }
 {
     if !counts_fine(facts, s) {
@@ -336,7 +339,7 @@ fn is_plain(facts: &[u64], s: usize) -> bool
 
 // Slot s has a live node that meets the rules, or is cleared.
 fn slot_fine(kids: &[u64], facts: &[u64], arena: Arena, n: usize, tallest: u64, s: usize) -> bool
-    requires { ⌜ (1 ≤ n) × (n ≤ 8) ⌝ }
+    requires { ⌜ (1 ≤ n) × (n ≤ kidWords) ⌝ }
     ensures { λ r. ⌜ r ≡ slotFine (now (kids .entry)) (now (facts .entry)) (arena .capacity) (arena .next) n tallest s ⌝ }
 {
     if !is_plain(facts, s) {
@@ -353,7 +356,7 @@ fn slot_fine(kids: &[u64], facts: &[u64], arena: Arena, n: usize, tallest: u64, 
 
 // Every slot is as it must be by itself and by its children.
 fn slots_fine(kids: &[u64], facts: &[u64], arena: Arena, n: usize, tallest: u64) -> bool
-    requires { ⌜ (1 ≤ n) × (n ≤ 8) ⌝ }
+    requires { ⌜ (1 ≤ n) × (n ≤ kidWords) ⌝ }
     ensures { λ r. ⌜ r ≡ allIn 0 (arena .capacity) (slotFine (now (kids .entry)) (now (facts .entry)) (arena .capacity) (arena .next) n tallest) ⌝ }
 {
     let mut s: usize = 0;
@@ -375,16 +378,16 @@ fn is_sized(capacity: usize, kids: usize, facts: usize, find: usize) -> bool
     if capacity < 2 {
         return false;
     }
-    if capacity > LARGEST_CAPACITY {
+    if capacity > MOST_SLOTS {
         return false;
     }
-    if kids != 8 * capacity {
+    if kids != KID_WORDS * capacity {
         return false;
     }
-    if facts != 7 * capacity {
+    if facts != FACT_WORDS * capacity {
         return false;
     }
-    find == 3 * capacity
+    find == SLOT_CELLS * capacity
 }
 
 // The lowest slot never given out is one of 1 to the capacity.
@@ -399,7 +402,7 @@ fn is_ranged(next: usize, capacity: usize) -> bool
 
 // All of it but the tally, which wants these to be right.
 fn is_sound(kids: &[u64], facts: &[u64], find: &[u16], arena: Arena, n: usize, tallest: u64) -> bool
-    requires { ⌜ (1 ≤ n) × (n ≤ 8) ⌝ }
+    requires { ⌜ (1 ≤ n) × (n ≤ kidWords) ⌝ }
     ensures { λ r. ⌜ r ≡ soundBy n tallest arena (now (kids .entry)) (now (facts .entry)) (now (find .entry)) ⌝ }
 {
     if !is_sized(arena.capacity, kids.len(), facts.len(), find.len()) {
@@ -426,7 +429,7 @@ fn check_any(
     n: usize,
     tallest: u64,
 ) -> bool
-    requires { ⌜ (1 ≤ n) × (n ≤ 8) ⌝ }
+    requires { ⌜ (1 ≤ n) × (n ≤ kidWords) ⌝ }
     ensures { λ r. ⌜ ((r ≡ true) ↔ WellFormed n tallest (before arena kids facts find)) × (now (facts .exit) ≡ now (facts .entry)) ⌝ }
 {
     if !is_sound(kids, facts, find, arena, n, tallest) {
@@ -437,7 +440,7 @@ fn check_any(
 
 // The arena check: yes exactly if the tables are well formed, on any tables; with refusal 1 it says no. The tables are as before.
 pub fn check_arena(arena: Arena, kids: &[u64], facts: &mut [u64], find: &[u16]) -> bool
-    ensures { λ r. ⌜ ((r ≡ true) ↔ WellFormed 8 6 (before arena kids facts find)) × (now (facts .exit) ≡ now (facts .entry)) ⌝ }
+    ensures { λ r. ⌜ ((r ≡ true) ↔ WellFormed cubeKids deepest (before arena kids facts find)) × (now (facts .exit) ≡ now (facts .entry)) ⌝ }
 {
     check_any(arena, kids, facts, find, 8, 6)
 }

@@ -5,6 +5,7 @@ use mathlib.Core.List.{List, [], _∷_}
 use Prim.Native.Nat.{ℕ, zero, suc, _+_, _-_}
 use lib.Dec.{eqb, leb, ltb}
 use lib.ListN.{length}
+use Rattle.basics.specs.Limits.{kidWords}
 use Rattle.basics.specs.Pick.{pick}
 use Rattle.nodes.specs.Words.{own, value, places, link, nodes, kidOf, factOf, factPut, wordOf, slot, floor}
 use Rattle.nodes.specs.Tally.{kidsOf, liveCount}
@@ -52,7 +53,7 @@ stateFine a f =
 
 -- where the search for the content of slot s ends
 unfoldable pub cellFor : List ℕ → List ℕ → List ℕ → ℕ → ℕ → ℕ
-cellFor k f e c s = cellOf e c (wordOf (nodes k f)) (kidsOf 8 (kidOf k) s) (factOf f s value)
+cellFor k f e c s = cellOf e c (wordOf (nodes k f)) (kidsOf kidWords (kidOf k) s) (factOf f s value)
 
 unfoldable pub liveAt : List ℕ → ℕ → ℕ → Bool
 liveAt f c s = choose (ltb s c) (leb floor (factOf f s own)) false
@@ -85,7 +86,7 @@ bumps f (y ∷ ys) = bumps (bumped f y) ys
 -- the children of the slots below b counted
 unfoldable pub countTo : List ℕ → List ℕ → ℕ → List ℕ
 countTo k f zero = f
-countTo k f (suc b) = bumps (countTo k f b) (kidsOf 8 (kidOf k) b)
+countTo k f (suc b) = bumps (countTo k f b) (kidsOf kidWords (kidOf k) b)
 
 -- the counter of slot s set to 0 again, if it is live
 unfoldable pub cleared : List ℕ → ℕ → List ℕ

@@ -1,6 +1,8 @@
 // The tally of all nodes of any tables, whatever they hold, in three passes over the slots: a counter in the link word of live slots, 0 before and 0
 // again after. See the crate check_freed' specs/Models.antt.
 use arena::slot_of;
+use basics::KID_WORDS;
+use basics::Kids;
 use check_freed::FLOOR;
 use nodes::LINK;
 use nodes::OWN;
@@ -33,11 +35,11 @@ fn bump(facts: &mut [u64], y: u64)
 }
 
 // The eight child places of a slot.
-fn bump_all(facts: &mut [u64], ks: [u64; 8])
+fn bump_all(facts: &mut [u64], ks: Kids)
     ensures { λ _. ⌜ now (facts .exit) ≡ bumps (now (facts .entry)) ks ⌝ }
 {
     let mut i: usize = 0;
-    while i < 8 {
+    while i < KID_WORDS {
         bump(facts, ks[i]);
         i += 1;
     }

@@ -11,4 +11,3 @@ pub mod Lacking
 pub mod Holds
 pub mod Generations
 pub mod Does
-pub mod Chain

@@ -2,9 +2,10 @@
 -- down, and `a` the node that the list starts from.
 use mathlib.Core.Bool.{Bool, false}
 use mathlib.Core.List.{List, [], _∷_}
-use Prim.Native.Nat.{ℕ, suc, _+_, _-_}
+use Prim.Native.Nat.{ℕ, suc, _+_}
 use lib.Dec.{eqb, leb, ltb}
 use lib.ListN.{set}
+use Rattle.basics.specs.Limits.{cubeKids, kidWords}
 use Rattle.basics.specs.Pick.{pick}
 use Rattle.ids.specs.Ids.{empty, isLeaf, generationOf}
 use Rattle.paths.specs.declared.IVec3.{IVec3}
@@ -17,15 +18,15 @@ use Rattle.tree.specs.Cells.{cubePath}
 use Rattle.tree.specs.Anew.{part, replace}
 use Rattle.tree.specs.Lacks.{Need, have, lack}
 use Rattle.arena.specs.Node.{leafId, branchId, valueFor, heightFor}
-use Rattle.arena.specs.Tables.{Tables, tablesOf, cap, W}
-use Rattle.arena.specs.Calls.{Out, said, refused, fullOf, heldAt, freshSlot, slotGiven, freshFacts, empties, named, leafSlot, branchSlot, allOf, each}
+use Rattle.arena.specs.Tables.{Tables, tablesOf, W}
+use Rattle.arena.specs.Calls.{Out, said, refused, fullOf, freeSlots, heldAt, freshSlot, slotGiven, freshFacts, empties, named, leafSlot, branchSlot, allOf, each}
 use Rattle.read_cell.specs.Calls.{lookNo}
 
 -- ## The dry run: what is there already, and how many nodes are not
 
 -- the eight child words of a branch that has the n parts f: EMPTY from n on
 unfoldable pub wordsOf : ℕ → (ℕ → ℕ) → List ℕ
-wordsOf n f = tabFrom 8 0 (λ i. pick (ltb i n) (f i) empty)
+wordsOf n f = tabFrom kidWords 0 (λ i. pick (ltb i n) (f i) empty)
 
 -- the n parts are one leaf, n times
 unfoldable pub oneLeaf : ℕ → (ℕ → ℕ) → Bool
@@ -99,7 +100,7 @@ makeOf n t x (c ∷ p) a h q =
 -- refusals 10 and 11: the answer already has 1,000,000 holds; more nodes of the result not yet live than free slots
 unfoldable pub grantNo : Tables → Need → ℕ
 grantNo t (have r) = pick (eqb r empty) 0 (pick (fullOf (W t) (slot r)) 10 0)
-grantNo t (lack k) = pick (leb k (cap t - 1 - t .arena .live)) 0 11
+grantNo t (lack k) = pick (leb k (freeSlots (t .arena))) 0 11
 
 -- the caller gets one hold on the answer, none on EMPTY
 unfoldable pub granted : Tables → ℕ → Tables
@@ -118,10 +119,10 @@ cellAt d p = cubePath d (whole (p .x)) (whole (p .y)) (whole (p .z))
 unfoldable pub editNo : Tables → ℕ → ℕ → IVec3 → ℕ → ℕ
 editNo t root d p x =
     pick (eqb (lookNo t root d p) 0)
-    (pick (leb (heightAt (W t) root) d) (grantNo t (resultOf 8 t x (cellAt d p) root)) 8)
+    (pick (leb (heightAt (W t) root) d) (grantNo t (resultOf cubeKids t x (cellAt d p) root)) 8)
     (lookNo t root d p)
 
 unfoldable pub editOf : Tables → ℕ → ℕ → IVec3 → ℕ → Out
 editOf t root d p x =
-    let new = makeOf 8 t x (cellAt d p) root 1 0 in
-    pick (eqb (editNo t root d p x) 0) (answerOf t (resultOf 8 t x (cellAt d p) root) new) (refused (editNo t root d p x) t)
+    let new = makeOf cubeKids t x (cellAt d p) root 1 0 in
+    pick (eqb (editNo t root d p x) 0) (answerOf t (resultOf cubeKids t x (cellAt d p) root) new) (refused (editNo t root d p x) t)

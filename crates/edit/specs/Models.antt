@@ -1,12 +1,12 @@
 -- What the private functions answer and leave, of any tables: mirrors of the code. No reader has to believe them.
 use mathlib.Core.List.{List}
-use Prim.Native.Nat.{ℕ, _-_}
+use Prim.Native.Nat.{ℕ}
 use lib.Dec.{eqb, leb}
 use Rattle.basics.specs.Pick.{pick}
 use Rattle.nodes.specs.Words.{factOf, factPut, holds, slot}
 use Rattle.nodes.specs.Values.{heightAt}
-use Rattle.arena.specs.Tables.{Tables, tables, cap, W}
-use Rattle.arena.specs.Calls.{Out, said, refused, fullOf}
+use Rattle.arena.specs.Tables.{Tables, tables, W}
+use Rattle.arena.specs.Calls.{Out, said, refused, fullOf, freeSlots}
 use Rattle.arena.specs.Models.{moreOf}
 use Rattle.read_cell.specs.Models.{lookNoAt}
 use Rattle.edit_plan.specs.Models.{resultBy}
@@ -17,7 +17,7 @@ use Rattle.edit_make.specs.Models.{makeAt}
 unfoldable pub grantBy : Tables → Plan → ℕ
 grantBy t b =
     pick (eqb (b .new) 0) (pick (eqb (b .id) 0) 0 (pick (fullOf (W t) (slot (b .id))) 10 0))
-    (pick (leb (b .new) (cap t - 1 - t .arena .live)) 0 11)
+    (pick (leb (b .new) (freeSlots (t .arena))) 0 11)
 
 -- refusals 1, 2, 3, 4 and 8, of coordinates as numbers
 unfoldable pub editNoAt : Tables → ℕ → ℕ → ℕ → ℕ → ℕ → ℕ

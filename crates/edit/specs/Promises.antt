@@ -4,6 +4,7 @@ use mathlib.Core.Logic.{_≢_, _⊎_}
 use mathlib.Core.List.{List}
 use Prim.Native.Nat.{ℕ, _+_, _^_, _≤_, _<_}
 use lib.ListN.{length, set}
+use Rattle.basics.specs.Limits.{deepest, cubeKids}
 use Rattle.nodes.specs.Words.{Words, holds, slot}
 use Rattle.nodes.specs.Tally.{Live}
 use Rattle.paths.specs.declared.IVec3.{IVec3}
@@ -33,18 +34,18 @@ gives {d} t a c v = editOf t a d (spot c) v .id
 pub record Effect (t u : Tables) (r : ℕ) : Type 0 where
   pub granted-one : r ≢ 0 → W u (slot r) holds ≡ W t (slot r) holds + 1
   pub no-other : (s : ℕ) → s < cap t → (r ≡ 0) ⊎ (s ≢ slot r) → W u s holds ≡ W t s holds
-  pub only : (y : ℕ) → Live (cap t) (W u) y → Live (cap t) (W t) y ⊎ Below 8 (W u) r y
+  pub only : (y : ℕ) → Live (cap t) (W u) y → Live (cap t) (W t) y ⊎ Below cubeKids (W u) r y
   pub new : ℕ
   pub count : u .arena .live ≡ t .arena .live + new
-  pub lacked : (new ≡ 0) ⊎ Lacks 8 (cap t) (W t) (W u) r new
+  pub lacked : (new ≡ 0) ⊎ Lacks cubeKids (cap t) (W t) (W u) r new
 
 -- From t to u with the answer r: it is the old root if the cell has the value already, else the root with the nodes on the path made anew; the root's
 -- cell has the value, all other cells are as they were; the tables are well formed, of the same size.
 pub record Right (t : Tables) (root d : ℕ) (cell : List ℕ) (v : ℕ) (u : Tables) (r : ℕ) : Type 0 where
-  pub well : WellFormed 8 6 u
+  pub well : WellFormed cubeKids deepest u
   pub size : cap u ≡ cap t
-  pub answer : Answer 8 (cap t) (W t) (W u) root cell v r
-  pub edited : Edited 8 (cap t) d (W t) root cell v (W u) r
+  pub answer : Answer cubeKids (cap t) (W t) (W u) root cell v r
+  pub edited : Edited cubeKids (cap t) d (W t) root cell v (W u) r
   pub effect : Effect t u r
 
 -- The answer reads v at the cell and the old values at all others, and expansion writes that cube; it is a root again, tidy if the old one was; and
@@ -53,8 +54,8 @@ pub record Reads {d : ℕ} (t : Tables) (a : ℕ) (c : At d) (v : ℕ) (u : Tabl
   pub at : lookOf u r d (spot c) ≡ looked 0 v
   pub elsewhere : (s : At d) → Apart s c → lookOf u r d (spot s) ≡ lookOf t a d (spot s)
   pub cube : (l m : List ℕ) → length l ≡ 8 ^ d → length m ≡ 8 ^ d → expandOf u r d l .cube ≡ set (expandOf t a d m .cube) (standsAt c) v
-  pub root : Root 8 (cap t) d (W t) a → Root 8 (cap u) d (W u) r
-  pub others : (b : ℕ) → LiveOr0 (cap t) (W t) b → (e : ℕ) → e ≤ 6 → (s : At e) → lookOf u b e (spot s) ≡ lookOf t b e (spot s)
+  pub root : Root cubeKids (cap t) d (W t) a → Root cubeKids (cap u) d (W u) r
+  pub others : (b : ℕ) → LiveOr0 (cap t) (W t) b → (e : ℕ) → e ≤ deepest → (s : At e) → lookOf u b e (spot s) ≡ lookOf t b e (spot s)
 
 -- ## Refusal 11
 
@@ -62,9 +63,9 @@ pub record Reads {d : ℕ} (t : Tables) (a : ℕ) (c : At d) (v : ℕ) (u : Tabl
 -- was, and r is the answer of the edit (the old root if the cell has the value, else the root with the cell made anew).
 pub record Imagined (t : Tables) (root d : ℕ) (p : IVec3) (v c : ℕ) (W′ : Words) (r : ℕ) : Type 0 where
   pub size : cap t ≤ c
-  pub made : WellMade 8 c W′
-  pub grows : Extends 8 c (W t) W′
-  pub answer : Answer 8 c (W t) W′ root (cellAt d p) v r
+  pub made : WellMade cubeKids c W′
+  pub grows : Extends cubeKids c (W t) W′
+  pub answer : Answer cubeKids c (W t) W′ root (cellAt d p) v r
 
 -- k nodes of the result are not live in t
 pub record Missing (t : Tables) (root d : ℕ) (p : IVec3) (v k : ℕ) : Type 0 where
@@ -72,4 +73,4 @@ pub record Missing (t : Tables) (root d : ℕ) (p : IVec3) (v k : ℕ) : Type 0 
   pub words : Words
   pub result : ℕ
   pub imagined : Imagined t root d p v slots words result
-  pub newly : Newly 8 slots (W t) words result k
+  pub newly : Newly cubeKids slots (W t) words result k

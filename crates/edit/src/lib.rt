@@ -3,10 +3,12 @@
 use arena::Arena;
 use arena::Made;
 use arena::slot_of;
+use basics::MOST_HOLDS;
 use edit_make::make;
 use edit_plan::Plan;
 use edit_plan::result;
 use ids::BlockId;
+use new_slot::free_slots;
 use new_value::height_at;
 use nodes::HOLDS;
 use nodes::fact;
@@ -16,21 +18,11 @@ use paths::coord;
 use read_cell::look_no;
 use std::num::wrapping_add_u64;
 ghost use mathlib.Core.Path.{_≡_};
-ghost use Prim.Native.Nat.{_-_};
+ghost use Rattle.basics.specs.Limits.{deepest, cubeKids};
 ghost use Rattle.arena.specs.Calls.{Fair};
 ghost use Rattle.arena.specs.Lent.{before, made};
 ghost use Rattle.edit.specs.Edit.{editOf};
 ghost use Rattle.edit.specs.Models.{grantBy, grantOf, editNoAt, answerBy, editPast, editBy};
-
-// How many slots are free: capacity - 1 - live.
-fn free_slots(a: Arena) -> u64
-    ensures { λ r. ⌜ r ≡ a .capacity - 1 - a .live ⌝ }
-{
-    if a.capacity <= a.live {
-        return 0;
-    }
-    (a.capacity - a.live - 1) as u64
-}
 
 // Refusals 10 and 11.
 fn grant_no(a: Arena, kids: &[u64], facts: &[u64], find: &[u16], p: Plan) -> u32
@@ -40,7 +32,7 @@ fn grant_no(a: Arena, kids: &[u64], facts: &[u64], find: &[u16], p: Plan) -> u32
         if p.id == BlockId::EMPTY.0 {
             return 0;
         }
-        if 1000000 <= fact(facts, slot_of(p.id), HOLDS) {
+        if MOST_HOLDS <= fact(facts, slot_of(p.id), HOLDS) {
             return 10;
         }
         return 0;
@@ -179,7 +171,7 @@ pub fn set_voxel(
     position: IVec3,
     value: u16,
 ) -> Made
-    ensures { λ r. ⌜ (Fair 8 6 (before arena kids facts find)
+    ensures { λ r. ⌜ (Fair cubeKids deepest (before arena kids facts find)
         → made r kids facts find ≡ editOf (before arena kids facts find) (root .0) depth position value) ⌝ }
 {
     edit_any(

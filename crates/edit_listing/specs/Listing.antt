@@ -4,6 +4,7 @@ use mathlib.Core.List.{List, [], _∷_, _++_}
 use Prim.Native.Nat.{ℕ, zero, suc, _+_, _*_, _/_, _%_, _^_, _<_, min}
 use lib.Dec.{eqb, ltb}
 use lib.ListN.{length, getD}
+use Rattle.basics.specs.Limits.{deepest}
 use Rattle.basics.specs.Pick.{pick}
 use Rattle.basics.specs.Codes.{codes}
 use Rattle.ids.specs.Ids.{empty}
@@ -74,7 +75,7 @@ counted n = (n + 1) % 2 ^ 64
 
 -- the edit of a cell at depth 6
 unfoldable pub editIn : State → IVec3 → ℕ → Out
-editIn s p v = editOf (s .tables) (s .root) 6 p v
+editIn s p v = editOf (s .tables) (s .root) deepest p v
 
 -- after an edit: accepted, its answer is the root and the old root is released; refused, the old root stays
 unfoldable pub stepTo : State → Out → State

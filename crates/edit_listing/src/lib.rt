@@ -3,6 +3,7 @@
 //
 // A record is x, y, z and the value, 16 bits each, low byte first. After an accepted edit the old root is released; after a refused one it stays.
 use arena::Arena;
+use basics::DEEPEST;
 use ids::BlockId;
 use ids_text::IdText;
 use paths::IVec3;
@@ -11,6 +12,7 @@ ghost use mathlib.Core.Path.{_≡_};
 ghost use Prim.Native.Nat.{_+_, _*_, _<_, _≤_, _^_, min};
 ghost use mathlib.Core.List.{[], _∷_, _++_};
 ghost use lib.ListN.{length, set, take};
+ghost use Rattle.basics.specs.Limits.{deepest, cubeKids};
 ghost use Rattle.ids_text.specs.Text.{textOf};
 ghost use Rattle.nodes.specs.Words.{putsFrom};
 ghost use Rattle.arena.specs.Calls.{Fair};
@@ -25,7 +27,6 @@ const WIDEST: usize = 84;
 const RECORD: usize = 8;
 
 // The depth of the edits.
-const DEPTH: u32 = 6;
 
 // What stands between two records: the arena's state, the root, and how many records there were.
 pub struct Run {
@@ -201,13 +202,13 @@ fn edit_once(
     cell: IVec3,
     value: u16,
 ) -> Step
-    ensures { λ r. ⌜ (Fair 8 6 (before (run .arena) kids facts find)
-        → Fair 8 6 (after (r .run .arena) kids facts find)
+    ensures { λ r. ⌜ (Fair cubeKids deepest (before (run .arena) kids facts find)
+        → Fair cubeKids deepest (after (r .run .arena) kids facts find)
         × (stepped r (now (kids .exit)) (now (facts .exit)) (now (find .exit)) ≡ steppedOf (stateOf run (now (kids .entry)) (now (facts .entry)) (now (find .entry))) cell value)) ⌝ }
 {
     let count = wrapping_add_u64(run.count, 1);
     let root = run.root;
-    let made = edit::set_voxel(run.arena, kids, facts, find, root, DEPTH, cell, value);
+    let made = edit::set_voxel(run.arena, kids, facts, find, root, DEEPEST, cell, value);
     let edited = made.arena;
     if made.no != 0 {
         return Step {
@@ -260,7 +261,7 @@ fn one(
     requires { ⌜ (8 * i + 8 ≤ length (now bytes)) × (len + 84 < 2 ^ 64) ⌝ }
     ensures { λ r. ⌜ (r .len ≤ len + 84)
         × (Fair 8 6 (before (run .arena) kids facts find)
-        → Fair 8 6 (after (r .run .arena) kids facts find)
+        → Fair cubeKids deepest (after (r .run .arena) kids facts find)
         × (kept (stateOf (r .run) (now (kids .exit)) (now (facts .exit)) (now (find .exit))) (r .len) (now (out .exit))
         ≡ oneOf (kept (stateOf run (now (kids .entry)) (now (facts .entry)) (now (find .entry))) len (now (out .entry))) (now (bytes .entry)) i)) ⌝ }
 {

@@ -3,6 +3,7 @@ use mathlib.Core.List.{List, [], _∷_}
 use Prim.Native.Nat.{ℕ, _-_, _%_, _^_}
 use lib.Dec.{eqb, leb}
 use lib.ListN.{set}
+use Rattle.basics.specs.Limits.{deepest, cubeKids}
 use Rattle.basics.specs.Pick.{pick}
 use Rattle.ids.specs.Ids.{generationOf, newLeaf, newBranch}
 use Rattle.nodes.specs.Words.{factOf, factPut, own, places, slot}
@@ -40,7 +41,7 @@ leafAnewBy t x h q =
 unfoldable pub branchAnewBy : Tables → List ℕ → ℕ → ℕ → Out
 branchAnewBy t ks h q =
     let s = freshSlot (t .arena) in
-    freshBy t (newBranch (s % 2 ^ 32) (generationOf (W t s own)) (kidTypes ks) (kidMask ks)) ks (valueBy 8 (W t) ks) (moreOf (topFor (W t) ks 8)) h q
+    freshBy t (newBranch (s % 2 ^ 32) (generationOf (W t s own)) (kidTypes ks) (kidMask ks)) ks (valueBy cubeKids (W t) ks) (moreOf (topFor (W t) ks cubeKids)) h q
 
 -- the parts ks of a node, number c of them made: the others get their places, then the branch
 unfoldable pub upBy : Out → List ℕ → ℕ → ℕ → ℕ → Out
@@ -55,4 +56,4 @@ makeBy t x (c ∷ p) a k s h q =
 
 -- over the cell (x, y, z) at depth d; refusal 2 of a depth above 6
 unfoldable pub makeAt : Tables → ℕ → ℕ → ℕ → ℕ → ℕ → ℕ → ℕ → ℕ → ℕ → ℕ → Out
-makeAt t v d x y z a k s h q = pick (leb d 6) (makeBy t v (cubePath d x y z) a k s h q) (refused 2 t)
+makeAt t v d x y z a k s h q = pick (leb d deepest) (makeBy t v (cubePath d x y z) a k s h q) (refused 2 t)

@@ -2,6 +2,10 @@
 use arena::Arena;
 use arena::Made;
 use arena::slot_of;
+use basics::DEEPEST;
+use basics::KID_WORDS;
+use basics::Kids;
+use basics::NO_KIDS;
 use edit_plan::parts;
 use find::put_cell;
 use find_hash::home_for;
@@ -27,8 +31,6 @@ ghost use Rattle.arena.specs.Calls.{madeOf};
 ghost use Rattle.arena.specs.Lent.{before, made};
 
 // Eight EMPTY children.
-const NONE: [u64; 8] = [0, 0, 0, 0, 0, 0, 0, 0];
-
 // One place more for the node of id; EMPTY: nothing.
 fn owe(facts: &mut [u64], id: u64)
     ensures { λ _. ⌜ now (facts .exit) ≡ oweOf (now (facts .entry)) id ⌝ }
@@ -41,11 +43,11 @@ fn owe(facts: &mut [u64], id: u64)
 }
 
 // One place more for each of the eight.
-fn owe_all(facts: &mut [u64], ks: [u64; 8])
+fn owe_all(facts: &mut [u64], ks: Kids)
     ensures { λ _. ⌜ now (facts .exit) ≡ oweAll (now (facts .entry)) ks ⌝ }
 {
     let mut i: usize = 0;
-    while i < 8 {
+    while i < KID_WORDS {
         owe(facts, ks[i]);
         i += 1;
     }
@@ -58,7 +60,7 @@ fn fresh_node(
     facts: &mut [u64],
     find: &mut [u16],
     id: u64,
-    ks: [u64; 8],
+    ks: Kids,
     v: u64,
     up: u64,
     h: u64,
@@ -91,7 +93,7 @@ fn leaf_anew(
 {
     let s = fresh_slot(a);
     let id = leaf_id(s, fact(facts, s, OWN));
-    fresh_node(a, kids, facts, find, id, NONE, v, 0, h, q)
+    fresh_node(a, kids, facts, find, id, NO_KIDS, v, 0, h, q)
 }
 
 fn branch_anew(
@@ -99,7 +101,7 @@ fn branch_anew(
     kids: &mut [u64],
     facts: &mut [u64],
     find: &mut [u16],
-    ks: [u64; 8],
+    ks: Kids,
     h: u64,
     q: u64,
 ) -> Made
@@ -118,7 +120,7 @@ fn branch_over(
     kids: &mut [u64],
     facts: &mut [u64],
     find: &mut [u16],
-    ks: [u64; 8],
+    ks: Kids,
     c: usize,
     h: u64,
     q: u64,
@@ -154,7 +156,7 @@ pub fn make(
 ) -> Made
     ensures { λ r. ⌜ made r kids facts find ≡ makeAt (before a kids facts find) v d x y z id new part h q ⌝ }
 {
-    if 6 < d {
+    if DEEPEST < d {
         return Made {
             no: 2,
             id: BlockId::INVALID,

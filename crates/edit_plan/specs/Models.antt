@@ -4,6 +4,7 @@ use mathlib.Core.List.{List, [], _∷_}
 use Prim.Native.Nat.{ℕ, _%_, _^_}
 use lib.Dec.{eqb, leb}
 use lib.ListN.{getD, set}
+use Rattle.basics.specs.Limits.{deepest, cubeKids}
 use Rattle.basics.specs.Pick.{pick}
 use Rattle.ids.specs.Ids.{isLeaf, invalid}
 use Rattle.nodes.specs.Words.{Words, own}
@@ -21,7 +22,7 @@ planned k s = record { new = k; id = s }
 
 -- the eight parts of an id
 unfoldable pub eightParts : Words → ℕ → List ℕ
-eightParts U a = tabFrom 8 0 (part U a)
+eightParts U a = tabFrom cubeKids 0 (part U a)
 
 -- the slot that the search for a content finds
 unfoldable pub foundBy : Tables → List ℕ → ℕ → ℕ
@@ -42,7 +43,7 @@ cellPlan t x = pick (eqb x 0) (planned 0 0) (slotPlan (W t) (foundBy t empties x
 
 unfoldable pub needPlan : Tables → List ℕ → ℕ → Plan
 needPlan t ks s =
-    pick (allOf (eqb 0) ks) (planned 0 0) (pick (leafKids ks) (planned 0 (getD ks 0 0)) (slotPlan (W t) (foundBy t ks (valueBy 8 (W t) ks)) s))
+    pick (allOf (eqb 0) ks) (planned 0 0) (pick (leafKids ks) (planned 0 (getD ks 0 0)) (slotPlan (W t) (foundBy t ks (valueBy cubeKids (W t) ks)) s))
 
 unfoldable pub upPlan : Tables → List ℕ → ℕ → Plan → Plan
 upPlan t ks c b = pick (eqb (b .new) 0) (needPlan t (set ks c (b .id)) (b .id)) (planned (moreOf (b .new)) (b .id))
@@ -57,4 +58,4 @@ rootPlan t v p root = pick (eqb (look (W t) p root % 2 ^ 16) v) (planned 0 root)
 
 -- of the cell (x, y, z) at depth d; INVALID of a depth above 6
 unfoldable pub resultBy : Tables → ℕ → ℕ → ℕ → ℕ → ℕ → ℕ → Plan
-resultBy t v d x y z root = pick (leb d 6) (rootPlan t v (cubePath d x y z) root) (planned 0 invalid)
+resultBy t v d x y z root = pick (leb d deepest) (rootPlan t v (cubePath d x y z) root) (planned 0 invalid)

@@ -1,6 +1,9 @@
 // The dry run of an edit: what of the result is there already, and how many nodes are not. It changes nothing.
 use arena::Arena;
 use arena::slot_of;
+use basics::DEEPEST;
+use basics::KID_WORDS;
+use basics::Kids;
 use find::search;
 use find::search_leaf;
 use ids::BlockId;
@@ -15,6 +18,7 @@ use std::num::wrapping_add_u64;
 ghost use mathlib.Core.Path.{_≡_};
 ghost use Prim.Native.Nat.{_≤_, _<_};
 ghost use lib.Dec.{eqb};
+ghost use Rattle.basics.specs.Limits.{deepest};
 ghost use Rattle.nodes.specs.Words.{kidOf, factOf};
 ghost use Rattle.tree.specs.Cells.{cubePath};
 ghost use Rattle.arena.specs.Calls.{allOf};
@@ -31,24 +35,24 @@ pub struct Plan {
 }
 
 // The eight parts of an id: the children of a branch; a leaf, and EMPTY, stands for eight of itself.
-pub fn parts(kids: &[u64], id: u64) -> [u64; 8]
+pub fn parts(kids: &[u64], id: u64) -> Kids
     ensures { λ r. ⌜ r ≡ eightParts (kidOf (now (kids .entry))) id ⌝ }
 {
     if id == BlockId::EMPTY.0 {
-        return [id; 8];
+        return [id; KID_WORDS];
     }
     if LEAF <= id {
-        return [id; 8];
+        return [id; KID_WORDS];
     }
     children(kids, slot_of(id))
 }
 
 // Is each of the eight k?
-fn all_are(ks: [u64; 8], k: u64) -> bool
+fn all_are(ks: Kids, k: u64) -> bool
     ensures { λ r. ⌜ r ≡ allOf (eqb k) ks ⌝ }
 {
     let mut i: usize = 0;
-    while i < 8 {
+    while i < KID_WORDS {
         if ks[i] != k {
             return false;
         }
@@ -58,7 +62,7 @@ fn all_are(ks: [u64; 8], k: u64) -> bool
 }
 
 // Are they eight times one leaf?
-fn all_leaf(ks: [u64; 8]) -> bool
+fn all_leaf(ks: Kids) -> bool
     ensures { λ r. ⌜ r ≡ leafKids ks ⌝ }
 {
     if BlockId(ks[0]).is_leaf() {
@@ -95,7 +99,7 @@ fn plan_cell(a: Arena, kids: &[u64], facts: &[u64], find: &[u16], v: u64) -> Pla
 }
 
 // What eight parts come to, the last of them made being s.
-fn plan_node(a: Arena, kids: &[u64], facts: &[u64], find: &[u16], ks: [u64; 8], s: u64) -> Plan
+fn plan_node(a: Arena, kids: &[u64], facts: &[u64], find: &[u16], ks: Kids, s: u64) -> Plan
     ensures { λ r. ⌜ r ≡ needPlan (before a kids facts find) ks s ⌝ }
 {
     if all_are(ks, BlockId::EMPTY.0) {
@@ -117,7 +121,7 @@ fn plan_up(
     kids: &[u64],
     facts: &[u64],
     find: &[u16],
-    ks: [u64; 8],
+    ks: Kids,
     c: usize,
     below: Plan,
 ) -> Plan
@@ -148,7 +152,7 @@ fn dry_run(
     z: u32,
     v: u64,
 ) -> Plan
-    requires { ⌜ left ≤ 6 ⌝ }
+    requires { ⌜ left ≤ deepest ⌝ }
     ensures { λ r. ⌜ r ≡ planBy (before a kids facts find) v (cubePath left x y z) id ⌝ }
 {
     if left == 0 {
@@ -175,7 +179,7 @@ pub fn result(
 ) -> Plan
     ensures { λ r. ⌜ r ≡ resultBy (before a kids facts find) v d x y z root ⌝ }
 {
-    if 6 < d {
+    if DEEPEST < d {
         return Plan {
             new: 0,
             id: BlockId::INVALID.0,

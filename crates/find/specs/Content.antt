@@ -4,6 +4,7 @@ use mathlib.Core.Bool.{Bool, true, false}
 use mathlib.Core.List.{List, [], _∷_}
 use Prim.Native.Nat.{ℕ, _+_}
 use lib.Dec.{eqb}
+use Rattle.basics.specs.Limits.{kidWords}
 use Rattle.basics.specs.Pick.{pick}
 use Rattle.find_hash.specs.Hash.{homeFor}
 use Rattle.nodes.specs.Words.{Words, value}
@@ -28,4 +29,4 @@ noKids = 0 ∷ 0 ∷ 0 ∷ 0 ∷ 0 ∷ 0 ∷ 0 ∷ 0 ∷ []
 
 -- the home of the node in slot s
 unfoldable pub homeAt : ℕ → Words → ℕ → ℕ
-homeAt cap W s = homeFor cap (kidsOf 8 W s) (W s value)
+homeAt cap W s = homeFor cap (kidsOf kidWords W s) (W s value)

@@ -1,4 +1,7 @@
 // The finding table: which slot has a content. See specs/Content.antt and specs/Cells.antt.
+use basics::KID_WORDS;
+use basics::Kids;
+use basics::NO_KIDS;
 use find_hash::home_for;
 use nodes::VALUE;
 use nodes::children;
@@ -12,8 +15,6 @@ ghost use Rattle.find.specs.Content.{noKids, agree, contentIs};
 ghost use Rattle.find.specs.Cells.{cellOf};
 
 // Eight EMPTY children.
-const NONE: [u64; 8] = [0, 0, 0, 0, 0, 0, 0, 0];
-
 // Where a search ended: the cell, and the slot that it names, 0 for none.
 pub struct Found {
     pub slot: usize,
@@ -51,7 +52,7 @@ pub fn put_cell(find: &mut [u16], at: usize, s: usize)
 // ---- the search
 
 // Has slot s the value v and the children ks?
-fn content_is(kids: &[u64], facts: &[u64], ks: [u64; 8], v: u64, s: usize) -> bool
+fn content_is(kids: &[u64], facts: &[u64], ks: Kids, v: u64, s: usize) -> bool
     ensures { λ r. ⌜ r ≡ contentIs (wordsIn kids facts) ks v s ⌝ }
 {
     if fact(facts, s, VALUE) != v {
@@ -59,7 +60,7 @@ fn content_is(kids: &[u64], facts: &[u64], ks: [u64; 8], v: u64, s: usize) -> bo
     }
     let own = children(kids, s);
     let mut j: usize = 0;
-    while j < 8 {
+    while j < KID_WORDS {
         if own[j] != ks[j] {
             return false;
         }
@@ -70,14 +71,7 @@ fn content_is(kids: &[u64], facts: &[u64], ks: [u64; 8], v: u64, s: usize) -> bo
 
 // Searches for a content: the slot that has it, 0 for none, and the cell where the search ended, the first from the home of the content on that is
 // empty or names a slot whose content is equal.
-pub fn search(
-    find: &[u16],
-    kids: &[u64],
-    facts: &[u64],
-    capacity: usize,
-    ks: [u64; 8],
-    v: u64,
-) -> Found
+pub fn search(find: &[u16], kids: &[u64], facts: &[u64], capacity: usize, ks: Kids, v: u64) -> Found
     ensures { λ r. ⌜ (r .cell ≡ cellOf (now (find .entry)) capacity (wordsIn kids facts) ks v) × (r .slot ≡ getD (now (find .entry)) (r .cell) 0) ⌝ }
 {
     let mut i = home_for(capacity, ks, v);
@@ -148,7 +142,7 @@ fn is_leaf_of(kids: &[u64], facts: &[u64], v: u64, s: usize) -> bool
 pub fn search_leaf(find: &[u16], kids: &[u64], facts: &[u64], capacity: usize, v: u64) -> Found
     ensures { λ r. ⌜ (r .cell ≡ cellOf (now (find .entry)) capacity (wordsIn kids facts) noKids v) × (r .slot ≡ getD (now (find .entry)) (r .cell) 0) ⌝ }
 {
-    let mut i = home_for(capacity, NONE, v);
+    let mut i = home_for(capacity, NO_KIDS, v);
     let slot = loop {
         if find.len() <= i {
             break 0;

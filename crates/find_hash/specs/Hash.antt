@@ -3,6 +3,7 @@ use mathlib.Core.List.{List}
 use Prim.Native.Nat.{ℕ, _+_, _*_, _/_, _%_, _^_}
 use lib.Dec.{leb}
 use lib.ListN.{getD}
+use Rattle.basics.specs.Limits.{mostSlots}
 use Rattle.basics.specs.Pick.{pick}
 
 -- ## The hash: shift and add, running over at 2^64
@@ -29,7 +30,7 @@ hashOf ks v =
 
 -- the low half of h, spread over 2^32 by an odd factor; its part of 2^32 is the home's part of 2 cap
 unfoldable pub homeIn : ℕ → ℕ → ℕ
-homeIn cap h = pick (leb cap 65536) (h % 2 ^ 32 * 0x9E3779B1 % 2 ^ 32 * (2 * cap) / 2 ^ 32) 0
+homeIn cap h = pick (leb cap mostSlots) (h % 2 ^ 32 * 0x9E3779B1 % 2 ^ 32 * (2 * cap) / 2 ^ 32) 0
 
 unfoldable pub homeFor : ℕ → List ℕ → ℕ → ℕ
 homeFor cap ks v = homeIn cap (hashOf ks v)

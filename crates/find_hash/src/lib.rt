@@ -1,4 +1,6 @@
 // The hash of a content, and the first cell of the finding table to look at for it. See specs/Hash.antt.
+use basics::Kids;
+use basics::MOST_SLOTS;
 use std::num::wrapping_add_u64;
 ghost use mathlib.Core.Path.{_≡_};
 ghost use Prim.Native.Nat.{_+_};
@@ -24,7 +26,7 @@ fn mix(h: u64, k: u64) -> u64
 }
 
 // The hash of a content, the value and the eight child ids. Two sums that don't wait for each other, then one of both.
-fn hash(ks: [u64; 8], v: u64) -> u64
+fn hash(ks: Kids, v: u64) -> u64
     ensures { λ r. ⌜ r ≡ hashOf ks v ⌝ }
 {
     let low = mix(mix(mix(mix(v, ks[0]), ks[1]), ks[2]), ks[3]);
@@ -36,7 +38,7 @@ fn hash(ks: [u64; 8], v: u64) -> u64
 fn home_in(capacity: usize, h: u64) -> usize
     ensures { λ r. ⌜ r ≡ homeIn capacity h ⌝ }
 {
-    if capacity <= 65536 {
+    if capacity <= MOST_SLOTS {
         let spread = (h % 0x1_0000_0000) * 0x9E37_79B1 % 0x1_0000_0000;
         return spread as usize * (2 * capacity) / 0x1_0000_0000;
     }
@@ -44,7 +46,7 @@ fn home_in(capacity: usize, h: u64) -> usize
 }
 
 // The first cell to look at for a content.
-pub fn home_for(capacity: usize, ks: [u64; 8], v: u64) -> usize
+pub fn home_for(capacity: usize, ks: Kids, v: u64) -> usize
     ensures { λ r. ⌜ r ≡ homeFor capacity ks v ⌝ }
 {
     home_in(capacity, hash(ks, v))

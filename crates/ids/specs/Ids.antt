@@ -4,6 +4,7 @@ use mathlib.Core.Logic.{_⊎_}
 use mathlib.Core.Bool.{Bool, false}
 use Prim.Native.Nat.{ℕ, _+_, _-_, _*_, _%_, _^_, _≤_, _<_}
 use lib.Dec.{eqb, leb, ltb}
+use Rattle.basics.specs.Limits.{kidWords, lastPacked}
 use Rattle.basics.specs.Pick.{pick}
 use Rattle.basics.specs.Bits.{field, bit}
 
@@ -45,7 +46,7 @@ unfoldable pub maskOf : ℕ → ℕ
 maskOf raw = pick (isLeaf raw) 0 (maskField raw)
 
 unfoldable pub hasChild : ℕ → ℕ → Bool
-hasChild raw i = pick (ltb i 8) (eqb (bit i (maskOf raw)) 1) false
+hasChild raw i = pick (ltb i kidWords) (eqb (bit i (maskOf raw)) 1) false
 
 -- ## Packing
 
@@ -55,7 +56,7 @@ pack flag types mask generation index =
 
 -- Packing accepts generations to 0x7FFE: refusal 12 says no to others.
 unfoldable pub packingNo : ℕ → ℕ
-packingNo generation = pick (leb generation 0x7FFE) 0 12
+packingNo generation = pick (leb generation lastPacked) 0 12
 
 -- A leaf has types and mask 0. A refusal returns INVALID.
 unfoldable pub newLeaf : ℕ → ℕ → ℕ
@@ -67,11 +68,11 @@ newBranch index generation types mask = pick (eqb (packingNo generation) 0) (pac
 -- ## Packed ids: those that packing gives for some fields
 
 abbrev pub PackedLeaf : ℕ → Type 0
-PackedLeaf raw = (i : ℕ) × (g : ℕ) × (i < 2 ^ 32) × (g ≤ 0x7FFE) × (raw ≡ newLeaf i g)
+PackedLeaf raw = (i : ℕ) × (g : ℕ) × (i < 2 ^ 32) × (g ≤ lastPacked) × (raw ≡ newLeaf i g)
 
 abbrev pub PackedBranch : ℕ → Type 0
 PackedBranch raw =
-    (i : ℕ) × (g : ℕ) × (t : ℕ) × (m : ℕ) × (i < 2 ^ 32) × (g ≤ 0x7FFE) × (t < 2 ^ 8) × (m < 2 ^ 8) × (raw ≡ newBranch i g t m)
+    (i : ℕ) × (g : ℕ) × (t : ℕ) × (m : ℕ) × (i < 2 ^ 32) × (g ≤ lastPacked) × (t < 2 ^ 8) × (m < 2 ^ 8) × (raw ≡ newBranch i g t m)
 
 abbrev pub Packed : ℕ → Type 0
 Packed raw = PackedLeaf raw ⊎ PackedBranch raw

@@ -120,7 +120,7 @@ full-no t s f = leb-false 1000000 (W t s holds) f
 
 pub room-no : (t : Tables) → roomOf (t .arena) ≡ false → Crowded t
 unfolding roomOf
-room-no t e = let p = ltb-false (t .arena .live) (cap t - 1) e in omega arith
+room-no t e = let p = ltb-false 0 (cap t - 1 - t .arena .live) e in omega arith
 
 -- ---- hold and release, on any tables
 

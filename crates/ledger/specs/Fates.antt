@@ -3,6 +3,7 @@ use mathlib.Core.Path.{_≡_}
 use mathlib.Core.List.{List}
 use Prim.Native.Nat.{ℕ, zero, suc, _<_}
 use lib.Dec.{leb, ltb}
+use Rattle.basics.specs.Limits.{kidWords}
 use Rattle.basics.specs.Pick.{pick}
 use Rattle.nodes.specs.Tally.{Live, kidsOf}
 use Rattle.nodes.specs.Words.{own, value, holds, slot, floor}
@@ -28,7 +29,7 @@ pub record Grew (t u : Tables) : Type 0 where
 -- y is a live node with the eight children ks and the stored value v
 pub record Has (t : Tables) (y : ℕ) (ks : List ℕ) (v : ℕ) : Type 0 where
   pub live : Lives t y
-  pub kids : kidsOf 8 (W t) (slot y) ≡ ks
+  pub kids : kidsOf kidWords (W t) (slot y) ≡ ks
   pub worth : W t (slot y) value ≡ v
 
 -- interning the content ks, v answered o: the id of a live node of exactly that content; the one that was there if there was one, and then no

@@ -2,27 +2,28 @@
 use mathlib.Core.Path.{_≡_}
 use mathlib.Core.Logic.{_≢_, _↔_}
 use mathlib.Core.List.{List}
-use Prim.Native.Nat.{ℕ, _-_, _≤_, _<_}
+use Prim.Native.Nat.{ℕ, _≤_, _<_}
 use lib.ListN.{getD}
+use Rattle.basics.specs.Limits.{kidWords, mostHolds}
 use Rattle.nodes.specs.Tally.{kidsOf, occ}
 use Rattle.nodes.specs.Words.{holds, slot}
-use Rattle.arena.specs.Calls.{empties, fresh}
+use Rattle.arena.specs.Calls.{empties, freeSlots, fresh}
 use Rattle.arena.specs.Node.{heightFor}
-use Rattle.arena.specs.Tables.{Tables, tables, cap, W, Sized}
+use Rattle.arena.specs.Tables.{Tables, tables, W, Sized}
 use Rattle.ledger.specs.Ledger.{holdsOn}
 use Rattle.ledger.specs.Fates.{Lives, Has}
 
--- no free slot: capacity - 1 - live is 0
+-- no free slot
 abbrev pub Crowded : Tables → Type 0
-Crowded t = cap t - 1 - t .arena .live ≡ 0
+Crowded t = freeSlots (t .arena) ≡ 0
 
 -- the node y already has 1,000,000 holds
 abbrev pub Full : Tables → ℕ → Type 0
-Full t y = 1000000 ≤ W t (slot y) holds
+Full t y = mostHolds ≤ W t (slot y) holds
 
 -- the node y is there, with the eight children ks
 abbrev pub HasIds : Tables → ℕ → List ℕ → Type 0
-HasIds t y ks = Lives t y × (kidsOf 8 (W t) (slot y) ≡ ks)
+HasIds t y ks = Lives t y × (kidsOf kidWords (W t) (slot y) ≡ ks)
 
 -- 1: capacity out of range, or a table's length isn't the one fixed for that capacity
 -- 4: an id is neither EMPTY nor live
@@ -45,7 +46,7 @@ pub data BranchWhy (n tallest : ℕ) (t : Tables) (ks : List ℕ) : ℕ → Type
   unsizedBranch : (Sized t → ⊥) → BranchWhy n tallest t ks 1
   deadChild : (y : ℕ) → y ≢ 0 → 1 ≤ occ y ks → (Lives t y → ⊥) → BranchWhy n tallest t ks 4
   poorChild : (y : ℕ) → y ≢ 0 → holdsOn t y < occ y ks → BranchWhy n tallest t ks 5
-  allEmpty : ((i : ℕ) → i < 8 → getD ks i 0 ≡ 0) → BranchWhy n tallest t ks 7
+  allEmpty : ((i : ℕ) → i < kidWords → getD ks i 0 ≡ 0) → BranchWhy n tallest t ks 7
   tall : tallest < heightFor n (W t) ks → BranchWhy n tallest t ks 8
   fullBranch : (y : ℕ) → HasIds t y ks → Full t y → BranchWhy n tallest t ks 10
   crowdedBranch : ((y : ℕ) → HasIds t y ks → ⊥) → Crowded t → BranchWhy n tallest t ks 11

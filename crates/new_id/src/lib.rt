@@ -1,4 +1,5 @@
 // The mask and the types of eight children, and the id of a branch that has them. Intern branch and the edit name their new branches with it.
+use basics::Kids;
 use ids::BlockId;
 ghost use mathlib.Core.Path.{_≡_};
 ghost use mathlib.Core.Bool.{not};
@@ -23,7 +24,7 @@ fn leaf_bit(k: u64) -> u8
 }
 
 // Mask bit i is 1 exactly if child i isn't EMPTY.
-fn mask_of(ks: [u64; 8]) -> u8
+fn mask_of(ks: Kids) -> u8
     ensures { λ r. ⌜ r ≡ kidMask ks ⌝ }
 {
     kid_bit(ks[0])
@@ -37,7 +38,7 @@ fn mask_of(ks: [u64; 8]) -> u8
 }
 
 // Types bit i exactly if child i is a leaf.
-fn types_of(ks: [u64; 8]) -> u8
+fn types_of(ks: Kids) -> u8
     ensures { λ r. ⌜ r ≡ kidTypes ks ⌝ }
 {
     leaf_bit(ks[0])
@@ -51,7 +52,7 @@ fn types_of(ks: [u64; 8]) -> u8
 }
 
 // The id of a branch in slot s, whose own word is `o`.
-pub fn branch_id(ks: [u64; 8], s: usize, o: u64) -> u64
+pub fn branch_id(ks: Kids, s: usize, o: u64) -> u64
     ensures { λ r. ⌜ r ≡ newBranch (s % 2 ^ 32) (generationOf o) (kidTypes ks) (kidMask ks) ⌝ }
 {
     let id = BlockId::new_branch(

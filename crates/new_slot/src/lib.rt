@@ -1,4 +1,4 @@
-// What a new node needs: its slot, and the id of a leaf in it. Intern leaf, intern branch and the edit all make their nodes with these.
+// What a new node needs: a free slot, and the id of a leaf in it. Intern leaf, intern branch and the edit all make their nodes with these.
 use arena::Arena;
 use ids::BlockId;
 use nodes::LINK;
@@ -8,8 +8,18 @@ ghost use mathlib.Core.Path.{_≡_};
 ghost use Prim.Native.Nat.{_%_, _^_};
 ghost use Rattle.ids.specs.Ids.{generationOf, newLeaf};
 ghost use Rattle.nodes.specs.Words.{factOf};
-ghost use Rattle.arena.specs.Calls.{freshSlot};
+ghost use Rattle.arena.specs.Calls.{freeSlots, freshSlot};
 ghost use Rattle.arena.specs.Models.{givenOut};
+
+// How many slots are free.
+pub fn free_slots(a: Arena) -> u64
+    ensures { λ r. ⌜ r ≡ freeSlots a ⌝ }
+{
+    if a.capacity <= a.live {
+        return 0;
+    }
+    (a.capacity - a.live - 1) as u64
+}
 
 // Fresh slot: the last one freed, else the lowest never used.
 pub fn fresh_slot(a: Arena) -> usize

@@ -1,11 +1,14 @@
 // What children come to: the stored value of a branch with them, and the height of the tallest. Intern branch and the edit work out their new
 // branches with these.
 use arena::slot_of;
+use basics::KID_WORDS;
+use basics::Kids;
 use nodes::HEIGHT;
 use nodes::VALUE;
 use nodes::fact;
 ghost use mathlib.Core.Path.{_≡_};
 ghost use Prim.Native.Nat.{max};
+ghost use Rattle.basics.specs.Limits.{cubeKids};
 ghost use Rattle.nodes.specs.Words.{factOf};
 ghost use Rattle.nodes.specs.Values.{valueAt, heightAt};
 ghost use Rattle.arena.specs.Models.{topFor, valueBy};
@@ -27,12 +30,12 @@ pub fn value_at(facts: &[u64], id: u64) -> u64
 }
 
 // The stored value of a branch with these children.
-pub fn value_of(facts: &[u64], ks: [u64; 8]) -> u64
-    ensures { λ r. ⌜ r ≡ valueBy 8 (factOf (now (facts .entry))) ks ⌝ }
+pub fn value_of(facts: &[u64], ks: Kids) -> u64
+    ensures { λ r. ⌜ r ≡ valueBy cubeKids (factOf (now (facts .entry))) ks ⌝ }
 {
     let mut sum: u64 = 0;
     let mut i: usize = 0;
-    while i < 8 {
+    while i < KID_WORDS {
         sum += value_at(facts, ks[i]) % 65536;
         i += 1;
     }
@@ -57,13 +60,13 @@ fn larger(x: u64, y: u64) -> u64
 }
 
 // The stored value of a branch with these children, and the height of the tallest of them, in one pass. EMPTY adds nothing to either.
-pub fn sums_of(facts: &[u64], ks: [u64; 8]) -> Sums
-    ensures { λ r. ⌜ (r .value ≡ valueBy 8 (factOf (now (facts .entry))) ks) × (r .top ≡ topFor (factOf (now (facts .entry))) ks 8) ⌝ }
+pub fn sums_of(facts: &[u64], ks: Kids) -> Sums
+    ensures { λ r. ⌜ (r .value ≡ valueBy cubeKids (factOf (now (facts .entry))) ks) × (r .top ≡ topFor (factOf (now (facts .entry))) ks 8) ⌝ }
 {
     let mut sum: u64 = 0;
     let mut top: u64 = 0;
     let mut i: usize = 0;
-    while i < 8 {
+    while i < KID_WORDS {
         let k = ks[i];
         if k != 0 {
             let s = slot_of(k);

@@ -4,6 +4,7 @@ use mathlib.Core.List.{List, [], _∷_}
 use Prim.Native.Nat.{ℕ, suc, _+_, _-_, _*_, _^_}
 use lib.Dec.{leb, ltb}
 use lib.ListN.{getD, set}
+use Rattle.basics.specs.Limits.{kidWords, factWords}
 use Rattle.basics.specs.Pick.{pick}
 use Rattle.ids.specs.Ids.{indexOf}
 
@@ -11,7 +12,7 @@ use Rattle.ids.specs.Ids.{indexOf}
 
 -- the whole id of a live node; in a dead slot the generation times 2^32
 abbrev pub own : ℕ
-own = 8
+own = kidWords
 
 -- the stored value
 abbrev pub value : ℕ
@@ -50,17 +51,17 @@ Words = ℕ → ℕ → ℕ
 
 -- what lies outside a table, or is no word of it, reads 0 and is not written
 unfoldable pub kidOf : List ℕ → Words
-kidOf l s i = pick (ltb i 8) (getD l (8 * s + i) 0) 0
+kidOf l s i = pick (ltb i kidWords) (getD l (kidWords * s + i) 0) 0
 
 unfoldable pub factOf : List ℕ → Words
-factOf l s f = pick (leb own f) (pick (leb f spare) (getD l (7 * s + (f - own)) 0) 0) 0
+factOf l s f = pick (leb own f) (pick (leb f spare) (getD l (factWords * s + (f - own)) 0) 0) 0
 
 unfoldable pub wordOf : Nodes → Words
-wordOf x s f = pick (ltb f 8) (kidOf (x .kids) s f) (factOf (x .facts) s f)
+wordOf x s f = pick (ltb f kidWords) (kidOf (x .kids) s f) (factOf (x .facts) s f)
 
 -- one of the seven facts written
 unfoldable pub factPut : List ℕ → ℕ → ℕ → ℕ → List ℕ
-factPut l s f v = pick (leb own f) (pick (leb f spare) (set l (7 * s + (f - own)) v) l) l
+factPut l s f v = pick (leb own f) (pick (leb f spare) (set l (factWords * s + (f - own)) v) l) l
 
 unfoldable pub putOf : Nodes → ℕ → ℕ → ℕ → Nodes
 putOf x s f v = nodes (x .kids) (factPut (x .facts) s f v)
@@ -72,7 +73,7 @@ putsFrom l at (v ∷ vs) = putsFrom (set l at v) (suc at) vs
 
 -- a whole slot written: its eight children, and its seven facts in order
 unfoldable pub written : Nodes → ℕ → List ℕ → List ℕ → Nodes
-written x s ks fs = nodes (putsFrom (x .kids) (8 * s) ks) (putsFrom (x .facts) (7 * s) fs)
+written x s ks fs = nodes (putsFrom (x .kids) (kidWords * s) ks) (putsFrom (x .facts) (factWords * s) fs)
 
 -- ## Ids and own words
 

@@ -1,11 +1,15 @@
 // The words of the nodes in their two lent tables, `kids` and `facts`: see specs/Words.antt. Every function is total: what lies outside a
 // table reads 0.
+use basics::FACT_WORDS;
+use basics::KID_WORDS;
+use basics::Kids;
 ghost use mathlib.Core.Path.{_≡_};
+ghost use Rattle.basics.specs.Limits.{kidWords};
 ghost use Rattle.nodes.specs.Words.{kidOf, factOf};
 ghost use Rattle.nodes.specs.Tally.{kidsOf};
 
 // The words of a slot in the table `facts`. (The children are the words 0 to 7.)
-pub const OWN: usize = 8;
+pub const OWN: usize = KID_WORDS;
 
 pub const VALUE: usize = 9;
 
@@ -23,9 +27,9 @@ pub const SPARE: usize = 14;
 pub fn kid(kids: &[u64], s: usize, i: usize) -> u64
     ensures { λ r. ⌜ r ≡ kidOf (now (kids .entry)) s i ⌝ }
 {
-    if i < 8 {
+    if i < KID_WORDS {
         if s < kids.len() {
-            let at = 8 * s + i;
+            let at = KID_WORDS * s + i;
             if at < kids.len() {
                 return kids[at];
             }
@@ -35,8 +39,8 @@ pub fn kid(kids: &[u64], s: usize, i: usize) -> u64
 }
 
 // The eight children of slot s, each read for itself.
-fn each_child(kids: &[u64], s: usize) -> [u64; 8]
-    ensures { λ r. ⌜ r ≡ kidsOf 8 (kidOf (now (kids .entry))) s ⌝ }
+fn each_child(kids: &[u64], s: usize) -> Kids
+    ensures { λ r. ⌜ r ≡ kidsOf kidWords (kidOf (now (kids .entry))) s ⌝ }
 {
     [
         kid(kids, s, 0),
@@ -51,11 +55,11 @@ fn each_child(kids: &[u64], s: usize) -> [u64; 8]
 }
 
 // The eight children of slot s. One test is enough where the table has the whole row.
-pub fn children(kids: &[u64], s: usize) -> [u64; 8]
-    ensures { λ r. ⌜ r ≡ kidsOf 8 (kidOf (now (kids .entry))) s ⌝ }
+pub fn children(kids: &[u64], s: usize) -> Kids
+    ensures { λ r. ⌜ r ≡ kidsOf kidWords (kidOf (now (kids .entry))) s ⌝ }
 {
     if s < kids.len() {
-        let at = 8 * s;
+        let at = KID_WORDS * s;
         if at + 7 < kids.len() {
             return [
                 kids[at],
@@ -79,7 +83,7 @@ pub fn fact(facts: &[u64], s: usize, f: usize) -> u64
     if OWN <= f {
         if f <= SPARE {
             if s < facts.len() {
-                let at = 7 * s + (f - OWN);
+                let at = FACT_WORDS * s + (f - OWN);
                 if at < facts.len() {
                     return facts[at];
                 }

@@ -1,11 +1,15 @@
 // The words of the nodes written, one fact or a whole slot, in their two lent tables, `kids` and `facts`: see specs/Words.antt of crate `nodes`.
 // Every public function is total: what lies outside a table is not written.
+use basics::FACT_WORDS;
+use basics::KID_WORDS;
+use basics::Kids;
 use nodes::OWN;
 use nodes::SPARE;
 ghost use mathlib.Core.Path.{_≡_};
 ghost use mathlib.Core.List.{[], _∷_};
 ghost use Prim.Native.Nat.{_+_, _*_, _≤_, _<_};
 ghost use lib.ListN.{length, set};
+ghost use Rattle.basics.specs.Limits.{kidWords, factWords};
 ghost use Rattle.nodes.specs.Words.{nodes, factPut, putsFrom, written};
 
 // Writes the fact f of slot s.
@@ -15,7 +19,7 @@ pub fn put_fact(facts: &mut [u64], s: usize, f: usize, v: u64)
     if OWN <= f {
         if f <= SPARE {
             if s < facts.len() {
-                let place = 7 * s + (f - OWN);
+                let place = FACT_WORDS * s + (f - OWN);
                 if place < facts.len() {
                     facts[place] = v;
                 }
@@ -70,37 +74,37 @@ fn put_three(table: &mut [u64], at: usize, a: u64, b: u64, c: u64)
 }
 
 // Writes the eight children of slot s. One test is enough where the table has the whole row.
-fn put_kids(kids: &mut [u64], s: usize, ks: [u64; 8])
-    ensures { λ _. ⌜ now (kids .exit) ≡ putsFrom (now (kids .entry)) (8 * s) ks ⌝ }
+fn put_kids(kids: &mut [u64], s: usize, ks: Kids)
+    ensures { λ _. ⌜ now (kids .exit) ≡ putsFrom (now (kids .entry)) (kidWords * s) ks ⌝ }
 {
     if s < kids.len() {
-        let at = 8 * s;
+        let at = KID_WORDS * s;
         if at + 7 < kids.len() {
             put_four(kids, at, ks[0], ks[1], ks[2], ks[3]);
             put_four(kids, at + 4, ks[4], ks[5], ks[6], ks[7]);
             return;
         }
     }
-    put_row(kids, 8, s, &ks);
+    put_row(kids, KID_WORDS, s, &ks);
 }
 
 // Writes the seven facts of slot s, likewise.
-fn put_facts(facts: &mut [u64], s: usize, fs: [u64; 7])
-    ensures { λ _. ⌜ now (facts .exit) ≡ putsFrom (now (facts .entry)) (7 * s) fs ⌝ }
+fn put_facts(facts: &mut [u64], s: usize, fs: [u64; FACT_WORDS])
+    ensures { λ _. ⌜ now (facts .exit) ≡ putsFrom (now (facts .entry)) (factWords * s) fs ⌝ }
 {
     if s < facts.len() {
-        let at = 7 * s;
+        let at = FACT_WORDS * s;
         if at + 6 < facts.len() {
             put_four(facts, at, fs[0], fs[1], fs[2], fs[3]);
             put_three(facts, at + 4, fs[4], fs[5], fs[6]);
             return;
         }
     }
-    put_row(facts, 7, s, &fs);
+    put_row(facts, FACT_WORDS, s, &fs);
 }
 
 // Writes a whole slot: its eight children and its seven facts.
-pub fn write_slot(kids: &mut [u64], facts: &mut [u64], s: usize, ks: [u64; 8], fs: [u64; 7])
+pub fn write_slot(kids: &mut [u64], facts: &mut [u64], s: usize, ks: Kids, fs: [u64; FACT_WORDS])
     ensures { λ _. ⌜ nodes (now (kids .exit)) (now (facts .exit)) ≡ written (nodes (now (kids .entry)) (now (facts .entry))) s ks fs ⌝ }
 {
     put_kids(kids, s, ks);

@@ -3,6 +3,7 @@ use Prim.Native.Nat.{ℕ, zero, suc, _+_, _-_, _*_, _%_, _^_}
 use mathlib.Core.Bool.{Bool, false}
 use lib.Dec.{leb, ltb}
 use lib.IntN.{ℤ, pos, negsuc}
+use Rattle.basics.specs.Limits.{deepest}
 use Rattle.basics.specs.Pick.{pick}
 use Rattle.basics.specs.Bits.{bit}
 use Rattle.paths.specs.declared.IVec3.{IVec3}
@@ -65,7 +66,7 @@ coordOf (negsuc n) = 2 ^ 32 - 1
 -- the lowest number that applies
 unfoldable pub childNo : IVec3 → ℕ → ℕ → ℕ
 childNo p k d =
-    pick (leb d 6)
+    pick (leb d deepest)
     (pick (ltb k d) (pick (inside d (p .x)) (pick (inside d (p .y)) (pick (inside d (p .z)) 0 3) 3) 3) 2)
     2
 

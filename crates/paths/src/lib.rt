@@ -1,4 +1,5 @@
 // Paths: where a cell lies in the octree, as one number of interleaved bits, and as one child number a level.
+use basics::DEEPEST;
 ghost use mathlib.Core.Path.{_≡_};
 ghost use Prim.Native.Nat.{_^_, _<_, _≤_};
 ghost use lib.Signed.{mag};
@@ -156,7 +157,7 @@ pub fn octant(b: u32, x: u32, y: u32, z: u32) -> usize
 fn child_no(position: IVec3, current: u32, max: u32) -> u32
     ensures { λ r. ⌜ r ≡ childNo position current max ⌝ }
 {
-    if max <= 6 {
+    if max <= DEEPEST {
         if current < max {
             if is_inside(max, position.x) {
                 if is_inside(max, position.y) {

@@ -6,4 +6,3 @@ pub mod Cubes
 pub mod Roots
 pub mod Between
 pub mod Orders
-pub mod Wider

@@ -9,6 +9,7 @@ use native.Mathlib.Omega.{arith}
 use lib.Pow.{pow-pos}
 use lib.Dec.{eqb}
 use lib.ListN.{length, set}
+use Rattle.basics.specs.Limits.{deepest, deepestCube, cubeKids, largestValue}
 use Rattle.basics.specs.Pick.{pick}
 use Rattle.nodes.specs.Values.{valueAt, heightAt}
 use Rattle.nodes.specs.Tally.{occ}
@@ -38,16 +39,16 @@ pub data Call : Type 0 where
 
 -- what can be handed to a call: a 16-bit value, eight ids
 abbrev pub Handed : Call → Type 0
-Handed (leaf v) = v ≤ 65535
-Handed (branch ks) = length ks ≡ 8
+Handed (leaf v) = v ≤ largestValue
+Handed (branch ks) = length ks ≡ cubeKids
 Handed (hold b) = Unit
 Handed (release b) = Unit
-Handed (voxel b e p v) = v ≤ 65535
+Handed (voxel b e p v) = v ≤ largestValue
 
 -- what it answers and leaves
 abbrev pub outcome : Tables → Call → Out
 outcome t (leaf v) = internLeafOf t v
-outcome t (branch ks) = internBranchOf 8 6 t ks
+outcome t (branch ks) = internBranchOf cubeKids deepest t ks
 outcome t (hold b) = holdOf t b
 outcome t (release b) = releaseOf t b
 outcome t (voxel b e p v) = editOf t b e p v
@@ -166,14 +167,14 @@ There t a = LiveOr0 (cap t) (W t) a
 -- In the tables t the root a stands for the cube F of depth d:
 pub data Stands : (d : ℕ) → Tables → ℕ → Cube d → Type 0 where
   -- EMPTY for zeros;
-  empty : {d : ℕ} {t : Tables} → WellFormed 8 6 t → Stands d t 0 (λ s. 0)
+  empty : {d : ℕ} {t : Tables} → WellFormed cubeKids deepest t → Stands d t 0 (λ s. 0)
   -- a leaf for its value throughout;
-  solid : {d : ℕ} {t : Tables} {a : ℕ} → WellFormed 8 6 t → Lives t a → Leaf a → Stands d t a (λ s. valueAt (W t) a)
+  solid : {d : ℕ} {t : Tables} {a : ℕ} → WellFormed cubeKids deepest t → Lives t a → Leaf a → Stands d t a (λ s. valueAt (W t) a)
   -- a branch for its eight children's cubes as octants;
-  octants : {d : ℕ} {t : Tables} {a : ℕ} → Lives t a → Branch a → (F : ℕ → Cube d) → ((i : ℕ) → i < 8 → Stands d t (childOf (W t) a i) (F i))
+  octants : {d : ℕ} {t : Tables} {a : ℕ} → Lives t a → Branch a → (F : ℕ → Cube d) → ((i : ℕ) → i < cubeKids → Stands d t (childOf (W t) a i) (F i))
       → Stands (suc d) t a (joined F)
   -- the answer of an accepted edit for the old root's cube with one cell changed;
-  edit : {d : ℕ} {t : Tables} {a : ℕ} {F : Cube d} (c : At d) (v : ℕ) → v ≤ 65535 → editNo t a d (spot c) v ≡ 0 → Stands d t a F
+  edit : {d : ℕ} {t : Tables} {a : ℕ} {F : Cube d} (c : At d) (v : ℕ) → v ≤ largestValue → editNo t a d (spot c) v ≡ 0 → Stands d t a F
       → Stands d (then t a c v) (gives t a c v) (changed F c v)
   -- a root that is there after a call, accepted or refused, for the cube that it stood for before the call;
   other : {d : ℕ} {t : Tables} {a : ℕ} {F : Cube d} (c : Call) → Handed c → There (outcome t c .after) a → Stands d t a F → Stands d (outcome t c .after) a F
@@ -184,7 +185,7 @@ pub data Stands : (d : ℕ) → Tables → ℕ → Cube d → Type 0 where
 
 -- a depth, and a position inside its cube: refusals 2 and 3 do not apply
 abbrev pub Inside : ℕ → IVec3 → Type 0
-Inside d p = (d ≤ 6) × (inside d (p .x) ≡ true) × (inside d (p .y) ≡ true) × (inside d (p .z) ≡ true)
+Inside d p = (d ≤ deepest) × (inside d (p .x) ≡ true) × (inside d (p .y) ≡ true) × (inside d (p .z) ≡ true)
 
 -- refused with a number up to 4, and with 4 itself where no lower number applies
 abbrev pub ByFour : ℕ → Type 0 → Type 0
@@ -195,7 +196,7 @@ pub record Refused (t : Tables) (y : ℕ) : Type 0 where
   pub hold : holdOf t y .no ≡ 4
   pub release : releaseOf t y .no ≡ 4
   pub counts : countsOf t y .no ≡ 4
-  pub child : (ks : List ℕ) → 1 ≤ occ y ks → internBranchOf 8 6 t ks .no ≡ 4
+  pub child : (ks : List ℕ) → 1 ≤ occ y ks → internBranchOf cubeKids deepest t ks .no ≡ 4
   pub lookup : (d : ℕ) (p : IVec3) → ByFour (lookOf t y d p .no) (Inside d p)
-  pub expansion : (d : ℕ) (l : List ℕ) → ByFour (expandOf t y d l .no) (d ≤ 6)
+  pub expansion : (d : ℕ) (l : List ℕ) → ByFour (expandOf t y d l .no) (d ≤ deepestCube)
   pub edit : (d : ℕ) (p : IVec3) (v : ℕ) → ByFour (editOf t y d p v .no) (Inside d p)

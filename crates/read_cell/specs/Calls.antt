@@ -3,6 +3,7 @@ use Prim.Native.Nat.{ℕ, _^_}
 use mathlib.Core.List.{List}
 use lib.Dec.{leb, eqb}
 use lib.ListN.{length}
+use Rattle.basics.specs.Limits.{deepest, deepestCube}
 use Rattle.basics.specs.Pick.{pick}
 use Rattle.paths.specs.declared.IVec3.{IVec3}
 use Rattle.paths.specs.Paths.{inside, whole}
@@ -17,7 +18,7 @@ use Rattle.read_cell.specs.Reading.{cellOf, cubeOf}
 unfoldable pub lookNo : Tables → ℕ → ℕ → IVec3 → ℕ
 lookNo t id d p =
     pick (fits t)
-    (pick (leb d 6) (pick (inside d (p .x)) (pick (inside d (p .y)) (pick (inside d (p .z)) (pick (liveOrEmpty (cap t) (W t) id) 0 4) 3) 3) 3) 2)
+    (pick (leb d deepest) (pick (inside d (p .x)) (pick (inside d (p .y)) (pick (inside d (p .z)) (pick (liveOrEmpty (cap t) (W t) id) 0 4) 3) 3) 3) 2)
     1
 
 abbrev pub looked : ℕ → ℕ → Looked
@@ -33,7 +34,7 @@ lookOf t id d p =
 
 -- refusals 1, 2, 4 and 9, the lowest that applies; n is the length of the lent cube
 unfoldable pub expandNo : Tables → ℕ → ℕ → ℕ → ℕ
-expandNo t id d n = pick (fits t) (pick (leb d 6) (pick (liveOrEmpty (cap t) (W t) id) (pick (eqb n (8 ^ d)) 0 9) 4) 2) 1
+expandNo t id d n = pick (fits t) (pick (leb d deepestCube) (pick (liveOrEmpty (cap t) (W t) id) (pick (eqb n (8 ^ d)) 0 9) 4) 2) 1
 
 -- the number, and the lent cube afterwards
 pub record Expanded : Type 0 where

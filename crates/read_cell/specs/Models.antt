@@ -2,6 +2,7 @@
 use Prim.Native.Nat.{ℕ, zero, suc, _+_, _*_, _%_, _^_}
 use mathlib.Core.Bool.{Bool, true}
 use lib.Dec.{leb, ltb, eqb}
+use Rattle.basics.specs.Limits.{deepest}
 use Rattle.basics.specs.Pick.{pick}
 use Rattle.basics.specs.Bits.{bit}
 use Rattle.nodes.specs.Words.{Words}
@@ -38,7 +39,7 @@ pathWord (suc n) x y z = octant n x y z + 64 * pathWord n x y z
 unfoldable pub lookNoAt : Tables → ℕ → ℕ → ℕ → ℕ → ℕ → ℕ
 lookNoAt t id d x y z =
     pick (fits t)
-    (pick (leb d 6) (pick (ltb x (2 ^ d)) (pick (ltb y (2 ^ d)) (pick (ltb z (2 ^ d)) (pick (liveOrEmpty (cap t) (W t) id) 0 4) 3) 3) 3) 2)
+    (pick (leb d deepest) (pick (ltb x (2 ^ d)) (pick (ltb y (2 ^ d)) (pick (ltb z (2 ^ d)) (pick (liveOrEmpty (cap t) (W t) id) 0 4) 3) 3) 3) 2)
     1
 
 unfoldable pub lookAt : Tables → ℕ → ℕ → ℕ → ℕ → ℕ → Looked

@@ -2,6 +2,7 @@
 use Prim.Native.Nat.{ℕ, _+_, _/_, _%_, _^_}
 use mathlib.Core.List.{List, [], _∷_}
 use lib.Dec.{leb}
+use Rattle.basics.specs.Limits.{deepest}
 use Rattle.basics.specs.Pick.{pick}
 use Rattle.ids.specs.Ids.{invalid}
 use Rattle.nodes.specs.Words.{Words}
@@ -22,7 +23,7 @@ descent W k (c ∷ p) a = elim (kind a) [ empty _ ↦ ended a k | leaf _ ↦ end
 
 -- The end at the cell (x, y, z) of depth d, from id as level 0; INVALID of a depth above 6.
 unfoldable pub endOf : Words → ℕ → ℕ → ℕ → ℕ → ℕ → End
-endOf W id d x y z = pick (leb d 6) (descent W 0 (cubePath d x y z) id) (ended invalid 0)
+endOf W id d x y z = pick (leb d deepest) (descent W 0 (cubePath d x y z) id) (ended invalid 0)
 
 -- ## The cells of a cube
 

@@ -3,6 +3,7 @@ use arena::Arena;
 use arena::fit;
 use arena::is_live;
 use arena::slot_of;
+use basics::DEEPEST;
 use ids::BlockId;
 use nodes::VALUE;
 use nodes::fact;
@@ -12,6 +13,7 @@ use paths::coord;
 ghost use mathlib.Core.Path.{_≡_};
 ghost use Prim.Native.Nat.{_*_, _^_, _<_, _≤_};
 ghost use lib.Dec.{ltb};
+ghost use Rattle.basics.specs.Limits.{deepest};
 ghost use Rattle.nodes.specs.Words.{kidOf, factOf};
 ghost use Rattle.arena.specs.Calls.{liveOrEmpty};
 ghost use Rattle.arena.specs.Lent.{before};
@@ -69,7 +71,7 @@ fn spread(x: u32) -> u64
 
 // The child numbers down to the cell (x, y, z) of the depth, the first lowest and each six places above the last, and a 1 above them.
 fn path_word(depth: u32, x: u32, y: u32, z: u32) -> u64
-    requires { ⌜ depth ≤ 6 ⌝ }
+    requires { ⌜ depth ≤ deepest ⌝ }
     ensures { λ r. ⌜ r ≡ pathWord depth x y z ⌝ }
 {
     (spread(x) + 2 * spread(y) + 4 * spread(z) + 0x200_0000_0000) >> (41 - 6 * depth)
@@ -79,7 +81,7 @@ fn path_word(depth: u32, x: u32, y: u32, z: u32) -> u64
 pub fn descend(kids: &[u64], id: BlockId, depth: u32, x: u32, y: u32, z: u32) -> End
     ensures { λ r. ⌜ r ≡ endOf (kidOf (now (kids .entry))) (id .0) depth x y z ⌝ }
 {
-    if 6 < depth {
+    if DEEPEST < depth {
         return End {
             id: BlockId::INVALID,
             level: 0,
@@ -111,7 +113,7 @@ pub fn descend(kids: &[u64], id: BlockId, depth: u32, x: u32, y: u32, z: u32) ->
 // ---- refusals
 
 // Not refusal 4: EMPTY, or in all 64 bits the id of a node now in the arena.
-fn is_there(c: usize, facts: &[u64], id: u64) -> bool
+pub fn is_there(c: usize, facts: &[u64], id: u64) -> bool
     ensures { λ r. ⌜ r ≡ liveOrEmpty c (factOf (now (facts .entry))) id ⌝ }
 {
     if id == BlockId::EMPTY.0 {
@@ -122,7 +124,7 @@ fn is_there(c: usize, facts: &[u64], id: u64) -> bool
 
 // Is x below 2^d?
 fn is_inside(d: u32, x: u32) -> bool
-    requires { ⌜ d ≤ 6 ⌝ }
+    requires { ⌜ d ≤ deepest ⌝ }
     ensures { λ r. ⌜ r ≡ ltb x (2 ^ d) ⌝ }
 {
     let one: u32 = 1;
@@ -146,7 +148,7 @@ pub fn look_no(
     ensures { λ r. ⌜ r ≡ lookNoAt (before arena kids facts find) id d x y z ⌝ }
 {
     if fit(arena.capacity, kids.len(), facts.len(), find.len()) {
-        if d <= 6 {
+        if d <= DEEPEST {
             if is_inside(d, x | y | z) {
                 if is_there(arena.capacity, facts, id) {
                     return 0;

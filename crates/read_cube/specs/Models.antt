@@ -3,6 +3,7 @@ use Prim.Native.Nat.{ℕ, zero, suc, _+_, _*_, _/_, _%_, _^_}
 use mathlib.Core.List.{List}
 use lib.Dec.{leb, eqb}
 use lib.ListN.{length, set}
+use Rattle.basics.specs.Limits.{cubeKids}
 use Rattle.basics.specs.Pick.{pick}
 use Rattle.nodes.specs.Words.{Words}
 use Rattle.tree.specs.Tree.{childOf}
@@ -29,7 +30,7 @@ fillBlock row plane at n w u l = times (λ y m. fillPlane row (at + y * plane) n
 
 -- the rows in each plane of a block: as many as its side in a cube, one in a sheet
 unfoldable pub thick : ℕ → ℕ → ℕ
-thick n side = pick (eqb n 8) side 1
+thick n side = pick (eqb n cubeKids) side 1
 
 -- how far part c of side h lies from the corner
 unfoldable pub offset : ℕ → ℕ → ℕ → ℕ → ℕ
@@ -58,4 +59,4 @@ pairOf W a c at l = set (set l at (partVal W a c)) (at + 1) (partVal W a (c + 1)
 -- the whole cube of side s: one value where the root is a leaf, else 0 and then its octants
 unfoldable pub cubeFrom : Words → ℕ → ℕ → ℕ → List ℕ → List ℕ
 cubeFrom W s d a l =
-    pick (leb (2 ^ 63) a) (fillRow 0 (length l) (val W a) l) (grow W 8 s (s * s) d s a 0 (fillRow 0 (length l) 0 l))
+    pick (leb (2 ^ 63) a) (fillRow 0 (length l) (val W a) l) (grow W cubeKids s (s * s) d s a 0 (fillRow 0 (length l) 0 l))

@@ -1,18 +1,21 @@
 // Expansion: the cells of a model into a lent cube.
 use arena::Arena;
+use arena::fit;
 use arena::slot_of;
+use basics::DEEPEST_CUBE;
 use ids::BlockId;
 use nodes::VALUE;
 use nodes::fact;
 use nodes::kid;
-use read_cell::look_no;
+use read_cell::is_there;
 ghost use mathlib.Core.Path.{_≡_};
 ghost use Prim.Native.Nat.{_+_, _*_, _^_, _<_, _≤_};
 ghost use lib.Dec.{eqb};
+ghost use Rattle.basics.specs.Limits.{deepestCube, cubeKids};
 ghost use Rattle.nodes.specs.Words.{factOf};
 ghost use Rattle.nodes.specs.Lent.{wordsIn};
 ghost use Rattle.arena.specs.Lent.{before};
-ghost use Rattle.read_cell.specs.Calls.{expanded, expandOf};
+ghost use Rattle.read_cell.specs.Calls.{expanded, expandNo, expandOf};
 ghost use Rattle.read_cell.specs.Models.{val};
 ghost use Rattle.read_cube.specs.Models.{fillRow, fillPlane, fillBlock, offset as offsetOf, grow, partsTo, partVal, pairOf, cubeFrom};
 
@@ -124,7 +127,7 @@ fn fill_cells(
     plane: usize,
 )
     requires { do ⌜ at + plane + row + 2 ≤ (← ⟦cube.len()⟧) ⌝ }
-    ensures { λ _. ⌜ now (cube .exit) ≡ partsTo (wordsIn kids facts) 8 row plane 0 1 id at 8 (now (cube .entry)) ⌝ }
+    ensures { λ _. ⌜ now (cube .exit) ≡ partsTo (wordsIn kids facts) cubeKids row plane 0 1 id at 8 (now (cube .entry)) ⌝ }
 {
     fill_pair(kids, facts, cube, id, 0, at);
     fill_pair(kids, facts, cube, id, 2, at + plane);
@@ -146,7 +149,7 @@ fn fill_octant(
 )
     requires { ⌜ (side ≡ 2 ^ left) × (side ≤ 64) × (row ≤ 64) × (plane ≤ 4096) ⌝ }
     requires { do ⌜ at + side * plane + side * row + side ≤ (← ⟦cube.len()⟧) + plane + row ⌝ }
-    ensures { λ _. ⌜ now (cube .exit) ≡ grow (wordsIn kids facts) 8 row plane left side id at (now (cube .entry)) ⌝ }
+    ensures { λ _. ⌜ now (cube .exit) ≡ grow (wordsIn kids facts) cubeKids row plane left side id at (now (cube .entry)) ⌝ }
 {
     if left == 0 {
         cube[at] = value(facts, id);
@@ -180,7 +183,7 @@ fn fill_octants(
 )
     requires { ⌜ (h ≡ 2 ^ left) × (h ≤ 32) × (row ≤ 64) × (plane ≤ 4096) ⌝ }
     requires { do ⌜ at + 2 * h * plane + 2 * h * row + 2 * h ≤ (← ⟦cube.len()⟧) + plane + row ⌝ }
-    ensures { λ _. ⌜ now (cube .exit) ≡ partsTo (wordsIn kids facts) 8 row plane left h id at 8 (now (cube .entry)) ⌝ }
+    ensures { λ _. ⌜ now (cube .exit) ≡ partsTo (wordsIn kids facts) cubeKids row plane left h id at 8 (now (cube .entry)) ⌝ }
 {
     let s = slot_of(id);
     let mut c: usize = 0;
@@ -208,7 +211,7 @@ fn fill_cube(kids: &[u64], facts: &[u64], cube: &mut [u16], id: u64, depth: u32,
 
 // 2^d
 fn side_of(d: u32) -> usize
-    requires { ⌜ d ≤ 6 ⌝ }
+    requires { ⌜ d ≤ deepestCube ⌝ }
     ensures { λ r. ⌜ (r ≡ 2 ^ d) × (r ≤ 64) ⌝ }
 {
     let one: usize = 1;
@@ -217,11 +220,38 @@ fn side_of(d: u32) -> usize
 
 // Is n 8^d?
 fn is_cube(d: u32, n: usize) -> bool
-    requires { ⌜ d ≤ 6 ⌝ }
+    requires { ⌜ d ≤ deepestCube ⌝ }
     ensures { λ r. ⌜ r ≡ eqb n (8 ^ d) ⌝ }
 {
     let s = side_of(d);
     n == mul(mul(s, s), s)
+}
+
+// The lowest refusal that applies to an expansion into a cube of n values, or 0.
+fn expand_no(
+    arena: Arena,
+    kids: &[u64],
+    facts: &[u64],
+    find: &[u16],
+    id: u64,
+    depth: u32,
+    n: usize,
+) -> u32
+    ensures { λ r. ⌜ r ≡ expandNo (before arena kids facts find) id depth n ⌝ }
+{
+    if fit(arena.capacity, kids.len(), facts.len(), find.len()) {
+        if depth <= DEEPEST_CUBE {
+            if is_there(arena.capacity, facts, id) {
+                if is_cube(depth, n) {
+                    return 0;
+                }
+                return 9;
+            }
+            return 4;
+        }
+        return 2;
+    }
+    1
 }
 
 // Writes the cells of the cube of the depth under id, or refuses: 1, 2, 4 or 9.
@@ -236,13 +266,10 @@ pub fn to_vec(
 ) -> u32
     ensures { λ r. ⌜ expanded r (now (cube .exit)) ≡ expandOf (before arena kids facts find) (id .0) depth (now (cube .entry)) ⌝ }
 {
-    let no = look_no(arena, kids, facts, find, id.0, depth, 0, 0, 0);
+    let no = expand_no(arena, kids, facts, find, id.0, depth, cube.len());
     if no != 0 {
         return no;
     }
-    if is_cube(depth, cube.len()) {
-        fill_cube(kids, facts, cube, id.0, depth, side_of(depth));
-        return 0;
-    }
-    9
+    fill_cube(kids, facts, cube, id.0, depth, side_of(depth));
+    0
 }

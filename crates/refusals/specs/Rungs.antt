@@ -2,8 +2,9 @@
 -- of the calls is proved: proofs/.)
 use mathlib.Core.Bool.{Bool, false, not}
 use mathlib.Core.List.{List, [], _∷_}
-use Prim.Native.Nat.{ℕ, _-_, _^_}
+use Prim.Native.Nat.{ℕ, _^_}
 use lib.Dec.{leb, ltb, eqb}
+use Rattle.basics.specs.Limits.{deepest, deepestCube, cubeKids, lastPacked}
 use Rattle.basics.specs.Pick.{pick}
 use Rattle.nodes.specs.Values.{heightAt}
 use Rattle.nodes.specs.Words.{slot}
@@ -11,7 +12,7 @@ use Rattle.paths.specs.declared.IVec3.{IVec3}
 use Rattle.paths.specs.Paths.{inside}
 use Rattle.tree.specs.Lacks.{Need, have, lack}
 use Rattle.arena.specs.Tables.{Tables, cap, W}
-use Rattle.arena.specs.Calls.{fits, liveOrEmpty, fullOf}
+use Rattle.arena.specs.Calls.{fits, liveOrEmpty, fullOf, freeSlots}
 use Rattle.edit.specs.Edit.{resultOf, cellAt}
 
 -- all three coordinates are inside
@@ -20,10 +21,10 @@ within d p = pick (inside d (p .x)) (pick (inside d (p .y)) (inside d (p .z)) fa
 
 -- the depth is at most 6, and the level below it
 unfoldable pub leveled : ℕ → ℕ → Bool
-leveled k d = pick (leb d 6) (ltb k d) false
+leveled k d = pick (leb d deepest) (ltb k d) false
 
 abbrev pub packRungs : ℕ → List (Bool × ℕ)
-packRungs g = (not (leb g 0x7FFE), 12) ∷ []
+packRungs g = (not (leb g lastPacked), 12) ∷ []
 
 abbrev pub decodeRungs : ℕ → List (Bool × ℕ)
 decodeRungs code = (not (ltb code (2 ^ 30)), 3) ∷ []
@@ -32,11 +33,11 @@ abbrev pub childRungs : IVec3 → ℕ → ℕ → List (Bool × ℕ)
 childRungs p k d = (not (leveled k d), 2) ∷ (not (within d p), 3) ∷ []
 
 abbrev pub lookRungs : Tables → ℕ → ℕ → IVec3 → List (Bool × ℕ)
-lookRungs t id d p = (not (fits t), 1) ∷ (not (leb d 6), 2) ∷ (not (within d p), 3) ∷ (not (liveOrEmpty (cap t) (W t) id), 4) ∷ []
+lookRungs t id d p = (not (fits t), 1) ∷ (not (leb d deepest), 2) ∷ (not (within d p), 3) ∷ (not (liveOrEmpty (cap t) (W t) id), 4) ∷ []
 
 abbrev pub expandRungs : Tables → ℕ → ℕ → ℕ → List (Bool × ℕ)
 expandRungs t id d n =
-    (not (fits t), 1) ∷ (not (leb d 6), 2) ∷ (not (liveOrEmpty (cap t) (W t) id), 4) ∷ (not (eqb n (8 ^ d)), 9) ∷ []
+    (not (fits t), 1) ∷ (not (leb d deepestCube), 2) ∷ (not (liveOrEmpty (cap t) (W t) id), 4) ∷ (not (eqb n (8 ^ d)), 9) ∷ []
 
 -- the result is there, isn't EMPTY, and already has 1,000,000 holds
 unfoldable pub tenOf : Tables → Need → Bool
@@ -46,9 +47,9 @@ tenOf t (lack k) = false
 -- the result lacks more nodes than there are free slots
 unfoldable pub elevenOf : Tables → Need → Bool
 elevenOf t (have r) = false
-elevenOf t (lack k) = not (leb k (cap t - 1 - t .arena .live))
+elevenOf t (lack k) = not (leb k (freeSlots (t .arena)))
 
 abbrev pub editRungs : Tables → ℕ → ℕ → IVec3 → ℕ → List (Bool × ℕ)
 editRungs t root d p v =
-    (not (fits t), 1) ∷ (not (leb d 6), 2) ∷ (not (within d p), 3) ∷ (not (liveOrEmpty (cap t) (W t) root), 4)
-    ∷ (not (leb (heightAt (W t) root) d), 8) ∷ (tenOf t (resultOf 8 t v (cellAt d p) root), 10) ∷ (elevenOf t (resultOf 8 t v (cellAt d p) root), 11) ∷ []
+    (not (fits t), 1) ∷ (not (leb d deepest), 2) ∷ (not (within d p), 3) ∷ (not (liveOrEmpty (cap t) (W t) root), 4)
+    ∷ (not (leb (heightAt (W t) root) d), 8) ∷ (tenOf t (resultOf cubeKids t v (cellAt d p) root), 10) ∷ (elevenOf t (resultOf cubeKids t v (cellAt d p) root), 11) ∷ []

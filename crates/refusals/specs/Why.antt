@@ -1,11 +1,13 @@
 -- What each number of the paths, of reading and of the edit says: given exactly if. (`Exactly`, `Full`: crates/ledger/specs/Refusals.antt)
 use mathlib.Core.Logic.{_≢_}
-use Prim.Native.Nat.{ℕ, _-_, _^_, _≤_, _<_}
+use Prim.Native.Nat.{ℕ, _^_, _≤_, _<_}
 use lib.IntN.{ℤ, pos, negsuc}
+use Rattle.basics.specs.Limits.{deepest, deepestCube, lastPacked}
 use Rattle.nodes.specs.Values.{heightAt}
 use Rattle.nodes.specs.Words.{Words}
 use Rattle.paths.specs.declared.IVec3.{IVec3}
-use Rattle.arena.specs.Tables.{Tables, cap, W, Sized}
+use Rattle.arena.specs.Tables.{Tables, W, Sized}
+use Rattle.arena.specs.Calls.{freeSlots}
 use Rattle.ledger.specs.Fates.{Lives}
 use Rattle.ledger.specs.Refusals.{Full}
 use Rattle.edit.specs.Promises.{Imagined, Missing}
@@ -30,7 +32,7 @@ pub data Beyond (d : ℕ) (p : IVec3) : Type 0 where
 
 -- a number applies to packing with the generation g
 pub data PackWhy (g : ℕ) : ℕ → Type 0 where
-  late : 0x7FFE < g → PackWhy g 12
+  late : lastPacked < g → PackWhy g 12
 
 -- a number applies to the inverse of a path code
 pub data DecodeWhy (code : ℕ) : ℕ → Type 0 where
@@ -38,21 +40,21 @@ pub data DecodeWhy (code : ℕ) : ℕ → Type 0 where
 
 -- a number applies to the child number of p at level k of depth d
 pub data ChildWhy (p : IVec3) (k d : ℕ) : ℕ → Type 0 where
-  deepChild : 6 < d → ChildWhy p k d 2
+  deepChild : deepest < d → ChildWhy p k d 2
   level : d ≤ k → ChildWhy p k d 2
   beyondChild : Beyond d p → ChildWhy p k d 3
 
 -- a number applies to a lookup below id, at depth d, of the cell p
 pub data LookWhy (t : Tables) (id d : ℕ) (p : IVec3) : ℕ → Type 0 where
   unsizedLook : (Sized t → ⊥) → LookWhy t id d p 1
-  deepLook : 6 < d → LookWhy t id d p 2
+  deepLook : deepest < d → LookWhy t id d p 2
   beyondLook : Beyond d p → LookWhy t id d p 3
   deadLook : id ≢ 0 → (Lives t id → ⊥) → LookWhy t id d p 4
 
 -- a number applies to an expansion of id at depth d into a cube of n values
 pub data ExpandWhy (t : Tables) (id d n : ℕ) : ℕ → Type 0 where
   unsizedExpand : (Sized t → ⊥) → ExpandWhy t id d n 1
-  deepExpand : 6 < d → ExpandWhy t id d n 2
+  deepExpand : deepestCube < d → ExpandWhy t id d n 2
   deadExpand : id ≢ 0 → (Lives t id → ⊥) → ExpandWhy t id d n 4
   buffer : n ≢ 8 ^ d → ExpandWhy t id d n 9
 
@@ -60,9 +62,9 @@ pub data ExpandWhy (t : Tables) (id d n : ℕ) : ℕ → Type 0 where
 -- and already has 1,000,000 holds. 11: more nodes of the result are not live than there are free slots.
 pub data EditWhy (t : Tables) (root d : ℕ) (p : IVec3) (v : ℕ) : ℕ → Type 0 where
   unsizedEdit : (Sized t → ⊥) → EditWhy t root d p v 1
-  deepEdit : 6 < d → EditWhy t root d p v 2
+  deepEdit : deepest < d → EditWhy t root d p v 2
   beyondEdit : Beyond d p → EditWhy t root d p v 3
   deadEdit : root ≢ 0 → (Lives t root → ⊥) → EditWhy t root d p v 4
   tallEdit : d < heightAt (W t) root → EditWhy t root d p v 8
   fullEdit : (c : ℕ) (W′ : Words) (r : ℕ) → Imagined t root d p v c W′ r → Lives t r → Full t r → EditWhy t root d p v 10
-  crowdedEdit : (k : ℕ) → Missing t root d p v k → cap t - 1 - t .arena .live < k → EditWhy t root d p v 11
+  crowdedEdit : (k : ℕ) → Missing t root d p v k → freeSlots (t .arena) < k → EditWhy t root d p v 11

@@ -5,6 +5,7 @@ use mathlib.Core.Bool.{Bool, true, not}
 use mathlib.Core.List.{List}
 use Prim.Native.Nat.{ℕ, _≤_}
 use lib.Dec.{eqb}
+use Rattle.basics.specs.Limits.{deepest, cubeKids, kidWords}
 use Rattle.ids.specs.declared.BlockId.{BlockId}
 use Rattle.ids.specs.Ids as ids
 use Rattle.ids_text.specs.declared.IdText.{IdText}
@@ -127,23 +128,23 @@ abbrev pub Meets : (q : Asked) → Said q → Type 0
 Meets (fresh c k f e) a = answeredOf (a .0) (a .1) (a .2) (a .3) ≡ freshOf c k f e
 Meets (hold t b) a = answeredOf (a .0) (t .nodes .kids) (a .1) (t .find) ≡ holdOf t (b .0)
 Meets (counts t b) a = counted a ≡ countsOf t (b .0)
-Meets (leaf t v) a = (n tallest : ℕ) → n ≤ 8 → Fair n tallest t → madeOf (a .0) (a .1) (a .2) (a .3) ≡ internLeafOf t v
-Meets (branch t ks) a = Fair 8 6 t → madeOf (a .0) (a .1) (a .2) (a .3) ≡ internBranchOf 8 6 t (rawIds ks)
-Meets (release t b) a = (n tallest : ℕ) → n ≤ 8 → tallest ≤ 6 → Fair n tallest t → answeredOf (a .0) (a .1) (a .2) (a .3) ≡ releaseOf t (b .0)
+Meets (leaf t v) a = (n tallest : ℕ) → n ≤ kidWords → Fair n tallest t → madeOf (a .0) (a .1) (a .2) (a .3) ≡ internLeafOf t v
+Meets (branch t ks) a = Fair cubeKids deepest t → madeOf (a .0) (a .1) (a .2) (a .3) ≡ internBranchOf cubeKids deepest t (rawIds ks)
+Meets (release t b) a = (n tallest : ℕ) → n ≤ kidWords → tallest ≤ deepest → Fair n tallest t → answeredOf (a .0) (a .1) (a .2) (a .3) ≡ releaseOf t (b .0)
 Meets (look t b d p) a = a ≡ lookOf t (b .0) d p
 Meets (expand t b d l) a = expanded (a .0) (a .1) ≡ expandOf t (b .0) d l
-Meets (edit t b d p v) a = Fair 8 6 t → madeOf (a .0) (a .1) (a .2) (a .3) ≡ editOf t (b .0) d p v
-Meets (check t) a = ((a .0 ≡ true) ↔ WellFormed 8 6 t) × (a .1 ≡ t .nodes .facts)
+Meets (edit t b d p v) a = Fair cubeKids deepest t → madeOf (a .0) (a .1) (a .2) (a .3) ≡ editOf t (b .0) d p v
+Meets (check t) a = ((a .0 ≡ true) ↔ WellFormed cubeKids deepest t) × (a .1 ≡ t .nodes .facts)
 
 -- on which tables it speaks: interning, release and edit on those that are not sized or well formed, all others on any
 abbrev pub Speaks : Asked → Type 0
 Speaks (fresh c k f e) = Unit {0}
 Speaks (hold t b) = Unit {0}
 Speaks (counts t b) = Unit {0}
-Speaks (leaf t v) = Fair 8 6 t
-Speaks (branch t ks) = Fair 8 6 t
-Speaks (release t b) = Fair 8 6 t
+Speaks (leaf t v) = Fair cubeKids deepest t
+Speaks (branch t ks) = Fair cubeKids deepest t
+Speaks (release t b) = Fair cubeKids deepest t
 Speaks (look t b d p) = Unit {0}
 Speaks (expand t b d l) = Unit {0}
-Speaks (edit t b d p v) = Fair 8 6 t
+Speaks (edit t b d p v) = Fair cubeKids deepest t
 Speaks (check t) = Unit {0}

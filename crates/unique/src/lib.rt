@@ -1,5 +1,6 @@
 // Each public call's contract determines its answer and the tables afterwards (proofs/One.antt). Nobody calls the functions below: each shows that the
 // contract of the call in its body is the one of which that is proved (specs/Asked.antt).
+use basics::KID_WORDS;
 ghost use Rattle.unique.specs.Asked.{PlainMeets, fromRaw, raw, packingNo, newLeaf, newBranch, index, generation, types, mask, hasChild, isLeaf, isBranch, isInvalid, isValid, isEmpty, text, path, position, child};
 ghost use Rattle.unique.specs.Asked.{Meets, fresh, hold, counts, leaf, branch, release, look, expand, edit, check};
 ghost use Rattle.arena.specs.Lent.{before};
@@ -167,7 +168,7 @@ fn branch_meets(
     kids: &mut [u64],
     facts: &mut [u64],
     find: &mut [u16],
-    children: [BlockId; 8],
+    children: [BlockId; KID_WORDS],
 ) -> Made
     ensures { λ r. ⌜ Meets (branch (before arena kids facts find) children) (r, now (kids .exit), now (facts .exit), now (find .exit)) ⌝ }
 {
