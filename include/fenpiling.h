@@ -173,8 +173,9 @@ fenpiling_answer fenpiling_hold(fenpiling_arena arena, const uint64_t *kids, siz
                                 const uint16_t *find, size_t find_length, uint64_t id);
 
 /* Takes one of the caller's holds. A node with no hold and no place left is recycled, its slot put on top of the freed ones, and then its children
- * lose a place each, in octant order, and go the same way; the slot freed last is given out first. EMPTY is accepted and changes nothing.
- * Refusals: 1, 4, 5. */
+ * lose a place each, in octant order, and go the same way; the slot freed last is given out first. EMPTY is accepted and changes nothing. The id of
+ * a node that is gone is refused by every call for the next 32,765 recyclings of its slot; after 32,766 it may match again and then names another node:
+ * keep an id only together with a hold. Refusals: 1, 4, 5. */
 fenpiling_answer fenpiling_release(fenpiling_arena arena, uint64_t *kids, size_t kids_length, uint64_t *facts, size_t facts_length,
                                    uint16_t *find, size_t find_length, uint64_t id);
 
@@ -183,7 +184,7 @@ fenpiling_counted fenpiling_counts(fenpiling_arena arena, const uint64_t *kids, 
                                    size_t facts_length, const uint16_t *find, size_t find_length, uint64_t id);
 
 /* Are state and tables well formed? Yes exactly then, and no with tables of other lengths. The facts are used to count in, and are afterwards as they
- * were. */
+ * were. It can't see that a hold count was changed from outside to another one in range: only the calls know how many holds were granted. */
 bool fenpiling_check(fenpiling_arena arena, const uint64_t *kids, size_t kids_length, uint64_t *facts, size_t facts_length,
                      const uint16_t *find, size_t find_length);
 

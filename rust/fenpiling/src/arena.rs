@@ -134,7 +134,8 @@ impl Arena {
         self.tables.borrow_mut().counts(id)
     }
 
-    /// Is the arena well formed? All calls keep it so.
+    /// Is the arena well formed? All calls keep it so. It can't see a hold count that something outside changed to another one in range: only the calls
+    /// know how many holds were granted.
     pub fn check(&self) -> bool {
         self.tables.borrow_mut().check()
     }

@@ -3,7 +3,8 @@ use std::fmt;
 
 /// The id of a node, as any 64 bits: leaf (bit 63), types (55 to 62), mask (47 to 54), generation (32 to 46) and index (0 to 31).
 ///
-/// An id holds nothing: the node it names may be gone, and [`Arena::hold`](crate::Arena::hold) then refuses it. Its text:
+/// An id holds nothing: the node it names may be gone, and [`Arena::hold`](crate::Arena::hold) then refuses it, but only for the next 32,765 recyclings of
+/// its slot: after 32,766 it may match again, and then it names another node. So keep a [`Root`](crate::Root), not an id. Its text:
 ///
 /// ```
 /// use fenpiling::Id;
