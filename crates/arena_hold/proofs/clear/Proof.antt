@@ -8,6 +8,7 @@ use Rattle.arena_hold.proofs.Fill.{fill-step, filled}
 use Rattle.arena_hold.proofs.clear.Statement.{statement}
 use Rattle.arena_hold.proofs.clear.Tie as tie
 
+-- invariant: the first i words are 0, the others as they were
 abbrev Inv-loop : tie.InvT-loop
 Inv-loop table₀ i₀ table i = (i ≤ length table₀) × (table ≡ replicate i 0 ++ drop i table₀) × (length table ≡ length table₀)
 

@@ -8,6 +8,7 @@ use Rattle.arena_hold.proofs.Fill.{fill-step, filled}
 use Rattle.arena_hold.proofs.clear_cells.Statement.{statement}
 use Rattle.arena_hold.proofs.clear_cells.Tie as tie
 
+-- invariant: the first i cells are 0, the others as they were
 abbrev Inv-loop : tie.InvT-loop
 Inv-loop find₀ i₀ find i = (i ≤ length find₀) × (find ≡ replicate i 0 ++ drop i find₀) × (length find ≡ length find₀)
 

@@ -6,6 +6,7 @@ use lib.ListN.{length}
 use Rattle.boundary.proofs.hold_times.Statement.{statement}
 use Rattle.boundary.proofs.hold_times.Tie as tie
 
+-- invariant: the facts keep their length
 abbrev Inv-loop : tie.InvT-loop
 Inv-loop a kids facts₀ find id times no₀ i₀ facts no' i = length facts ≡ length facts₀
 

@@ -6,6 +6,7 @@ use lib.ListN.{length}
 use Rattle.boundary.proofs.recycle.Statement.{statement}
 use Rattle.boundary.proofs.recycle.Tie as tie
 
+-- invariant: the tables keep their lengths
 abbrev Inv-loop : tie.InvT-loop
 Inv-loop kids₀ facts₀ find₀ times state₀ i₀ kids facts find state i =
     (length kids ≡ length kids₀) × (length facts ≡ length facts₀) × (length find ≡ length find₀)

@@ -18,6 +18,7 @@ module _ (ks : List ℕ) (k i : ℕ) (eight : length ks ≡ 8) (e : allOf (eqb k
   other : (getD ks i 0 ≡ k → ⊥) → false ≡ allOf (eqb k) ks
   other h = all-stop (eqb k) ks i eight e false (sym (ne-eqb k (getD ks i 0) (λ q. h (sym q)))) refl l
 
+-- invariant: whether all are k is whether all from number i on are
 abbrev Inv-loop : tie.InvT-loop
 Inv-loop k ks i₀ i = (i ≤ 8) × (length ks ≡ 8) × (allOf (eqb k) ks ≡ allOf (eqb k) (drop i ks))
 

@@ -6,6 +6,7 @@ use lib.ListN.{length}
 use Rattle.edits.proofs.fill.Statement.{statement}
 use Rattle.edits.proofs.fill.Tie as tie
 
+-- invariant: what was read fits the block, which keeps its length
 abbrev Inv-loop : tie.InvT-loop
 Inv-loop fd block₀ len₀ block len = (len ≤ length block₀) × (length block ≡ length block₀)
 

@@ -5,6 +5,7 @@ use lib.ListN.{length}
 use Rattle.edits.proofs.list_blocks.Statement.{statement}
 use Rattle.edits.proofs.list_blocks.Tie as tie
 
+-- invariant: the tables keep their lengths
 abbrev Inv-loop : tie.InvT-loop
 Inv-loop fd kids₀ facts₀ find₀ run₀ left₀ kids facts find run left =
     (length kids ≡ length kids₀) × (length facts ≡ length facts₀) × (length find ≡ length find₀)

@@ -41,6 +41,7 @@ module _ (k f : List ℕ) (s : ℕ) where
     unfolding agree
     last n h = let q : length ks ≤ j = omega arith in sym (e ∙ ap (agree W s j) (drop-of-length-le ks q))
 
+-- invariant: the contents are equal if the children from number j on are
 abbrev Inv-loop : tie.InvT-loop
 Inv-loop kids facts v s ks own j₀ j = (j ≤ 8) × (length ks ≡ 8) × (length own ≡ 8) × (own ≡ kidsOf 8 (kidOf kids) s) × (contentIs (wordOf (nodes kids facts)) ks v s ≡ agree (wordOf (nodes kids facts)) s j (drop j ks))
 

@@ -9,6 +9,7 @@ use Rattle.find.proofs.Steps.{search-start, search-on, search-end, sear
 use Rattle.find.proofs.search_leaf.Statement.{statement}
 use Rattle.find.proofs.search_leaf.Tie as tie
 
+-- invariant: the search from the home ends where a search from cell i ends
 abbrev Inv-loop : tie.InvT-loop
 Inv-loop find kids facts capacity v i₀ i = cellOf find capacity (wordOf (nodes kids facts)) noKids v ≡ probe (contentIs (wordOf (nodes kids facts)) noKids v) find i
 

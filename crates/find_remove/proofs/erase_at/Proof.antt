@@ -30,6 +30,7 @@ module _ (home : ℕ → ℕ) (u : List ℕ) (t : List ℕ) (i j : ℕ) (e : u �
   skip : (h : ℕ) → j < length t → (getD t j 0 ≡ 0 → ⊥) → h ≡ home (getD t j 0) → i < h → u ≡ shift home t i (j + 1)
   skip h l n q k = e ∙ shift-skip home t i j l n (omega arith)
 
+-- invariant: taking the cell out leaves what moving the entries from j on down into the hole leaves
 abbrev Inv-loop : tie.InvT-loop
 Inv-loop find₀ kids facts capacity at hole₀ j₀ find hole j = (hole < j) × (hole < length find) × (length find ≡ length find₀) × (erase (homeAt capacity (wordOf (nodes kids facts))) find₀ at ≡ shift (homeAt capacity (wordOf (nodes kids facts))) find hole j)
 

@@ -23,6 +23,7 @@ module _ (s : ℕ) (t : List ℕ) (h i : ℕ) (e : probe (eqb s) t h ≡ probe (
   hit : (x : ℕ) → i < length t → x ≡ getD t i 0 → s ≡ x → i ≡ probe (eqb s) t h
   hit x l d q = sym (e ∙ probe-here (eqb s) t i l (stops-same (eqb s) (getD t i 0) (eq-eqb s (getD t i 0) (q ∙ d))))
 
+-- invariant: the search for the number from its start ends where one from cell i ends
 abbrev Inv-loop : tie.InvT-loop
 Inv-loop find s from i₀ i = probe (eqb s) find from ≡ probe (eqb s) find i
 

@@ -7,6 +7,7 @@ use Rattle.ids_text.specs.Text.{hex, overwritten}
 use Rattle.ids_text.proofs.put_hex.Statement.{statement}
 use Rattle.ids_text.proofs.put_hex.Tie as tie
 
+-- invariant: the digits behind `place` are written, and `rest` is the number without them
 abbrev Inv-loop : tie.InvT-loop
 Inv-loop at n v out₀ rest₀ place₀ out rest place = (at ≤ place) × (place ≤ at + n) × (at + n ≤ 41) × (length out ≡ 41) × (rest ≡ v / 16 ^ (at + n - place)) × (out ≡ overwritten out₀ place (hex (at + n - place) v))
 

@@ -8,6 +8,7 @@ use Rattle.new_value.proofs.Steps.{sum-last, sum-node, sum-none, sum-st
 use Rattle.new_value.proofs.sums_of.Statement.{statement}
 use Rattle.new_value.proofs.sums_of.Tie as tie
 
+-- invariant: `sum` and `top` are the sum and the tallest of the first i children
 abbrev Inv-loop : tie.InvT-loop
 Inv-loop facts ks sum₀ top₀ i₀ sum top i = (i ≤ 8) × (sum ≤ 65536 * i) × (sum ≡ wrapSum (factOf facts) ks i) × (top ≡ topFor (factOf facts) ks i)
 

@@ -7,6 +7,7 @@ use Rattle.new_value.proofs.Steps.{sum-last, sum-start, sum-step}
 use Rattle.new_value.proofs.value_of.Statement.{statement}
 use Rattle.new_value.proofs.value_of.Tie as tie
 
+-- invariant: `sum` is that of the first i children
 abbrev Inv-loop : tie.InvT-loop
 Inv-loop facts ks sum₀ i₀ sum i = (i ≤ 8) × (sum ≤ 65536 * i) × (sum ≡ wrapSum (factOf facts) ks i)
 

@@ -38,6 +38,7 @@ module _ (l m : List ℕ) (at i : ℕ) (row : List ℕ) (done : putsFrom m (at +
   unfolding putsFrom
   last h = ap (putsFrom m (at + i)) (sym (drop-of-length-le row h)) ∙ done
 
+-- invariant: writing what is left of the row, from word i on, gives the whole row written
 abbrev Inv-loop : tie.InvT-loop
 Inv-loop table₀ width s row at i₀ table i = (i ≤ length row) × (at < 8 * length table₀) × (length table ≡ length table₀) × (putsFrom table (at + i) (drop i row) ≡ putsFrom table₀ at row)
 

@@ -6,6 +6,7 @@ use Rattle.paths.proofs.Calls.{gather-none, gather-one, gather-fits, ga
 use Rattle.paths.proofs.gather.Statement.{statement}
 use Rattle.paths.proofs.gather.Tie as tie
 
+-- invariant: `r` has the first n bits of the axis
 abbrev Inv-loop : tie.InvT-loop
 Inv-loop code axis r₀ n₀ r n = (n ≤ 10) × (r ≡ gather n axis code)
 

@@ -8,6 +8,7 @@ use Rattle.read_cell.proofs.Walk.{Walked, no-end, walk-none, walk-start
 use Rattle.read_cell.proofs.descend.Statement.{statement}
 use Rattle.read_cell.proofs.descend.Tie as tie
 
+-- invariant: `at` is where `level` steps of the path lead, and is no end; `word` has the steps that are left
 abbrev Inv-loop : tie.InvT-loop
 Inv-loop kids depth x y z at₀ level₀ word₀ at level word =
     (level ≤ depth) × (depth ≤ 6) × (word ≡ pathWord (depth - level) x y z) × Walked (kidOf kids) depth x y z at₀ level at × (endsAt at ≡ false)

@@ -41,6 +41,7 @@ all-at t = and 3 fill-octants-kinds.ps (is 3 fill-octants-kinds.ps μ-all t) fil
 abbrev all-below : ℕ → In 3 fill-octants-kinds.ps
 all-below t = and 3 fill-octants-kinds.ps (falls 3 fill-octants-kinds.ps _<_ μ-all t) fill-octants.Pre
 
+-- invariant: the first c parts are filled
 abbrev Inv-loop : fill-octants-lts.InvT-loop
 Inv-loop kids facts cube₀ id at left h row plane s c₀ cube c =
     (c ≤ 8) × (cube ≡ partsTo (wordOf (nodes kids facts)) 8 row plane left h id at c cube₀) × (length cube ≡ length cube₀) × (s ≡ slot id)

@@ -6,6 +6,7 @@ use Rattle.read_cube.proofs.Fill.{blockTo, block-none, block-step, bloc
 use Rattle.read_cube.proofs.fill_block.Statement.{statement}
 use Rattle.read_cube.proofs.fill_block.Tie as tie
 
+-- invariant: the first y planes are filled
 abbrev Inv-loop : tie.InvT-loop
 Inv-loop cube₀ at n row plane v y₀ cube y = (y ≤ n) × (cube ≡ blockTo row plane at n n v y cube₀) × (length cube ≡ length cube₀)
 

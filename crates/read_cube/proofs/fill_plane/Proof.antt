@@ -6,6 +6,7 @@ use Rattle.read_cube.proofs.Fill.{planeTo, plane-none, plane-step, plan
 use Rattle.read_cube.proofs.fill_plane.Statement.{statement}
 use Rattle.read_cube.proofs.fill_plane.Tie as tie
 
+-- invariant: the first z rows are filled
 abbrev Inv-loop : tie.InvT-loop
 Inv-loop cube₀ at n row v z₀ cube z = (z ≤ n) × (cube ≡ planeTo row at n v z cube₀) × (length cube ≡ length cube₀)
 

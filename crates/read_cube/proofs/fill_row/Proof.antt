@@ -7,6 +7,7 @@ use Rattle.read_cube.proofs.Fill.{row-none, row-step, row-done}
 use Rattle.read_cube.proofs.fill_row.Statement.{statement}
 use Rattle.read_cube.proofs.fill_row.Tie as tie
 
+-- invariant: the first x cells are filled
 abbrev Inv-loop : tie.InvT-loop
 Inv-loop cube₀ at n v x₀ cube x = (x ≤ n) × (cube ≡ fillRow at x v cube₀) × (length cube ≡ length cube₀)
 

@@ -4,6 +4,7 @@ use native.Mathlib.Omega.{arith}
 use Rattle.texts.proofs.main.Statement.{statement}
 use Rattle.texts.proofs.main.Tie as tie
 
+-- invariant: nothing is kept from one record to the next; `left` falls
 abbrev Inv-loop : tie.InvT-loop
 Inv-loop left₀ left = Unit {0}
 
