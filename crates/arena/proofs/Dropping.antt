@@ -245,8 +245,9 @@ dropped-trans {t} {t′} {t″} p q = record {
 dropped-refl : (t : Tables) (d : List ℕ) → Inv t d → Dropped t t d
 dropped-refl t d v = record { inv = v; frame = frame-refl (cap t) (W t); size = refl; next = refl }
 
-abbrev Good : (Tables → ℕ → Tables) → ℕ → Type 0
-Good rec k = (t : Tables) (x : ℕ) (debt : List ℕ) → Inv t (x ∷ debt) → (x ≢ 0 → W t (slot x) height < k) → Dropped t (rec t x) debt
+-- and that `more`, which goes as deep or deeper, does the same
+abbrev Good : (Tables → ℕ → Tables) → (Tables → ℕ → Tables) → ℕ → Type 0
+Good rec more k = (t : Tables) (x : ℕ) (debt : List ℕ) → Inv t (x ∷ debt) → (x ≢ 0 → W t (slot x) height < k) → Dropped t (rec t x) debt × (more t x ≡ rec t x)
 
 -- a height goes through
 low-after : (t t′ : Tables) (debt : List ℕ) (k z : ℕ) → Dropped t t′ debt → Live (cap t) (W t′) z → W t (slot z) height < k → W t′ (slot z) height < k
@@ -256,17 +257,19 @@ low-after t t′ debt k z p w h =
     let e = p .frame .kept (slot z) (w .low) (omega arith) height (omega arith) (omega arith) in
     omega arith
 
-each-good : (rec : Tables → ℕ → Tables) (k : ℕ) → Good rec k → (ys : List ℕ) (t : Tables) (debt : List ℕ) → Inv t (ys ++ debt)
+each-good : (rec more : Tables → ℕ → Tables) (k : ℕ) → Good rec more k → (ys : List ℕ) (t : Tables) (debt : List ℕ) → Inv t (ys ++ debt)
     → ((y : ℕ) → y ≢ 0 → 1 ≤ occ y ys → W t (slot y) height < k)
-    → Dropped t (each rec t ys) debt
+    → Dropped t (each rec t ys) debt × (each more t ys ≡ each rec t ys)
 unfolding each
-each-good rec k g [] t debt v h = dropped-refl t debt v
-each-good rec k g (y ∷ ys) t debt v h =
-    let r : Dropped t (rec t y) (ys ++ debt) = g t y (ys ++ debt) v (λ z. h y z (omega (arith, occ-here y ys))) in
-    dropped-trans r (each-good rec k g ys (rec t y) debt (r .inv)
+each-good rec more k g [] t debt v h = (dropped-refl t debt v, refl)
+each-good rec more k g (y ∷ ys) t debt v h =
+    let first = g t y (ys ++ debt) v (λ z. h y z (omega (arith, occ-here y ys))) in
+    let r : Dropped t (rec t y) (ys ++ debt) = first .0 in
+    let rest = each-good rec more k g ys (rec t y) debt (r .inv)
     (λ z d m.
     let w : Live (cap (rec t y)) (W (rec t y)) z = r .inv .counts .named z d (omega (arith, total-append 8 (cap (rec t y)) (W (rec t y)) z ys debt)) in
-    low-after t (rec t y) (ys ++ debt) k z r (subst (λ (c : ℕ). Live c (W (rec t y)) z) (r .size) w) (h z d (omega (arith, occ-cons z y ys)))))
+    low-after t (rec t y) (ys ++ debt) k z r (subst (λ (c : ℕ). Live c (W (rec t y)) z) (r .size) w) (h z d (omega (arith, occ-cons z y ys)))) in
+    (dropped-trans r (rest .0), ap (λ (u : Tables). each more u ys) (first .1) ∙ rest .1)
 
 recycled-dropped : (t : Tables) (x : ℕ) (debt : List ℕ) (v : Inv t (x ∷ debt)) (d : x ≢ 0) → W t (slot x) holds ≡ 0 → W t (slot x) places ≤ 1
     → Dropped t (recycled t (slot x)) (kidsOf 8 (W t) (slot x) ++ debt)
@@ -282,36 +285,55 @@ unplaced-dropped : (t : Tables) (x : ℕ) (debt : List ℕ) (v : Inv t (x ∷ de
 unfolding unplaced
 unplaced-dropped t x debt v d two = record { inv = unplaced-inv t x debt v d two; frame = unplaced-frame t x debt v d; size = refl; next = refl }
 
-one-good : (rec : Tables → ℕ → Tables) (k : ℕ) → Good rec k → Good (dropOne rec) (suc k)
+one-good : (rec more : Tables → ℕ → Tables) (k : ℕ) → Good rec more k → Good (dropOne rec) (dropOne more) (suc k)
 unfolding each
-one-good rec k g t x debt v h = cases (ℕ-discrete x 0)
+one-good rec more k g t x debt v h = cases (ℕ-discrete x 0)
     (λ (e : x ≡ 0).
-    rw (one-step t x rec _ (step-empty t x e)) (dropped-refl t debt (inv-empty t debt (subst (λ (z : ℕ). Inv t (z ∷ debt)) e v))))
+    both _ (step-empty t x e) (dropped-refl t debt (inv-empty t debt (subst (λ (z : ℕ). Inv t (z ∷ debt)) e v)), refl))
     (λ d.
     let live = debtor t x debt v d in
     let alive = v .counts .alive x live in
     cases (ℕ-discrete (W t (slot x) holds) 0)
     (λ u. cases (decLt 1 (W t (slot x) places))
-    (λ m. rw (one-step t x rec _ (step-more t x d u m)) (unplaced-dropped t x debt v d (omega arith)))
+    (λ m. both _ (step-more t x d u m) (unplaced-dropped t x debt v d (omega arith), refl))
     (λ m.
     let one : W t (slot x) places ≤ 1 = omega arith in
     let i = recycled-dropped t x debt v d u one in
-    let r = each-good rec k g (kidsOf 8 (W t) (slot x)) (recycled t (slot x)) debt (i .inv)
+    let r = each-good rec more k g (kidsOf 8 (W t) (slot x)) (recycled t (slot x)) debt (i .inv)
     (λ y z m.
     let w : Live (cap (recycled t (slot x))) (W (recycled t (slot x))) y =
     i .inv .counts .named y z (omega (arith, total-append 8 (cap (recycled t (slot x))) (W (recycled t (slot x))) y (kidsOf 8 (W t) (slot x)) debt)) in
     let p = v .counts .tall (slot x) y (live .low) z m in
     let q = h d in
     low-after t (recycled t (slot x)) (kidsOf 8 (W t) (slot x) ++ debt) k y i (subst (λ (c : ℕ). Live c (W (recycled t (slot x))) y) (i .size) w) (omega arith)) in
-    rw (one-step t x rec _ (step-last t x d u one)) (dropped-trans i r)))
+    both _ (step-last t x d u one) (dropped-trans i (r .0), r .1)))
     (λ u.
     let p = v .counts .placed x live in
     let two : 2 ≤ W t (slot x) holds + W t (slot x) places = omega (arith, total-cons 8 (cap t) (W t) x x debt, same-refl x) in
-    rw (one-step t x rec _ (step-held t x d u)) (unplaced-dropped t x debt v d two)))
+    both _ (step-held t x d u) (unplaced-dropped t x debt v d two, refl)))
+  where
+    both : (r : Step) → step t x ≡ r → Dropped t (each rec (r .after) (r .owed)) debt × (each more (r .after) (r .owed) ≡ each rec (r .after) (r .owed))
+        → Dropped t (dropOne rec t x) debt × (dropOne more t x ≡ dropOne rec t x)
+    both r e p = rw (one-step t x rec r e, one-step t x more r e) p
 
-pub drop-good : (k : ℕ) → Good (dropPlace k) k
+-- EMPTY owes nothing
+pub drop-empty : (k : ℕ) (t : Tables) (x : ℕ) → x ≡ 0 → dropPlace k t x ≡ t
+unfolding dropPlace each
+drop-empty zero t x e = refl
+drop-empty (suc k) t x e = one-step t x (dropPlace k) _ (step-empty t x e)
+
+-- k levels are enough for a node below k, and so are more
+drop-goods : (k j : ℕ) → k ≤ j → Good (dropPlace k) (dropPlace j) k
 unfolding dropPlace
-drop-good zero t x debt v h = cases (ℕ-discrete x 0)
-    (λ (e : x ≡ 0). dropped-refl t debt (inv-empty t debt (subst (λ (z : ℕ). Inv t (z ∷ debt)) e v)))
+drop-goods zero j l t x debt v h = cases (ℕ-discrete x 0)
+    (λ (e : x ≡ 0). (dropped-refl t debt (inv-empty t debt (subst (λ (z : ℕ). Inv t (z ∷ debt)) e v)), drop-empty j t x e))
     (λ d. absurd (let p = h d in omega arith))
-drop-good (suc k) t x debt v h = one-good (dropPlace k) k (drop-good k) t x debt v h
+drop-goods (suc k) zero l t x debt v h = absurd (omega arith)
+drop-goods (suc k) (suc j) l t x debt v h = one-good (dropPlace k) (dropPlace j) k (drop-goods k j (omega arith)) t x debt v h
+
+module _ (k : ℕ) (t : Tables) (x : ℕ) (debt : List ℕ) (v : Inv t (x ∷ debt)) (h : x ≢ 0 → W t (slot x) height < k) where
+  pub drop-good : Dropped t (dropPlace k t x) debt
+  drop-good = drop-goods k k (omega arith) t x debt v h .0
+
+  pub drop-enough : (j : ℕ) → k ≤ j → dropPlace j t x ≡ dropPlace k t x
+  drop-enough j l = drop-goods k j l t x debt v h .1

@@ -22,7 +22,7 @@ use Rattle.arena.specs.Calls.{deadFacts, empties, Out, did, fits, Fair, 
 use Rattle.arena.specs.Models.{settledN, unplaced, dropOne, dropPlace, moreOf, settled, releaseBy, releaseAny}
 use Rattle.arena.specs.Tables.{tablesOf, Tables, cap, W, WellFormed}
 use Rattle.arena.specs.declared.Arena.{Arena}
-use Rattle.arena.proofs.Dropping.{step-empty, step-held, step-more, step-last, one-step, Dropped, drop-good}
+use Rattle.arena.proofs.Dropping.{step-empty, step-held, step-more, step-last, one-step, Dropped, drop-good, drop-enough}
 use Rattle.arena.proofs.Fits.{live-is, release-live}
 use Rattle.arena.proofs.Ids.{node-low}
 use Rattle.arena.proofs.Inv.{sized-within, Inv, Content, Recounted, recounted-word, move-inv, wf-inv, wf-content, inv-wf, content-recount, content-frame}
@@ -207,9 +207,9 @@ module _ (t : Tables) (id : ℕ) (d : id ≢ 0) (within : Within (t .nodes) (slo
       ∙ each-nil (dropPlace k) (unplaced (settled t s) s) ∙ settled-unplaced
       ∙ sym (takes-left k holds t id d (used-hold (lessOf holds t id) id (λ q. z (sym h ∙ q)))))
 
-  pub release-takes : releaseBy t id ≡ takes 7 holds t id
+  pub release-takes : (k : ℕ) → releaseBy k t id ≡ takes (suc k) holds t id
   unfolding releaseBy dropPlace
-  release-takes = release-step 6
+  release-takes = release-step
 
 -- ---- on well-formed tables
 
@@ -232,7 +232,7 @@ pub record Released (n tallest : ℕ) (t : Tables) (id : ℕ) (t′ : Tables) : 
   pub lives : (y : ℕ) → Live (cap t) (W t′) y
       ↔ ((a : ℕ) × Live (cap t) (W t) a × (1 ≤ W (lessOf holds t id) (slot a) holds) × Under (W t) a y)
 
-module _ (n tallest : ℕ) (t : Tables) (m : n ≤ 8) (low : tallest ≤ 6) (w : WellFormed n tallest t) (id : ℕ) (live : Live (cap t) (W t) id) (held : 1 ≤ W t (slot id) holds) where
+module _ (n tallest : ℕ) (t : Tables) (m : n ≤ 8) (w : WellFormed n tallest t) (id : ℕ) (live : Live (cap t) (W t) id) (held : 1 ≤ W t (slot id) holds) where
   inv : Inv t []
   inv = wf-inv n tallest t m w
 
@@ -245,7 +245,7 @@ module _ (n tallest : ℕ) (t : Tables) (m : n ≤ 8) (low : tallest ≤ 6) (w :
   few : W t (slot id) places < (2 ^ 64 - 1)
   few = let p = inv .counts .placed id live in let q = w .sized .most in omega (arith, total-bound 8 (cap t) (W t) [] id)
 
-  pub release-by : releaseBy t id ≡ takes 7 holds t id
+  pub release-by : (k : ℕ) → releaseBy k t id ≡ takes (suc k) holds t id
   release-by = release-takes t id some inside held few
 
   pub u-word : (b f : ℕ) → f ≤ spare → f ≢ holds → f ≢ places → W (settled t (slot id)) b f ≡ W t b f
@@ -277,17 +277,24 @@ module _ (n tallest : ℕ) (t : Tables) (m : n ≤ 8) (low : tallest ≤ 6) (w :
       (λ q. let e = settled-recounted t id some inside held few .others b holds q (omega arith) in omega arith))
       (wf-content n tallest t w)
 
-  pub u-low : (b : ℕ) → b < cap t → floor ≤ W (settled t (slot id)) b own → W (settled t (slot id)) b height < 7
+  pub u-low : (b : ℕ) → b < cap t → floor ≤ W (settled t (slot id)) b own → W (settled t (slot id)) b height < suc tallest
   u-low b l h =
       let e = u-word b own (omega arith) (omega arith) (omega arith) in
       let e10 = u-word b height (omega arith) (omega arith) (omega arith) in
       let p = node-low m l (w .sized .most) (w .nodes b (l, omega arith)) in
       omega arith
 
-  dropped : Dropped (settled t (slot id)) (releaseBy t id) []
+  pub u-short : W (settled t (slot id)) (slot id) height < suc tallest
+  u-short = u-low (slot id) (live .low) (let e = u-word (slot id) own (omega arith) (omega arith) (omega arith) in let i = live .is in let h = live .high in omega arith)
+
+  dropped : Dropped (settled t (slot id)) (releaseBy tallest t id) []
   unfolding releaseBy
-  dropped = drop-good 7 (settled t (slot id)) id [] u-inv
-      (λ d. u-low (slot id) (live .low) (let e = u-word (slot id) own (omega arith) (omega arith) (omega arith) in let i = live .is in let h = live .high in omega arith))
+  dropped = drop-good (suc tallest) (settled t (slot id)) id [] u-inv (λ d. u-short)
+
+  -- to go deeper than the tallest node changes nothing
+  pub release-enough : (k : ℕ) → tallest ≤ k → releaseBy k t id ≡ releaseBy tallest t id
+  unfolding releaseBy
+  release-enough k l = drop-enough (suc tallest) (settled t (slot id)) id [] u-inv (λ d. u-short) (suc k) (omega arith)
 
   -- a hold less, and a place more
   less-u : (b f : ℕ) → f ≤ spare → f ≢ places → W (settled t (slot id)) b f ≡ W (lessOf holds t id) b f
@@ -300,20 +307,20 @@ module _ (n tallest : ℕ) (t : Tables) (m : n ≤ 8) (low : tallest ≤ 6) (w :
           (λ (q : b ≡ slot id). subst (λ (z : ℕ). W (settled t (slot id)) z holds ≡ W (lessOf holds t id) z holds) (sym q) (settled-holds t id some inside held few ∙ sym (less-at holds t id (omega arith) (omega arith))))
           (λ q. settled-recounted t id some inside held few .others b holds q (omega arith) ∙ sym (less-slot t id b q))
 
-  after-frame : Frame (cap t) (W (settled t (slot id))) (W (releaseBy t id))
-  after-frame = subst (λ (c : ℕ). Frame c (W (settled t (slot id))) (W (releaseBy t id))) u-cap (dropped .frame)
+  after-frame : Frame (cap t) (W (settled t (slot id))) (W (releaseBy tallest t id))
+  after-frame = subst (λ (c : ℕ). Frame c (W (settled t (slot id))) (W (releaseBy tallest t id))) u-cap (dropped .frame)
 
-  after-cap : cap (releaseBy t id) ≡ cap t
+  after-cap : cap (releaseBy tallest t id) ≡ cap t
   after-cap = dropped .size ∙ u-cap
 
-  after-counts : Counts 8 (cap t) (W (releaseBy t id)) []
-  after-counts = subst (λ (c : ℕ). Counts 8 c (W (releaseBy t id)) []) after-cap (dropped .inv .counts)
+  after-counts : Counts 8 (cap t) (W (releaseBy tallest t id)) []
+  after-counts = subst (λ (c : ℕ). Counts 8 c (W (releaseBy tallest t id)) []) after-cap (dropped .inv .counts)
 
-  pub release-good : Released n tallest t id (releaseBy t id)
+  pub release-good : Released n tallest t id (releaseBy tallest t id)
   release-good = record {
-    well = inv-wf n tallest (releaseBy t id) (dropped .inv)
-        (subst (λ (c : ℕ). Content n tallest c (W (releaseBy t id))) (sym after-cap)
-        (content-frame n tallest (cap t) (W (settled t (slot id))) (W (releaseBy t id)) [] m after-counts after-frame u-content));
+    well = inv-wf n tallest (releaseBy tallest t id) (dropped .inv)
+        (subst (λ (c : ℕ). Content n tallest c (W (releaseBy tallest t id))) (sym after-cap)
+        (content-frame n tallest (cap t) (W (settled t (slot id))) (W (releaseBy tallest t id)) [] m after-counts after-frame u-content));
     size = after-cap;
     frame = record {
       kept = λ b l h f k d. after-frame .kept b l h f k d ∙ less-u b f k d;
@@ -323,7 +330,7 @@ module _ (n tallest : ℕ) (t : Tables) (m : n ≤ 8) (low : tallest ≤ 6) (w :
           after-frame .held b l (omega arith) (omega arith);
     };
     lives = λ y.
-        let r = lives-iff (cap t) (W (settled t (slot id))) (W (releaseBy t id)) after-counts after-frame 7 u-low y in (
+        let r = lives-iff (cap t) (W (settled t (slot id))) (W (releaseBy tallest t id)) after-counts after-frame (suc tallest) u-low y in (
           (λ v.
               let q = r .0 v in (
                 q .0,
@@ -340,56 +347,60 @@ module _ (n tallest : ℕ) (t : Tables) (m : n ≤ 8) (low : tallest ≤ 6) (w :
         );
   }
 
--- ---- the two theorems
+-- ---- the theorems
 
-release-refused : (t : Tables) (id : ℕ) → releaseNo t id ≢ 0 → releaseAny t id ≡ releaseOf t id
-unfolding releaseAny releaseOf
-release-refused t id d = rw (ne-eqb (releaseNo t id) 0 d)
+module _ (tallest : ℕ) (t : Tables) (id : ℕ) where
+  release-refused : (k : ℕ) → releaseNo t id ≢ 0 → releaseAny k t id ≡ releaseOf tallest t id
+  unfolding releaseAny releaseOf
+  release-refused k d = rw (ne-eqb (releaseNo t id) 0 d)
 
-release-empty : (t : Tables) (id : ℕ) → id ≡ 0 → releaseAny t id ≡ releaseOf t id
-unfolding releaseAny releaseOf
-release-empty t id e = let q = takes-empty 6 holds t id e in rw (eq-eqb id 0 e, q)
+  release-empty : (k : ℕ) → id ≡ 0 → releaseAny k t id ≡ releaseOf tallest t id
+  unfolding releaseAny releaseOf
+  release-empty k e = let q = takes-empty tallest holds t id e in rw (eq-eqb id 0 e, q)
 
-release-done : (t : Tables) (id : ℕ) → releaseNo t id ≡ 0 → id ≢ 0 → releaseBy t id ≡ takes 7 holds t id → releaseAny t id ≡ releaseOf t id
-unfolding releaseAny releaseOf
-release-done t id z d e = rw (eq-eqb (releaseNo t id) 0 z, ne-eqb id 0 d) (ap (did 0) e)
+  release-done : (k : ℕ) → releaseNo t id ≡ 0 → id ≢ 0 → releaseBy k t id ≡ takes (suc tallest) holds t id → releaseAny k t id ≡ releaseOf tallest t id
+  unfolding releaseAny releaseOf
+  release-done k z d e = rw (eq-eqb (releaseNo t id) 0 z, ne-eqb id 0 d) (ap (did 0) e)
+
+  release-after-refused : releaseNo t id ≢ 0 → t ≡ releaseOf tallest t id .after
+  unfolding releaseOf
+  release-after-refused d = rw (ne-eqb (releaseNo t id) 0 d)
+
+  release-after-empty : releaseNo t id ≡ 0 → id ≡ 0 → t ≡ releaseOf tallest t id .after
+  unfolding releaseOf
+  release-after-empty z e = rw (eq-eqb (releaseNo t id) 0 z) (sym (takes-empty tallest holds t id e))
+
+  release-after : releaseNo t id ≡ 0 → takes (suc tallest) holds t id ≡ releaseOf tallest t id .after
+  unfolding releaseOf
+  release-after z = rw (eq-eqb (releaseNo t id) 0 z)
 
 release-unsized : (t : Tables) (id : ℕ) → fits t ≡ false → releaseNo t id ≢ 0
 unfolding releaseNo
 release-unsized t id u z = let y : _≡_ {A = ℕ} 1 0 = (rw u at z) in omega arith
 
--- the code's answer is the definition's
-pub release-law : (t : Tables) (id : ℕ) (x : Out) → x ≡ releaseAny t id → (n tallest : ℕ) → n ≤ 8 → tallest ≤ 6 → Fair n tallest t → x ≡ releaseOf t id
-release-law t id x e n tallest m low (inl u) = e ∙ release-refused t id (release-unsized t id u)
-release-law t id x e n tallest m low (inr w) = e ∙ cases (ℕ-discrete (releaseNo t id) 0)
+-- the code's answer, of k levels, is the definition's in every arena whose nodes are no taller
+pub release-law : (k : ℕ) (t : Tables) (id : ℕ) (x : Out) → x ≡ releaseAny k t id → (n tallest : ℕ) → n ≤ 8 → tallest ≤ k → Fair n tallest t → x ≡ releaseOf tallest t id
+release-law k t id x e n tallest m low (inl u) = e ∙ release-refused tallest t id k (release-unsized t id u)
+release-law k t id x e n tallest m low (inr w) = e ∙ cases (ℕ-discrete (releaseNo t id) 0)
     (λ z. cases (ℕ-discrete id 0)
-    (λ y. release-empty t id y)
-    (λ y. let r = release-live t id z y in release-done t id z y (release-by n tallest t m low w id (live-is t id (r .0)) (r .1))))
-    (λ z. release-refused t id z)
-
-release-after-refused : (t : Tables) (id : ℕ) → releaseNo t id ≢ 0 → t ≡ releaseOf t id .after
-unfolding releaseOf
-release-after-refused t id d = rw (ne-eqb (releaseNo t id) 0 d)
-
-release-after-empty : (t : Tables) (id : ℕ) → releaseNo t id ≡ 0 → id ≡ 0 → t ≡ releaseOf t id .after
-unfolding releaseOf
-release-after-empty t id z e = rw (eq-eqb (releaseNo t id) 0 z) (sym (takes-empty 6 holds t id e))
-
-release-after : (t : Tables) (id : ℕ) → releaseNo t id ≡ 0 → takes 7 holds t id ≡ releaseOf t id .after
-unfolding releaseOf
-release-after t id z = rw (eq-eqb (releaseNo t id) 0 z)
+    (λ y. release-empty tallest t id k y)
+    (λ y.
+    let r = release-live t id z y in
+    let v = live-is t id (r .0) in
+    release-done tallest t id k z y (release-enough n tallest t m w id v (r .1) k low ∙ release-by n tallest t m w id v (r .1) tallest)))
+    (λ z. release-refused tallest t id k z)
 
 -- an accepted release of a node
-pub release-released : (n tallest : ℕ) (t : Tables) (id : ℕ) → n ≤ 8 → tallest ≤ 6 → WellFormed n tallest t → releaseNo t id ≡ 0 → id ≢ 0 → Released n tallest t id (releaseOf t id .after)
-release-released n tallest t id m low w z y =
+pub release-released : (n tallest : ℕ) (t : Tables) (id : ℕ) → n ≤ 8 → WellFormed n tallest t → releaseNo t id ≡ 0 → id ≢ 0 → Released n tallest t id (releaseOf tallest t id .after)
+release-released n tallest t id m w z y =
     let r = release-live t id z y in
-    subst (λ (u : Tables). Released n tallest t id u) (release-by n tallest t m low w id (live-is t id (r .0)) (r .1) ∙ release-after t id z)
-    (release-good n tallest t m low w id (live-is t id (r .0)) (r .1))
+    subst (λ (u : Tables). Released n tallest t id u) (release-by n tallest t m w id (live-is t id (r .0)) (r .1) tallest ∙ release-after tallest t id z)
+    (release-good n tallest t m w id (live-is t id (r .0)) (r .1))
 
 -- and well formed stays well formed
-pub release-well : (n tallest : ℕ) (t : Tables) (id : ℕ) → n ≤ 8 → tallest ≤ 6 → WellFormed n tallest t → WellFormed n tallest (releaseOf t id .after)
-release-well n tallest t id m low w = cases (ℕ-discrete (releaseNo t id) 0)
+pub release-well : (n tallest : ℕ) (t : Tables) (id : ℕ) → n ≤ 8 → WellFormed n tallest t → WellFormed n tallest (releaseOf tallest t id .after)
+release-well n tallest t id m w = cases (ℕ-discrete (releaseNo t id) 0)
     (λ z. cases (ℕ-discrete id 0)
-    (λ y. subst (λ (u : Tables). WellFormed n tallest u) (release-after-empty t id z y) w)
-    (λ y. release-released n tallest t id m low w z y .well))
-    (λ z. subst (λ (u : Tables). WellFormed n tallest u) (release-after-refused t id z) w)
+    (λ y. subst (λ (u : Tables). WellFormed n tallest u) (release-after-empty tallest t id z y) w)
+    (λ y. release-released n tallest t id m w z y .well))
+    (λ z. subst (λ (u : Tables). WellFormed n tallest u) (release-after-refused tallest t id z) w)

@@ -6,7 +6,7 @@ use mathlib.Core.List.{List, [], _∷_}
 use Prim.Native.Nat.{ℕ, zero, suc, _+_, _-_, _*_, _^_}
 use lib.Dec.{eqb, leb, ltb}
 use lib.ListN.{length, replicate}
-use Rattle.basics.specs.Limits.{deepest, kidWords, factWords, slotCells, leastSlots, mostSlots, mostHolds}
+use Rattle.basics.specs.Limits.{kidWords, factWords, slotCells, leastSlots, mostSlots, mostHolds}
 use Rattle.basics.specs.Pick.{pick}
 use Rattle.ids.specs.Ids.{empty, invalid, isLeaf, generationOf}
 use Rattle.nodes.specs.Tally.{occ, kidsOf}
@@ -189,8 +189,9 @@ unfoldable pub releaseNo : Tables → ℕ → ℕ
 releaseNo t id =
     pick (fits t) (pick (eqb id 0) 0 (pick (liveOf (cap t) (W t) id) (pick (eqb (W t (slot id) holds) 0) 5 0) 4)) 1
 
-unfoldable pub releaseOf : Tables → ℕ → Out
-releaseOf t id = pick (eqb (releaseNo t id) 0) (did 0 (takes (suc deepest) holds t id)) (did (releaseNo t id) t)
+-- in an arena whose nodes are at most so tall
+unfoldable pub releaseOf : ℕ → Tables → ℕ → Out
+releaseOf tallest t id = pick (eqb (releaseNo t id) 0) (did 0 (takes (suc tallest) holds t id)) (did (releaseNo t id) t)
 
 -- ## Hold: EMPTY is accepted and changes nothing. Refusals 1, 4, 10
 

@@ -3,7 +3,7 @@ use mathlib.Core.List.{List, []}
 use Prim.Native.Nat.{ℕ, zero, suc, _+_, _-_, _/_, _%_, _^_}
 use lib.Dec.{eqb, leb, ltb}
 use lib.ListN.{getD, set}
-use Rattle.basics.specs.Limits.{deepest, kidWords}
+use Rattle.basics.specs.Limits.{kidWords}
 use Rattle.basics.specs.Pick.{pick}
 use Rattle.basics.specs.Sums.{sumTo}
 use Rattle.ids.specs.Ids.{generationOf, newLeaf, newBranch}
@@ -115,11 +115,11 @@ settledN x s = putOf (putOf x s holds (wordOf x s holds - 1)) s places (moreOf (
 unfoldable pub settled : Tables → ℕ → Tables
 settled t s = tablesOf (t .arena) (settledN (t .nodes) s) (t .find)
 
-unfoldable pub releaseBy : Tables → ℕ → Tables
-releaseBy t id = dropPlace (suc deepest) (settled t (slot id)) id
+unfoldable pub releaseBy : ℕ → Tables → ℕ → Tables
+releaseBy tallest t id = dropPlace (suc tallest) (settled t (slot id)) id
 
-unfoldable pub releaseAny : Tables → ℕ → Out
-releaseAny t id = pick (eqb (releaseNo t id) 0) (did 0 (pick (eqb id 0) t (releaseBy t id))) (did (releaseNo t id) t)
+unfoldable pub releaseAny : ℕ → Tables → ℕ → Out
+releaseAny tallest t id = pick (eqb (releaseNo t id) 0) (did 0 (pick (eqb id 0) t (releaseBy tallest t id))) (did (releaseNo t id) t)
 
 -- ## Intern branch
 

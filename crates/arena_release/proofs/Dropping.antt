@@ -275,7 +275,7 @@ module _ (left c n tp lv i : ℕ) (k f e l : List ℕ) (t₀ : Tables) (eight : 
 -- ---- a hold
 
 module _ (a : Arena) (k f e : List ℕ) (id : ℕ) where
-  pub release-empty : id ≡ 0 → tables a k f e ≡ pick (eqb id 0) (tables a k f e) (releaseBy (tables a k f e) id)
+  pub release-empty : id ≡ 0 → tables a k f e ≡ pick (eqb id 0) (tables a k f e) (releaseBy 6 (tables a k f e) id)
   release-empty z = rw (eq-eqb id 0 z)
 
   module _ (s : ℕ) (m m′ : List ℕ) (r : Bool) (d : id ≡ 0 → ⊥) (es : s ≡ slot id)
@@ -284,12 +284,12 @@ module _ (a : Arena) (k f e : List ℕ) (id : ℕ) where
     unfolding settled settledN putOf wordOf
     settled-is = ap (λ (l : List ℕ). tables a k l e) (em ∙ ap (λ (z : ℕ). factPut (factPut f z holds (factOf f z holds - 1)) z places (moreOf (factOf f z places))) es)
 
-    by-drop : (x : Tables) → x ≡ dropPlace 7 (tables a k m e) id → x ≡ pick (eqb id 0) (tables a k f e) (releaseBy (tables a k f e) id)
+    by-drop : (x : Tables) → x ≡ dropPlace 7 (tables a k m e) id → x ≡ pick (eqb id 0) (tables a k f e) (releaseBy 6 (tables a k f e) id)
     unfolding releaseBy
     by-drop x ex = rw (ne-eqb id 0 d) (ex ∙ ap (λ (t : Tables). dropPlace 7 t id) settled-is)
 
-    pub release-stays : r ≡ false → tables a k m′ e ≡ pick (eqb id 0) (tables a k f e) (releaseBy (tables a k f e) id)
+    pub release-stays : r ≡ false → tables a k m′ e ≡ pick (eqb id 0) (tables a k f e) (releaseBy 6 (tables a k f e) id)
     release-stays z = by-drop (tables a k m′ e) (drop-taken 6 a k m e id r m′ er et z)
 
-    pub release-goes : (x : Tables) → r ≡ true → x ≡ dropSlot 6 (tables a k m′ e) s → x ≡ pick (eqb id 0) (tables a k f e) (releaseBy (tables a k f e) id)
+    pub release-goes : (x : Tables) → r ≡ true → x ≡ dropSlot 6 (tables a k m′ e) s → x ≡ pick (eqb id 0) (tables a k f e) (releaseBy 6 (tables a k f e) id)
     release-goes x z ex = by-drop x (drop-last 6 a k m e id r m′ s x er et z es ex)

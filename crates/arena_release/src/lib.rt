@@ -181,9 +181,9 @@ fn drop_all(
     b
 }
 
-// Takes one hold from the node of `id`; EMPTY: nothing. Seven levels are enough: no node is taller than 6.
+// Takes one hold from the node of `id`; EMPTY: nothing. No node is taller than TALLEST, so one level more is enough.
 fn release_at(a: Arena, kids: &mut [u64], facts: &mut [u64], find: &mut [u16], id: u64) -> Arena
-    ensures { λ r. ⌜ after r kids facts find ≡ pick (eqb id 0) (before a kids facts find) (releaseBy (before a kids facts find) id) ⌝ }
+    ensures { λ r. ⌜ after r kids facts find ≡ pick (eqb id 0) (before a kids facts find) (releaseBy deepest (before a kids facts find) id) ⌝ }
 {
     if id == 0 {
         return a;
@@ -228,7 +228,7 @@ fn release_no(a: Arena, kids: &[u64], facts: &[u64], find: &[u16], id: u64) -> u
 
 // Release on any tables.
 fn release_any(a: Arena, kids: &mut [u64], facts: &mut [u64], find: &mut [u16], id: u64) -> Answer
-    ensures { λ r. ⌜ answered r kids facts find ≡ releaseAny (before a kids facts find) id ⌝ }
+    ensures { λ r. ⌜ answered r kids facts find ≡ releaseAny deepest (before a kids facts find) id ⌝ }
 {
     let no = release_no(a, kids, facts, find, id);
     if no != 0 {
@@ -246,7 +246,7 @@ pub fn release(
     find: &mut [u16],
     id: BlockId,
 ) -> Answer
-    ensures { λ r. ⌜ ((n tallest : ℕ) → n ≤ kidWords → tallest ≤ deepest → Fair n tallest (before arena kids facts find) → answered r kids facts find ≡ releaseOf (before arena kids facts find) (id .0)) ⌝ }
+    ensures { λ r. ⌜ ((n tallest : ℕ) → n ≤ kidWords → tallest ≤ deepest → Fair n tallest (before arena kids facts find) → answered r kids facts find ≡ releaseOf tallest (before arena kids facts find) (id .0)) ⌝ }
 {
     release_any(arena, kids, facts, find, id.0)
 }

@@ -68,7 +68,7 @@ size-two : cap (freshOf 2 (zeros 16) (zeros 14) (zeros 6) .after) ≡ 2
 unfolding freshOf fitOf
 size-two = refl
 
-module _ (n tallest : ℕ) (m : n ≤ 8) (low : tallest ≤ 6) where
+module _ (n tallest : ℕ) (m : n ≤ 8) where
   leaf-taken : (t : Tables) → WellFormed n tallest t → cap t ≡ 2 → Bare t → internLeafOf t 1 .no ≡ 0
   leaf-taken t w two none =
       leaf-ways t 1
@@ -105,9 +105,9 @@ module _ (n tallest : ℕ) (m : n ≤ 8) (low : tallest ≤ 6) where
             );
       }
 
-  release-taken : (t : Tables) (z : ℕ) → One n tallest t z → releaseOf t z .no ≡ 0
+  release-taken : (t : Tables) (z : ℕ) → One n tallest t z → releaseOf tallest t z .no ≡ 0
   release-taken t z o =
-      release-ways t z
+      release-ways tallest t z
       (λ f e. absurd (let s = sized-fits t (o .well .sized) in true≢false (sym s ∙ f)))
       (λ f q e. ap (λ (x : Out). x .no) e)
       (λ f q l e. absurd (let s = live-true t z (o .has .live) in true≢false (sym s ∙ l)))
@@ -116,31 +116,31 @@ module _ (n tallest : ℕ) (m : n ≤ 8) (low : tallest ≤ 6) where
 
   module _ (t : Tables) (z : ℕ) (o : One n tallest t z) where
     abbrev after : Tables
-    after = releaseOf t z .after
+    after = releaseOf tallest t z .after
 
-    freed : Does n tallest t after (λ y. 0) (λ y. ifAccepted (releaseOf t z) (on y z)) (ended t after)
-    freed = release-does n tallest m t (o .well) low z
+    freed : Does n tallest t after (λ y. 0) (λ y. ifAccepted (releaseOf tallest t z) (on y z)) (ended t after)
+    freed = release-does n tallest m t (o .well) z
 
     after-well : WellFormed n tallest after
     after-well = freed .well
 
-    none-left : holdsOn t z + 0 ≡ ifAccepted (releaseOf t z) (on z z)
-    none-left = omega (arith, o .once, accepted (releaseOf t z) (on z z) (release-taken t z o), on-same z z (live-nonzero (o .has .live)) refl)
+    none-left : holdsOn t z + 0 ≡ ifAccepted (releaseOf tallest t z) (on z z)
+    none-left = omega (arith, o .once, accepted (releaseOf tallest t z) (on z z) (release-taken t z o), on-same z z (live-nonzero (o .has .live)) refl)
 
     gone : Lives after z → ⊥
     gone = gone-exactly n tallest m (o .well) freed z (o .has .live) .1 (
       none-left,
       (λ b l.
-          let e : b ≡ z = o .only b (release-makes-none n tallest t m low (o .well) z .stays b l .0) in
+          let e : b ≡ z = o .only b (release-makes-none n tallest t m (o .well) z .stays b l .0) in
           let lz : Lives after z = subst (λ (x : ℕ). Lives after x) e l in
-          let s = release-makes-none n tallest t m low (o .well) z .stays z lz .1 in
+          let s = release-makes-none n tallest t m (o .well) z .stays z lz .1 in
           let k : kidsOf 8 (W after) (slot b) ≡ empties = ap (λ (x : ℕ). kidsOf 8 (W after) (slot x)) e ∙ kids-same 8 (W t) (W after) (slot z) (λ i j. sym (s i (omega arith))) ∙ o .has .kids in
           ap (occ z) k ∙ empties-none z (live-nonzero (o .has .live))),
     )
 
     after-bare : Bare after
     after-bare y l =
-        let e : y ≡ z = o .only y (release-makes-none n tallest t m low (o .well) z .stays y l .0) in
+        let e : y ≡ z = o .only y (release-makes-none n tallest t m (o .well) z .stays y l .0) in
         gone (subst (λ (x : ℕ). Lives after x) e l)
 
     after-two : cap after ≡ 2
@@ -164,7 +164,7 @@ module _ (n tallest : ℕ) (m : n ≤ 8) (low : tallest ≤ 6) where
   -- For any kind of steps in which a leaf of value 1 can be interned, and an id released.
   module _ (Step : Stepping) (does : (t u : Tables) (g k j : ℕ → ℕ) → WellFormed n tallest t → Step t u g k j → Does n tallest t u g k j)
       (leaf : (t : Tables) → Step t (internLeafOf t 1 .after) (λ y. ifAccepted (internLeafOf t 1) (on y (internLeafOf t 1 .id))) (λ y. 0) (ended t (internLeafOf t 1 .after)))
-      (release : (t : Tables) (id : ℕ) → Step t (releaseOf t id .after) (λ y. 0) (λ y. ifAccepted (releaseOf t id) (on y id)) (ended t (releaseOf t id .after))) where
+      (release : (t : Tables) (id : ℕ) → Step t (releaseOf tallest t id .after) (λ y. 0) (λ y. ifAccepted (releaseOf tallest t id) (on y id)) (ended t (releaseOf tallest t id .after))) where
     -- k rounds
     record Rounds (k : ℕ) (t : Tables) : Type 0 where
       u : Tables
@@ -180,13 +180,13 @@ module _ (n tallest : ℕ) (m : n ≤ 8) (low : tallest ≤ 6) where
     rounds zero t y o = record { u = t; z = y; granted = λ y. 0; taken = λ y. 0; times = λ s. 0; since = now; one = o; often = refl }
     rounds (suc k) t y o =
         let r = rounds k t y o in
-        let a = releaseOf (r .u) (r .z) .after in
+        let a = releaseOf tallest (r .u) (r .z) .after in
         let b = internLeafOf a 1 .after in
         record {
           u = b;
           z = internLeafOf a 1 .id;
           granted = λ y. r .granted y + 0 + ifAccepted (internLeafOf a 1) (on y (internLeafOf a 1 .id));
-          taken = λ y. r .taken y + ifAccepted (releaseOf (r .u) (r .z)) (on y (r .z)) + 0;
+          taken = λ y. r .taken y + ifAccepted (releaseOf tallest (r .u) (r .z)) (on y (r .z)) + 0;
           times = λ s. r .times s + ended (r .u) a s + ended a b s;
           since = then (then (r .since) (release (r .u) (r .z))) (leaf a);
           one = again (r .u) (r .z) (r .one);

@@ -44,7 +44,7 @@ module _ (n tallest : ℕ) (m : n ≤ 8) (t : Tables) (w : WellFormed n tallest 
   hold-does id = grew (hold-well n tallest t id m w) (hold-ends-none t id) (hold-balanced n tallest t w id) (hold-same-gens t id)
 
   -- A release takes one.
-  pub release-does : tallest ≤ 6 → (id : ℕ) → Does n tallest t (releaseOf t id .after) (λ y. 0) (λ y. ifAccepted (releaseOf t id) (on y id)) (ended t (releaseOf t id .after))
-  release-does low id =
-      shrunk n tallest m t (releaseOf t id .after) w (λ y. 0) (λ y. ifAccepted (releaseOf t id) (on y id)) (release-well n tallest t id m low w)
-      (release-makes-none n tallest t m low w id) (release-balanced n tallest t m low w id) (release-advances n tallest t m low w id)
+  pub release-does : (id : ℕ) → Does n tallest t (releaseOf tallest t id .after) (λ y. 0) (λ y. ifAccepted (releaseOf tallest t id) (on y id)) (ended t (releaseOf tallest t id .after))
+  release-does id =
+      shrunk n tallest m t (releaseOf tallest t id .after) w (λ y. 0) (λ y. ifAccepted (releaseOf tallest t id) (on y id)) (release-well n tallest t id m w)
+      (release-makes-none n tallest t m w id) (release-balanced n tallest t m w id) (release-advances n tallest t m w id)

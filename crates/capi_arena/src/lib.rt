@@ -78,7 +78,7 @@ pub extern "C" fn fenpiling_release(
     find: &mut [u16],
     id: u64,
 ) -> Answer
-    ensures { λ r. ⌜ ((n tallest : ℕ) → n ≤ kidWords → tallest ≤ deepest → Fair n tallest (before arena kids facts find) → answered r kids facts find ≡ releaseOf (before arena kids facts find) id) ⌝ }
+    ensures { λ r. ⌜ ((n tallest : ℕ) → n ≤ kidWords → tallest ≤ deepest → Fair n tallest (before arena kids facts find) → answered r kids facts find ≡ releaseOf tallest (before arena kids facts find) id) ⌝ }
 {
     arena_release::release(arena, kids, facts, find, BlockId(id))
 }

@@ -29,7 +29,7 @@ edit-unsized : (t : Tables) (root d : ℕ) (p : IVec3) (v : ℕ) → fits t ≡ 
 unfolding editOf editNo lookNo
 edit-unsized t root d p v f = rw f
 
-release-unsized : (t : Tables) (id : ℕ) → fits t ≡ false → releaseOf t id .after ≡ t
+release-unsized : (t : Tables) (id : ℕ) → fits t ≡ false → releaseOf 6 t id .after ≡ t
 unfolding releaseOf releaseNo
 release-unsized t id f = rw f
 
@@ -37,13 +37,13 @@ pub edit-fair : (t : Tables) (root d : ℕ) (p : IVec3) (v : ℕ) → v < 65536 
 edit-fair t root d p v h (inl f) = inl (ap fits (edit-unsized t root d p v f) ∙ f)
 edit-fair t root d p v h (inr w) = inr (edit-well t w root d p v (omega arith))
 
-pub release-fair : (t : Tables) (id : ℕ) → Fair 8 6 t → Fair 8 6 (releaseOf t id .after)
+pub release-fair : (t : Tables) (id : ℕ) → Fair 8 6 t → Fair 8 6 (releaseOf 6 t id .after)
 release-fair t id (inl f) = inl (ap fits (release-unsized t id f) ∙ f)
-release-fair t id (inr w) = inr (release-well 8 6 t id (omega arith) (omega arith) w)
+release-fair t id (inr w) = inr (release-well 8 6 t id (omega arith) w)
 
 -- ---- accepted, and refused
 
-pub step-accepted : (s : State) (o : Out) → o .no ≡ 0 → stepTo s o ≡ record { tables = releaseOf (o .after) (s .root) .after; root = o .id; count = counted (s .count) }
+pub step-accepted : (s : State) (o : Out) → o .no ≡ 0 → stepTo s o ≡ record { tables = releaseOf 6 (o .after) (s .root) .after; root = o .id; count = counted (s .count) }
 unfolding stepTo
 step-accepted s o z = rw (eq-eqb (o .no) 0 z)
 
@@ -81,7 +81,7 @@ module _ (run : Run) (k f e : List ℕ) (p : IVec3) (v : ℕ) (small : v < 65536
   )
 
   pub once-accepted : m .no ≡ 0 → (r : Answer) (k₂ f₂ e₂ : List ℕ)
-      → ((n tallest : ℕ) → n ≤ 8 → tallest ≤ 6 → Fair n tallest (tables (m .arena) k₁ f₁ e₁) → answeredOf r k₂ f₂ e₂ ≡ releaseOf (tables (m .arena) k₁ f₁ e₁) (run .root .0))
+      → ((n tallest : ℕ) → n ≤ 8 → tallest ≤ 6 → Fair n tallest (tables (m .arena) k₁ f₁ e₁) → answeredOf r k₂ f₂ e₂ ≡ releaseOf tallest (tables (m .arena) k₁ f₁ e₁) (run .root .0))
       → Fair 8 6 (tables (run .arena) k f e)
       → Fair 8 6 (tables (r .arena) k₂ f₂ e₂)
       × (_≡_ {A = Stepped} (record { state = record { tables = tables (r .arena) k₂ f₂ e₂; root = m .id .0; count = j }; no = 0 }) (steppedOf (stateOf run k f e) p v))
@@ -90,7 +90,7 @@ module _ (run : Run) (k f e : List ℕ) (p : IVec3) (v : ℕ) (small : v < 65536
       let q = released 8 6 (omega arith) (omega arith) (after-edit fair) in (
         subst (λ (o : Out). Fair 8 6 (o .after)) (sym q) (release-fair t (run .root .0) (after-edit fair)),
         ap (λ (o : Out). record { state = record { tables = o .after; root = m .id .0; count = j }; no = 0 }) q
-            ∙ ap (λ (i : ℕ). record { state = record { tables = releaseOf t (run .root .0) .after; root = m .id .0; count = i }; no = 0 }) (count-by (run .count) j more)
+            ∙ ap (λ (i : ℕ). record { state = record { tables = releaseOf 6 t (run .root .0) .after; root = m .id .0; count = i }; no = 0 }) (count-by (run .count) j more)
             ∙ ap (λ (s : State). record { state = s; no = 0 }) (sym (step-accepted (stateOf run k f e) (madeOf m k₁ f₁ e₁) z))
             ∙ ap (λ (i : ℕ). record { state = stepTo (stateOf run k f e) (madeOf m k₁ f₁ e₁); no = i }) (sym z)
             ∙ stepped-by (stateOf run k f e) p v (madeOf m k₁ f₁ e₁) (edited fair),

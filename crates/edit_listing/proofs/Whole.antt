@@ -30,7 +30,7 @@ value-small b h i = omega (arith, h (8 * i + 6), h (8 * i + 6 + 1))
 
 pub step-well : (s : State) (o : Out) → WellFormed 8 6 (o .after) → WellFormed 8 6 (stepTo s o .tables)
 step-well s o w = cases (ℕ-discrete (o .no) 0)
-    (λ z. subst (λ (t : State). WellFormed 8 6 (t .tables)) (sym (step-accepted s o z)) (release-well 8 6 (o .after) (s .root) (omega arith) (omega arith) w))
+    (λ z. subst (λ (t : State). WellFormed 8 6 (t .tables)) (sym (step-accepted s o z)) (release-well 8 6 (o .after) (s .root) (omega arith) w))
     (λ z. subst (λ (t : State). WellFormed 8 6 (t .tables)) (sym (step-refused s o z)) w)
 
 -- well-formed tables are well formed after any number of records

@@ -81,7 +81,7 @@ editIn s p v = editOf (s .tables) (s .root) deepest p v
 unfoldable pub stepTo : State → Out → State
 stepTo s o =
     pick (eqb (o .no) 0)
-    (record { tables = releaseOf (o .after) (s .root) .after; root = o .id; count = counted (s .count) })
+    (record { tables = releaseOf deepest (o .after) (s .root) .after; root = o .id; count = counted (s .count) })
     (record { tables = o .after; root = s .root; count = counted (s .count) })
 
 unfoldable pub stepOf : State → IVec3 → ℕ → State

@@ -3,7 +3,7 @@ use mathlib.Core.Path.{_≡_, refl, sym, ap, _∙_, subst}
 use mathlib.Core.Logic.{_≢_, _⊎_}
 use mathlib.Core.Bool.{true≢false}
 use mathlib.Core.List.{List, []}
-use Prim.Native.Nat.{ℕ, _+_, _-_, _≤_, _<_}
+use Prim.Native.Nat.{ℕ, suc, _+_, _-_, _≤_, _<_}
 use native.Mathlib.Decide.{ℕ-discrete, decLt}
 use native.Mathlib.Omega.{arith}
 use lib.Dec.{eqb}
@@ -405,18 +405,18 @@ module _ (n tallest : ℕ) (t u : Tables) (id : ℕ) (r : Released n tallest t i
   node-released : ReleaseBalance id t (said 0 empty u)
   node-released y = omega (arith, accepted (said 0 empty u) (on y id) refl, released-balance y)
 
-pub release-balanced : (n tallest : ℕ) (t : Tables) → n ≤ 8 → tallest ≤ 6 → WellFormed n tallest t → (id : ℕ) → ReleaseBalance id t (releaseOf t id)
-release-balanced n tallest t m low w id =
-    release-ways t id
+pub release-balanced : (n tallest : ℕ) (t : Tables) → n ≤ 8 → WellFormed n tallest t → (id : ℕ) → ReleaseBalance id t (releaseOf tallest t id)
+release-balanced n tallest t m w id =
+    release-ways tallest t id
     (λ f e. to e (release-nothing t id 1 (λ y. unaccepted (said 1 empty t) (on y id) (omega arith))))
     (λ f z e. to e (release-nothing t id 0 (λ y. accepted (said 0 empty t) (on y id) refl ∙ on-zero y id z)))
     (λ f z l e. to e (release-nothing t id 4 (λ y. unaccepted (said 4 empty t) (on y id) (omega arith))))
     (λ f z l r e. to e (release-nothing t id 5 (λ y. unaccepted (said 5 empty t) (on y id) (omega arith))))
     (λ f z l r k e.
-    let d : Released n tallest t id (takes 7 holds t id) = subst (λ (o : Out). Released n tallest t id (o .after)) e (release-released n tallest t id m low w k z) in
-    to e (node-released n tallest t (takes 7 holds t id) id d (live-is t id l) r))
+    let d : Released n tallest t id (takes (suc tallest) holds t id) = subst (λ (o : Out). Released n tallest t id (o .after)) e (release-released n tallest t id m w k z) in
+    to e (node-released n tallest t (takes (suc tallest) holds t id) id d (live-is t id l) r))
   where
-    to : {o : Out} → releaseOf t id ≡ o → ReleaseBalance id t o → ReleaseBalance id t (releaseOf t id)
+    to : {o : Out} → releaseOf tallest t id ≡ o → ReleaseBalance id t o → ReleaseBalance id t (releaseOf tallest t id)
     to e x = subst (λ (o : Out). ReleaseBalance id t o) (sym e) x
 
 -- ---- what a call of counts says

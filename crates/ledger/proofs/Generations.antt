@@ -113,12 +113,12 @@ hold-same-gens t id b =
     to e x = subst (λ (o : Out). generationOf (W (o .after) b own) ≡ generationOf (W t b own)) (sym e) x
 
 -- A slot whose node ends in a release, which is then recycled, has the generation one higher, or 0 where that would reach 0x7FFE; every other slot keeps its own.
-pub release-advances : (n tallest : ℕ) (t : Tables) → n ≤ 8 → tallest ≤ 6 → WellFormed n tallest t → (id s : ℕ) → s < cap t → Advances t (releaseOf t id .after) s
-release-advances n tallest t m low w id s l =
-    release-ways t id (λ f e. to e stay) (λ f z e. to e stay) (λ f z v e. to e stay) (λ f z v r e. to e stay)
-    (λ f z v r k e. to e (recycles-advances t (takes 7 holds t id) (takes-recycles n tallest t m low w id (live-is t id v) (omega arith)) s l))
+pub release-advances : (n tallest : ℕ) (t : Tables) → n ≤ 8 → WellFormed n tallest t → (id s : ℕ) → s < cap t → Advances t (releaseOf tallest t id .after) s
+release-advances n tallest t m w id s l =
+    release-ways tallest t id (λ f e. to e stay) (λ f z e. to e stay) (λ f z v e. to e stay) (λ f z v r e. to e stay)
+    (λ f z v r k e. to e (recycles-advances t (takes (suc tallest) holds t id) (takes-recycles n tallest t m w id (live-is t id v) (omega arith)) s l))
   where
-    to : {o : Out} → releaseOf t id ≡ o → Advances t (o .after) s → Advances t (releaseOf t id .after) s
+    to : {o : Out} → releaseOf tallest t id ≡ o → Advances t (o .after) s → Advances t (releaseOf tallest t id .after) s
     to e x = subst (λ (o : Out). Advances t (o .after) s) (sym e) x
 
     stay : Advances t t s

@@ -124,16 +124,16 @@ hold-makes-none t id y =
     to e x = subst (λ (o : Out). Lives (o .after) y → Lives t y) (sym e) x
 
 -- Releasing makes no node: each that is there afterwards was there before, as it is.
-pub release-makes-none : (n tallest : ℕ) (t : Tables) → n ≤ 8 → tallest ≤ 6 → WellFormed n tallest t → (id : ℕ) → Grew (releaseOf t id .after) t
-release-makes-none n tallest t m low w id =
-    release-ways t id (λ f e. to e (grew-refl t)) (λ f z e. to e (grew-refl t)) (λ f z l e. to e (grew-refl t)) (λ f z l r e. to e (grew-refl t))
+pub release-makes-none : (n tallest : ℕ) (t : Tables) → n ≤ 8 → WellFormed n tallest t → (id : ℕ) → Grew (releaseOf tallest t id .after) t
+release-makes-none n tallest t m w id =
+    release-ways tallest t id (λ f e. to e (grew-refl t)) (λ f z e. to e (grew-refl t)) (λ f z l e. to e (grew-refl t)) (λ f z l r e. to e (grew-refl t))
     (λ f z l r k e.
-    let u = releaseOf t id .after in
-    let d = release-released n tallest t id m low w k z in
+    let u = releaseOf tallest t id .after in
+    let d = release-released n tallest t id m w k z in
     let v = live-is t id l in
     record { size = sym (d .size); stays = λ y a. (released-old n tallest t u id d v r y a, (λ g b. sym (released-kept n tallest t u id d v r y a g b))) })
   where
-    to : {o : Out} → releaseOf t id ≡ o → Grew (o .after) t → Grew (releaseOf t id .after) t
+    to : {o : Out} → releaseOf tallest t id ≡ o → Grew (o .after) t → Grew (releaseOf tallest t id .after) t
     to e x = subst (λ (o : Out). Grew (o .after) t) (sym e) x
 
 -- ---- what a release leaves, said of the tables before it
@@ -172,16 +172,16 @@ released-left n tallest t u id r v held y =
     left a w = ap (λ (k : ℕ). W (lessOf holds t id) (slot a) holds + k) (accepted (record { no = 0; id = 0; after = u }) (on a id) refl) ∙ less-on n tallest t u id r v held a w
 
 -- After a release a node is live exactly if, before it, it was at or below a node on which a hold is left once the one is given back.
-pub release-leaves : (n tallest : ℕ) (t : Tables) → n ≤ 8 → tallest ≤ 6 → WellFormed n tallest t → (id y : ℕ)
-    → Lives (releaseOf t id .after) y ↔ ((a : ℕ) × Lives t a × (ifAccepted (releaseOf t id) (on a id) < holdsOn t a) × Under (W t) a y)
-release-leaves n tallest t m low w id y =
-    release-ways t id
+pub release-leaves : (n tallest : ℕ) (t : Tables) → n ≤ 8 → WellFormed n tallest t → (id y : ℕ)
+    → Lives (releaseOf tallest t id .after) y ↔ ((a : ℕ) × Lives t a × (ifAccepted (releaseOf tallest t id) (on a id) < holdsOn t a) × Under (W t) a y)
+release-leaves n tallest t m w id y =
+    release-ways tallest t id
     (λ f e. to e (unchanged-left n tallest t m w id y 1 0 (λ a. unaccepted (record { no = 1; id = 0; after = t }) (on a id) (omega arith))))
     (λ f z e. to e (unchanged-left n tallest t m w id y 0 0 (λ a. accepted (record { no = 0; id = 0; after = t }) (on a id) refl ∙ on-zero a id z)))
     (λ f z l e. to e (unchanged-left n tallest t m w id y 4 0 (λ a. unaccepted (record { no = 4; id = 0; after = t }) (on a id) (omega arith))))
     (λ f z l r e. to e (unchanged-left n tallest t m w id y 5 0 (λ a. unaccepted (record { no = 5; id = 0; after = t }) (on a id) (omega arith))))
-    (λ f z l r k e. to e (released-left n tallest t (takes 7 holds t id) id
-    (subst (λ (o : Out). Released n tallest t id (o .after)) e (release-released n tallest t id m low w k z)) (live-is t id l) r y))
+    (λ f z l r k e. to e (released-left n tallest t (takes (suc tallest) holds t id) id
+    (subst (λ (o : Out). Released n tallest t id (o .after)) e (release-released n tallest t id m w k z)) (live-is t id l) r y))
   where
-    to : {o : Out} → releaseOf t id ≡ o → Left t id y o → Left t id y (releaseOf t id)
+    to : {o : Out} → releaseOf tallest t id ≡ o → Left t id y o → Left t id y (releaseOf tallest t id)
     to e x = subst (λ (o : Out). Left t id y o) (sym e) x

@@ -113,17 +113,17 @@ takes-none : (k f : ℕ) (t : Tables) (id : ℕ) → id ≡ 0 → takes (suc k) 
 unfolding takes
 takes-none k f t id e = rw (eq-eqb id 0 e)
 
-pub release-ways : {A : Type 0} (t : Tables) (id : ℕ)
-    → (fits t ≡ false → releaseOf t id ≡ did 1 t → A)
-    → (fits t ≡ true → id ≡ 0 → releaseOf t id ≡ did 0 t → A)
-    → (fits t ≡ true → id ≢ 0 → liveOf (cap t) (W t) id ≡ false → releaseOf t id ≡ did 4 t → A)
-    → (fits t ≡ true → id ≢ 0 → liveOf (cap t) (W t) id ≡ true → W t (slot id) holds ≡ 0 → releaseOf t id ≡ did 5 t → A)
-    → (fits t ≡ true → id ≢ 0 → liveOf (cap t) (W t) id ≡ true → W t (slot id) holds ≢ 0 → releaseNo t id ≡ 0 → releaseOf t id ≡ did 0 (takes 7 holds t id) → A) → A
+pub release-ways : {A : Type 0} (tallest : ℕ) (t : Tables) (id : ℕ)
+    → (fits t ≡ false → releaseOf tallest t id ≡ did 1 t → A)
+    → (fits t ≡ true → id ≡ 0 → releaseOf tallest t id ≡ did 0 t → A)
+    → (fits t ≡ true → id ≢ 0 → liveOf (cap t) (W t) id ≡ false → releaseOf tallest t id ≡ did 4 t → A)
+    → (fits t ≡ true → id ≢ 0 → liveOf (cap t) (W t) id ≡ true → W t (slot id) holds ≡ 0 → releaseOf tallest t id ≡ did 5 t → A)
+    → (fits t ≡ true → id ≢ 0 → liveOf (cap t) (W t) id ≡ true → W t (slot id) holds ≢ 0 → releaseNo t id ≡ 0 → releaseOf tallest t id ≡ did 0 (takes (suc tallest) holds t id) → A) → A
 unfolding releaseOf releaseNo
-release-ways t id unsized none dead unheld done =
+release-ways tallest t id unsized none dead unheld done =
     split (fits t)
     (λ f. cases (ℕ-discrete id 0)
-    (λ z. none f z (rw (f, eq-eqb id 0 z) (ap (did 0) (takes-none 6 holds t id z))))
+    (λ z. none f z (rw (f, eq-eqb id 0 z) (ap (did 0) (takes-none tallest holds t id z))))
     (λ z. split (liveOf (cap t) (W t) id)
     (λ l. cases (ℕ-discrete (W t (slot id) holds) 0)
     (λ r. unheld f z l r (rw (f, ne-eqb id 0 z, l, eq-eqb (W t (slot id) holds) 0 r)))
@@ -159,6 +159,6 @@ pub hold-no : (t : Tables) (id : ℕ) → holdOf t id .no ≡ holdNo t id
 unfolding holdOf
 hold-no t id = cases (ℕ-discrete (holdNo t id) 0) (λ z. rw (eq-eqb (holdNo t id) 0 z) (sym z)) (λ z. rw (ne-eqb (holdNo t id) 0 z))
 
-pub release-no : (t : Tables) (id : ℕ) → releaseOf t id .no ≡ releaseNo t id
+pub release-no : (tallest : ℕ) (t : Tables) (id : ℕ) → releaseOf tallest t id .no ≡ releaseNo t id
 unfolding releaseOf
-release-no t id = cases (ℕ-discrete (releaseNo t id) 0) (λ z. rw (eq-eqb (releaseNo t id) 0 z) (sym z)) (λ z. rw (ne-eqb (releaseNo t id) 0 z))
+release-no tallest t id = cases (ℕ-discrete (releaseNo t id) 0) (λ z. rw (eq-eqb (releaseNo t id) 0 z) (sym z)) (λ z. rw (ne-eqb (releaseNo t id) 0 z))

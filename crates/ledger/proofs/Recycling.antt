@@ -19,7 +19,7 @@ use Rattle.arena.specs.Tables.{Tables, cap, W, WellFormed}
 use Rattle.arena.proofs.Dropping.{step-empty, step-held, step-more, step-last, one-step, debtor, recycled-cap, recycled-inv, recycled-frame, Dropped, drop-good}
 use Rattle.arena.proofs.Ids.{nextGen-le, dead-low}
 use Rattle.arena.proofs.Inv.{Inv, sized-within}
-use Rattle.arena.proofs.Releasing.{release-by, u-inv, u-word, u-low}
+use Rattle.arena.proofs.Releasing.{release-by, u-inv, u-word, u-short}
 use Rattle.arena.proofs.Rows.{dead-length, dead-own, empties-length}
 use Rattle.ledger.specs.Fates.{Lives}
 use Rattle.ledger.proofs.Writes.{put-keeps}
@@ -139,18 +139,17 @@ settled-cap : (t : Tables) (s : ℕ) → cap (settled t s) ≡ cap t
 unfolding settled
 settled-cap t s = refl
 
-settled-recycles : (n tallest : ℕ) (t : Tables) (m : n ≤ 8) (low : tallest ≤ 6) (w : WellFormed n tallest t) (id : ℕ) (v : Lives t id) (held : 1 ≤ W t (slot id) holds)
-    → Recycles (cap t) (W (settled t (slot id))) (W (releaseBy t id))
+settled-recycles : (n tallest : ℕ) (t : Tables) (m : n ≤ 8) (w : WellFormed n tallest t) (id : ℕ) (v : Lives t id) (held : 1 ≤ W t (slot id) holds)
+    → Recycles (cap t) (W (settled t (slot id))) (W (releaseBy tallest t id))
 unfolding releaseBy
-settled-recycles n tallest t m low w id v held =
-    subst (λ (c : ℕ). Recycles c (W (settled t (slot id))) (W (dropPlace 7 (settled t (slot id)) id))) (settled-cap t (slot id))
-    (drop-turns 7 (settled t (slot id)) id [] (u-inv n tallest t m low w id v held)
-    (λ d. u-low n tallest t m low w id v held (slot id) (v .low)
-    (let e = u-word n tallest t m low w id v held (slot id) own (omega arith) (omega arith) (omega arith) in let i = v .is in let h = v .high in omega arith)))
+settled-recycles n tallest t m w id v held =
+    subst (λ (c : ℕ). Recycles c (W (settled t (slot id))) (W (dropPlace (suc tallest) (settled t (slot id)) id))) (settled-cap t (slot id))
+    (drop-turns (suc tallest) (settled t (slot id)) id [] (u-inv n tallest t m w id v held)
+    (λ d. u-short n tallest t m w id v held))
 
-pub takes-recycles : (n tallest : ℕ) (t : Tables) → n ≤ 8 → tallest ≤ 6 → WellFormed n tallest t → (id : ℕ) → Lives t id → 1 ≤ W t (slot id) holds
-    → Recycles (cap t) (W t) (W (takes 7 holds t id))
-takes-recycles n tallest t m low w id v held =
-    subst (λ (u : Tables). Recycles (cap t) (W t) (W u)) (release-by n tallest t m low w id v held)
-    (recycles-trans (cap t) (W t) (W (settled t (slot id))) (W (releaseBy t id))
-    (λ b l. inl (u-word n tallest t m low w id v held b own (omega arith) (omega arith) (omega arith))) (settled-recycles n tallest t m low w id v held))
+pub takes-recycles : (n tallest : ℕ) (t : Tables) → n ≤ 8 → WellFormed n tallest t → (id : ℕ) → Lives t id → 1 ≤ W t (slot id) holds
+    → Recycles (cap t) (W t) (W (takes (suc tallest) holds t id))
+takes-recycles n tallest t m w id v held =
+    subst (λ (u : Tables). Recycles (cap t) (W t) (W u)) (release-by n tallest t m w id v held tallest)
+    (recycles-trans (cap t) (W t) (W (settled t (slot id))) (W (releaseBy tallest t id))
+    (λ b l. inl (u-word n tallest t m w id v held b own (omega arith) (omega arith) (omega arith))) (settled-recycles n tallest t m w id v held))

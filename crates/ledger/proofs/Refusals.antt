@@ -54,11 +54,11 @@ hold-refused t id =
     to : {o : Out} → holdOf t id ≡ o → (o .no ≢ 0 → o .after ≡ t) → holdOf t id .no ≢ 0 → holdOf t id .after ≡ t
     to e x = subst (λ (o : Out). o .no ≢ 0 → o .after ≡ t) (sym e) x
 
-pub release-refused : (t : Tables) (id : ℕ) → releaseOf t id .no ≢ 0 → releaseOf t id .after ≡ t
-release-refused t id =
-    release-ways t id (λ f e. to e (λ d. refl)) (λ f z e. to e (λ d. refl)) (λ f z l e. to e (λ d. refl)) (λ f z l r e. to e (λ d. refl)) (λ f z l r k e. to e (λ d. absurd (d refl)))
+pub release-refused : (tallest : ℕ) (t : Tables) (id : ℕ) → releaseOf tallest t id .no ≢ 0 → releaseOf tallest t id .after ≡ t
+release-refused tallest t id =
+    release-ways tallest t id (λ f e. to e (λ d. refl)) (λ f z e. to e (λ d. refl)) (λ f z l e. to e (λ d. refl)) (λ f z l r e. to e (λ d. refl)) (λ f z l r k e. to e (λ d. absurd (d refl)))
   where
-    to : {o : Out} → releaseOf t id ≡ o → (o .no ≢ 0 → o .after ≡ t) → releaseOf t id .no ≢ 0 → releaseOf t id .after ≡ t
+    to : {o : Out} → releaseOf tallest t id ≡ o → (o .no ≢ 0 → o .after ≡ t) → releaseOf tallest t id .no ≢ 0 → releaseOf tallest t id .after ≡ t
     to e x = subst (λ (o : Out). o .no ≢ 0 → o .after ≡ t) (sym e) x
 
 -- Interning a leaf, refused: the id is INVALID.
@@ -157,21 +157,21 @@ module _ (t : Tables) (id : ℕ) where
   released-why j (poorReleased d h) a b c = c refl d h
 
   -- Release: refusals 1, 4, 5, each given exactly if it is the lowest that applies. On any tables.
-  pub release-refusals : Exactly (ReleaseWhy t id) (releaseOf t id .no)
-  release-refusals =
-      release-ways t id
-      (λ f e. exactly-as A (releaseOf t id .no) 1 (ap (λ (o : Out). o .no) e)
+  pub release-refusals : (tallest : ℕ) → Exactly (ReleaseWhy t id) (releaseOf tallest t id .no)
+  release-refusals tallest =
+      release-ways tallest t id
+      (λ f e. exactly-as A (releaseOf tallest t id .no) 1 (ap (λ (o : Out). o .no) e)
       (lowest-exactly A 1 (omega arith) (record { this = unsizedReleased (not-sized t f); lower = λ j l w. released-why j w (λ p u. omega arith) (λ p d u. omega arith) (λ p v u. omega arith) })))
-      (λ f z e. exactly-as A (releaseOf t id .no) 0 (ap (λ (o : Out). o .no) e)
+      (λ f z e. exactly-as A (releaseOf tallest t id .no) 0 (ap (λ (o : Out). o .no) e)
       (none-exactly A 0 refl (λ j w. released-why j w (λ p u. u (fits-sized t f)) (λ p d u. d z) (λ p d u. d z))))
-      (λ f z l e. exactly-as A (releaseOf t id .no) 4 (ap (λ (o : Out). o .no) e)
+      (λ f z l e. exactly-as A (releaseOf tallest t id .no) 4 (ap (λ (o : Out). o .no) e)
       (lowest-exactly A 4 (omega arith) (record { this = deadReleased z (not-lives t id l); lower = λ j k w. released-why j w (λ p u. u (fits-sized t f)) (λ p d u. omega arith) (λ p v u. omega arith) })))
-      (λ f z l r e. exactly-as A (releaseOf t id .no) 5 (ap (λ (o : Out). o .no) e)
+      (λ f z l r e. exactly-as A (releaseOf tallest t id .no) 5 (ap (λ (o : Out). o .no) e)
       (lowest-exactly A 5 (omega arith) (record {
         this = poorReleased z (omega (arith, holds-live t id (live-is t id l)));
         lower = λ j k w. released-why j w (λ p u. u (fits-sized t f)) (λ p d u. u (live-is t id l)) (λ p v u. omega arith);
       })))
-      (λ f z l r k e. exactly-as A (releaseOf t id .no) 0 (ap (λ (o : Out). o .no) e)
+      (λ f z l r k e. exactly-as A (releaseOf tallest t id .no) 0 (ap (λ (o : Out). o .no) e)
       (none-exactly A 0 refl (λ j w. released-why j w (λ p u. u (fits-sized t f)) (λ p d u. u (live-is t id l)) (λ p d u. r (omega (arith, holds-live t id (live-is t id l)))))))
     where
       A : ℕ → Type 0
@@ -493,11 +493,11 @@ fresh-refusals c k f e =
 
 -- An id that is neither EMPTY nor live is refused by hold, release, counts and, as a child, by intern branch: refusal 4.
 pub dead-refused : (n tallest : ℕ) (t : Tables) (y : ℕ) → Sized t → y ≢ 0 → (Lives t y → ⊥)
-    → (holdOf t y .no ≡ 4) × (releaseOf t y .no ≡ 4) × (countsOf t y .no ≡ 4) × ((ks : List ℕ) → 1 ≤ occ y ks → internBranchOf n tallest t ks .no ≡ 4)
+    → (holdOf t y .no ≡ 4) × (releaseOf tallest t y .no ≡ 4) × (countsOf t y .no ≡ 4) × ((ks : List ℕ) → 1 ≤ occ y ks → internBranchOf n tallest t ks .no ≡ 4)
 dead-refused n tallest t y z d dead = (
   hold-refusals t y .refused 4 (omega arith) .1
       (record { this = deadHeld d dead; lower = λ j l w. held-why t y j w (λ p u. u z) (λ p q u. omega arith) (λ p q u. omega arith) }),
-  release-refusals t y .refused 4 (omega arith) .1
+  release-refusals t y tallest .refused 4 (omega arith) .1
       (record { this = deadReleased d dead; lower = λ j l w. released-why t y j w (λ p u. u z) (λ p q u. omega arith) (λ p q u. omega arith) }),
   counts-refusals t y .refused 4 (omega arith) .1
       (record { this = deadCounted d dead; lower = λ j l w. counts-why t y j w (λ p u. u z) (λ p q u. omega arith) }),

@@ -35,7 +35,7 @@ module _ (t : Tables) (w : WellFormed 8 6 t) where
   call-does (leaf v) h = leaf-does 8 6 m8 t w v h
   call-does (branch ks) h = branch-does 8 6 m8 t w (omega arith) ks h (λ i p q. absurd (omega arith))
   call-does (hold b) h = hold-does 8 6 m8 t w b
-  call-does (release b) h = release-does 8 6 m8 t w (omega arith) b
+  call-does (release b) h = release-does 8 6 m8 t w b
   call-does (voxel b e p v) h = edit-does t w b e p v h
 
   -- Any call, accepted or refused, keeps every root that is EMPTY or live before and afterwards: held, or at or below a held one.
@@ -91,7 +91,7 @@ matches-again w k = follows.matches-again 8 6 m8 w (calls-do w k)
 -- And there are well-formed tables with a live id y, and calls after which the slot of y was recycled 32,766 times and y is live.
 pub can-match-again : (t : Tables) × (u : Tables) × (granted : ℕ → ℕ) × (taken : ℕ → ℕ) × (times : ℕ → ℕ) × (y : ℕ)
     × WellFormed 8 6 t × Since Step t u granted taken times × Lives t y × (times (slot y) ≡ 32766) × Lives u y
-can-match-again = again.can-match-again 8 6 m8 (omega arith) Step step-does (λ t. call (leaf 1) (omega arith)) (λ t id. call (release id) tt)
+can-match-again = again.can-match-again 8 6 m8 Step step-does (λ t. call (leaf 1) (omega arith)) (λ t id. call (release id) tt)
 
 -- ## A refusal
 
@@ -100,5 +100,5 @@ pub refused-changes-nothing : (t : Tables) (c : Call) → outcome t c .no ≢ 0 
 refused-changes-nothing t (leaf v) = leaf-refused t v
 refused-changes-nothing t (branch ks) = branch-refused 8 6 t ks
 refused-changes-nothing t (hold b) = hold-refused t b
-refused-changes-nothing t (release b) = release-refused t b
+refused-changes-nothing t (release b) = release-refused 6 t b
 refused-changes-nothing t (voxel b e p v) = λ d. ap (λ (o : Out). o .after) (edit-refused t b e p v (λ z. d (edit-number t b e p v ∙ z)))

@@ -50,7 +50,7 @@ abbrev pub outcome : Tables → Call → Out
 outcome t (leaf v) = internLeafOf t v
 outcome t (branch ks) = internBranchOf cubeKids deepest t ks
 outcome t (hold b) = holdOf t b
-outcome t (release b) = releaseOf t b
+outcome t (release b) = releaseOf deepest t b
 outcome t (voxel b e p v) = editOf t b e p v
 
 -- the holds on y that it grants: one on the node that interning or an edit answers, or that is held
@@ -194,7 +194,7 @@ ByFour k fit = (1 ≤ k) × (k ≤ 4) × (fit → k ≡ 4)
 -- Every call that is handed the id refuses it.
 pub record Refused (t : Tables) (y : ℕ) : Type 0 where
   pub hold : holdOf t y .no ≡ 4
-  pub release : releaseOf t y .no ≡ 4
+  pub release : releaseOf deepest t y .no ≡ 4
   pub counts : countsOf t y .no ≡ 4
   pub child : (ks : List ℕ) → 1 ≤ occ y ks → internBranchOf cubeKids deepest t ks .no ≡ 4
   pub lookup : (d : ℕ) (p : IVec3) → ByFour (lookOf t y d p .no) (Inside d p)
