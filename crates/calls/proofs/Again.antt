@@ -3,10 +3,11 @@ use mathlib.Core.Path.{_≡_, refl, sym, ap, _∙_, subst}
 use mathlib.Core.Logic.{⊎-elim}
 use mathlib.Core.Bool.{true, true≢false}
 use mathlib.Core.List.{List}
-use Prim.Native.Nat.{ℕ, zero, suc, _+_, _≤_, _<_}
+use Prim.Native.Nat.{ℕ, zero, suc, _+_, _*_, _≤_, _<_}
 use native.Mathlib.Decide.{decLt}
 use native.Mathlib.Omega.{arith}
 use lib.ListN.{length, getD, replicate}
+use Rattle.basics.specs.Limits.{kidWords, factWords, slotCells}
 use Rattle.nodes.specs.Tally.{kidsOf, occ, liveBit, liveCount}
 use Rattle.nodes.specs.Words.{own, slot, floor}
 use Rattle.nodes.proofs.Counts.{kids-same, live-nonzero}
@@ -36,7 +37,7 @@ use Rattle.calls.proofs.Follows.{gone-exactly, matches-again}
 abbrev Bare : Tables → Type 0
 Bare t = (y : ℕ) → Lives t y → ⊥
 
-bare-count : (n tallest : ℕ) (t : Tables) → n ≤ 8 → WellFormed n tallest t → Bare t → t .arena .live ≡ 0
+bare-count : (n tallest : ℕ) (t : Tables) → n ≤ kidWords → WellFormed n tallest t → Bare t → t .arena .live ≡ 0
 unfolding liveCount
 bare-count n tallest t m w none = cases (decLt 0 (t .arena .live))
     (λ h.
@@ -60,15 +61,15 @@ record One (n tallest : ℕ) (t : Tables) (z : ℕ) : Type 0 where
 abbrev zeros : ℕ → List ℕ
 zeros k = replicate k 0
 
-fits-two : fitOf 2 (length (zeros 16)) (length (zeros 14)) (length (zeros 6)) ≡ true
+fits-two : fitOf 2 (length (zeros (2 * kidWords))) (length (zeros (2 * factWords))) (length (zeros (2 * slotCells))) ≡ true
 unfolding fitOf
 fits-two = refl
 
-size-two : cap (freshOf 2 (zeros 16) (zeros 14) (zeros 6) .after) ≡ 2
+size-two : cap (freshOf 2 (zeros (2 * kidWords)) (zeros (2 * factWords)) (zeros (2 * slotCells)) .after) ≡ 2
 unfolding freshOf fitOf
 size-two = refl
 
-module _ (n tallest : ℕ) (m : n ≤ 8) where
+module _ (n tallest : ℕ) (m : n ≤ kidWords) where
   leaf-taken : (t : Tables) → WellFormed n tallest t → cap t ≡ 2 → Bare t → internLeafOf t 1 .no ≡ 0
   leaf-taken t w two none =
       leaf-ways t 1
@@ -134,7 +135,7 @@ module _ (n tallest : ℕ) (m : n ≤ 8) where
           let e : b ≡ z = o .only b (release-makes-none n tallest t m (o .well) z .stays b l .0) in
           let lz : Lives after z = subst (λ (x : ℕ). Lives after x) e l in
           let s = release-makes-none n tallest t m (o .well) z .stays z lz .1 in
-          let k : kidsOf 8 (W after) (slot b) ≡ empties = ap (λ (x : ℕ). kidsOf 8 (W after) (slot x)) e ∙ kids-same 8 (W t) (W after) (slot z) (λ i j. sym (s i (omega arith))) ∙ o .has .kids in
+          let k : kidsOf kidWords (W after) (slot b) ≡ empties = ap (λ (x : ℕ). kidsOf kidWords (W after) (slot x)) e ∙ kids-same kidWords (W t) (W after) (slot z) (λ i j. sym (s i (omega arith))) ∙ o .has .kids in
           ap (occ z) k ∙ empties-none z (live-nonzero (o .has .live))),
     )
 
@@ -197,10 +198,10 @@ module _ (n tallest : ℕ) (m : n ≤ 8) where
     pub can-match-again : (t : Tables) × (u : Tables) × (granted : ℕ → ℕ) × (taken : ℕ → ℕ) × (times : ℕ → ℕ) × (y : ℕ)
         × WellFormed n tallest t × Since Step t u granted taken times × Lives t y × (times (slot y) ≡ 32766) × Lives u y
     can-match-again =
-        let t0 = freshOf 2 (zeros 16) (zeros 14) (zeros 6) .after in
-        let w0 : WellFormed n tallest t0 = fresh-well n tallest 2 (zeros 16) (zeros 14) (zeros 6) fits-two in
+        let t0 = freshOf 2 (zeros (2 * kidWords)) (zeros (2 * factWords)) (zeros (2 * slotCells)) .after in
+        let w0 : WellFormed n tallest t0 = fresh-well n tallest 2 (zeros (2 * kidWords)) (zeros (2 * factWords)) (zeros (2 * slotCells)) fits-two in
         let o : One n tallest (internLeafOf t0 1 .after) (internLeafOf t0 1 .id) =
-        one-leaf t0 w0 size-two (fresh-bare n tallest 2 (zeros 16) (zeros 14) (zeros 6) w0) in
+        one-leaf t0 w0 size-two (fresh-bare n tallest 2 (zeros (2 * kidWords)) (zeros (2 * factWords)) (zeros (2 * slotCells)) w0) in
         let t = internLeafOf t0 1 .after in
         let y = internLeafOf t0 1 .id in
         let r = rounds 32766 t y o in
@@ -211,5 +212,5 @@ module _ (n tallest : ℕ) (m : n ≤ 8) where
         (λ i l. ap (λ (s : ℕ). W (r .u) s i) (f ∙ sym (p .first)) ∙ bare-kid (r .u) (r .z) p i l ∙ sym (bare-kid t y o i l)) in
         (t, r .u, r .granted, r .taken, r .times, y, o .well, r .since, o .has .live, k, subst (λ (x : ℕ). Lives (r .u) x) e (p .has .live))
       where
-        bare-kid : (x : Tables) (z : ℕ) → One n tallest x z → (i : ℕ) → i < 8 → W x (slot z) i ≡ 0
+        bare-kid : (x : Tables) (z : ℕ) → One n tallest x z → (i : ℕ) → i < kidWords → W x (slot z) i ≡ 0
         bare-kid x z q i l = kid-word (W x) (slot z) i l ∙ ap (λ (ks : List ℕ). getD ks i 0) (q .has .kids) ∙ empties-at i l

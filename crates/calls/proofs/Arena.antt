@@ -4,6 +4,7 @@ use mathlib.Core.List.{List}
 use Prim.Native.Nat.{ℕ, _≤_, _<_}
 use lib.Dec.{eqb}
 use lib.ListN.{length, getD}
+use Rattle.basics.specs.Limits.{kidWords, largestValue}
 use Rattle.basics.specs.Pick.{pick}
 use Rattle.ids.specs.Ids.{generationOf}
 use Rattle.nodes.specs.Tally.{occ}
@@ -22,18 +23,18 @@ use Rattle.ledger.proofs.Going.{leaf-ends-none, branch-ends-none, hold-ends-non
 use Rattle.calls.specs.Does.{Does}
 use Rattle.calls.proofs.Once.{grew-extends, grown, shrunk}
 
-module _ (n tallest : ℕ) (m : n ≤ 8) (t : Tables) (w : WellFormed n tallest t) where
+module _ (n tallest : ℕ) (m : n ≤ kidWords) (t : Tables) (w : WellFormed n tallest t) where
   grew : {u : Tables} {g k : ℕ → ℕ} → WellFormed n tallest u → Grew t u → Balanced t u g k → ((s : ℕ) → generationOf (W u s own) ≡ generationOf (W t s own))
       → Does n tallest t u g k (ended t u)
   grew {u} {g} {k} v e = grown n tallest m t u w (grew-extends n m e) g k v (e .size)
 
   -- Interning a leaf grants one hold on the leaf.
-  pub leaf-does : (v : ℕ) → v ≤ 65535
+  pub leaf-does : (v : ℕ) → v ≤ largestValue
       → Does n tallest t (internLeafOf t v .after) (λ y. ifAccepted (internLeafOf t v) (on y (internLeafOf t v .id))) (λ y. 0) (ended t (internLeafOf t v .after))
   leaf-does v h = grew (leaf-well n tallest t v m h w) (leaf-ends-none n tallest t m w v) (leaf-balanced n tallest t m w v) (leaf-same-gens n tallest t m w v)
 
   -- Interning a branch grants one on the branch, and takes one for each child place that isn't EMPTY.
-  pub branch-does : 1 ≤ n → (ks : List ℕ) → length ks ≡ 8 → ((i : ℕ) → n ≤ i → i < 8 → getD ks i 0 ≡ 0)
+  pub branch-does : 1 ≤ n → (ks : List ℕ) → length ks ≡ kidWords → ((i : ℕ) → n ≤ i → i < kidWords → getD ks i 0 ≡ 0)
       → Does n tallest t (internBranchOf n tallest t ks .after) (λ y. ifAccepted (internBranchOf n tallest t ks) (on y (internBranchOf n tallest t ks .id)))
       (λ y. ifAccepted (internBranchOf n tallest t ks) (pick (eqb y 0) 0 (occ y ks))) (ended t (internBranchOf n tallest t ks .after))
   branch-does pos ks e z =

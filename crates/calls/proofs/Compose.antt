@@ -3,6 +3,7 @@ use mathlib.Core.Path.{_≡_, refl, sym, ap, _∙_, subst}
 use mathlib.Core.Logic.{inr}
 use Prim.Native.Nat.{ℕ, _+_, _≤_, _<_}
 use native.Mathlib.Omega.{arith}
+use Rattle.basics.specs.Limits.{kidWords}
 use Rattle.ids.specs.Ids.{generationOf}
 use Rattle.nodes.specs.Words.{own, slot}
 use Rattle.tree.specs.Tree.{Keeps, self}
@@ -18,7 +19,7 @@ use Rattle.calls.specs.Does.{Does, Stepping, Since, now, then}
 pub held-lives : (t : Tables) (y : ℕ) → 1 ≤ holdsOn t y → Lives t y
 held-lives t y h = by-life t y (λ l. l) (λ d. absurd (let z = holds-dead t y d in omega arith))
 
-module _ (n tallest : ℕ) (m : n ≤ 8) where
+module _ (n tallest : ℕ) (m : n ≤ kidWords) where
   -- Nothing is done.
   pub does-none : (t : Tables) → WellFormed n tallest t → Does n tallest t t (λ y. 0) (λ y. 0) (λ s. 0)
   does-none t w = record {

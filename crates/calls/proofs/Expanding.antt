@@ -4,25 +4,39 @@ use mathlib.Core.Logic.{_≢_}
 use mathlib.Core.List.{List}
 use Prim.Native.Nat.{ℕ, _^_, _≤_, _<_}
 use native.Mathlib.Decide.{ℕ-discrete}
+use native.Mathlib.Omega.{arith}
 use lib.ListN.{length, getD, set}
 use lib.Seq.{getD-set-same, getD-set-other}
 use borrow.Author.Tests.{eq-eqb, le-leb}
+use Rattle.basics.specs.Limits.{deepest, deepestCube}
 use Rattle.nodes.proofs.Sums.{cases}
 use Rattle.tree.specs.Tree.{LiveOr0, look}
 use Rattle.tree.specs.Demand.{At, way, Apart}
 use Rattle.arena.specs.Tables.{Tables, cap, W, WellFormed}
 use Rattle.arena.proofs.Fits.{sized-fits}
 use Rattle.read_cell.specs.Reading.{cubeOf}
-use Rattle.read_cell.specs.Calls.{looked, lookOf, Expanded, expanded, expandNo, expandOf}
-use Rattle.read_cell.specs.declared.Looked.{Looked}
+use Rattle.read_cell.specs.Calls.{Expanded, expanded, expandNo, expandOf}
 use Rattle.read_cell.proofs.Cube.{addr, addr-lt, addr-one, pow-four, pow-eight, cube-one}
 use Rattle.read_cell.proofs.Plain.{cell-whole}
 use Rattle.read_cell.proofs.Laws.{live-there, well-small, lookup-right, expand-length, expand-look}
-use Rattle.calls.specs.Cells.{spot, standsAt, Expands}
+use Rattle.calls.specs.Cells.{standsAt, Answers, Alike, Expands}
+
+-- ## Lookup
+
+pub answers-as : {d : ℕ} {t : Tables} {a : ℕ} {c : At d} {v w : ℕ} → Answers t a c v → v ≡ w → Answers t a c w
+answers-as r e = record { accepted = r .accepted; value = r .value ∙ e }
+
+pub answers-alike : {d : ℕ} {t u : Tables} {a b : ℕ} {c : At d} {v w : ℕ} → Answers u b c v → Answers t a c w → v ≡ w → Alike u b t a c
+answers-alike r s e = record { number = r .accepted ∙ sym (s .accepted); value = r .value ∙ e ∙ sym (s .value) }
 
 -- what lookup answers at a cell is what the tree shows there
-pub look-at : {d : ℕ} (t : Tables) → WellFormed 8 6 t → d ≤ 6 → (a : ℕ) → LiveOr0 (cap t) (W t) a → (c : At d) → lookOf t a d (spot c) ≡ looked 0 (look (W t) (way c) a)
-look-at {d} t w h a l c = lookup-right 8 6 t w a d (c .x) (c .y) (c .z) h (c .in-x) (c .in-y) (c .in-z) l
+pub look-at : {n tallest d : ℕ} (t : Tables) → WellFormed n tallest t → d ≤ deepest → (a : ℕ) → LiveOr0 (cap t) (W t) a → (c : At d)
+    → Answers t a c (look (W t) (way c) a)
+look-at {n} {tallest} {d} t w h a l c =
+    let r = lookup-right n tallest t w a d (c .x) (c .y) (c .z) h (c .in-x) (c .in-y) (c .in-z) l in
+    record { accepted = r .0; value = r .1 }
+
+-- ## Expansion
 
 stands-lt : {d : ℕ} (c : At d) → standsAt c < 8 ^ d
 stands-lt {d} c = rw (pow-four d, pow-eight d) (addr-lt (2 ^ d) (2 ^ d) (c .x) (c .y) (c .z) (c .in-x) (c .in-y) (c .in-z))
@@ -58,10 +72,10 @@ one-set c v m k s x here there = cases (ℕ-discrete (standsAt s) (standsAt c))
     ap (λ (n : ℕ). getD (set m (standsAt c) v) n 0) e ∙ getD-set-same m (standsAt c) v 0 (subst (λ (n : ℕ). standsAt c < n) (sym k) (stands-lt c)) ∙ sym (here e))
     (λ n. getD-set-other m (standsAt c) (standsAt s) v 0 n ∙ sym (there n))
 
-module _ {d : ℕ} (t : Tables) (w : WellFormed 8 6 t) (h : d ≤ 6) (a : ℕ) (there : LiveOr0 (cap t) (W t) a) (l : List ℕ) (e : length l ≡ 8 ^ d) where
+module _ {n tallest d : ℕ} (t : Tables) (w : WellFormed n tallest t) (h : d ≤ deepestCube) (a : ℕ) (there : LiveOr0 (cap t) (W t) a) (l : List ℕ) (e : length l ≡ 8 ^ d) where
   accepts : expandNo t a d (length l) ≡ 0
   unfolding expandNo
-  accepts = rw (sized-fits t (w .sized), le-leb d 6 h, live-there t a there, eq-eqb (length l) (8 ^ d) e)
+  accepts = rw (sized-fits t (w .sized), le-leb d deepestCube h, live-there t a there, eq-eqb (length l) (8 ^ d) e)
 
   expand-is : expandOf t a d l ≡ expanded 0 (cubeOf (W t) d a)
   unfolding expandOf
@@ -73,7 +87,7 @@ module _ {d : ℕ} (t : Tables) (w : WellFormed 8 6 t) (h : d ≤ 6) (a : ℕ) (
     accepted = ap (λ (o : Expanded). o .no) expand-is;
     size = expand-length t a d l accepts;
     cells = λ c.
-        expand-look t a d l accepts (c .x) (c .y) (c .z) (c .in-x) (c .in-y) (c .in-z) ∙ ap (λ (r : Looked). r .value) (look-at t w h a there c);
+        expand-look t a d l accepts (c .x) (c .y) (c .z) (c .in-x) (c .in-y) (c .in-z) ∙ look-at t w (omega arith) a there c .value;
   }
 
   -- and a list of 8^d numbers that has at each cell what the tree shows there is the list that it writes
@@ -82,4 +96,4 @@ module _ {d : ℕ} (t : Tables) (w : WellFormed 8 6 t) (h : d ≤ 6) (a : ℕ) (
       ap (λ (o : Expanded). o .cube) expand-is
       ∙ sym (cube-one (W t) d a m k
       (λ x y z p q r.
-      f (record { x = x; y = y; z = z; in-x = p; in-y = q; in-z = r }) ∙ sym (cell-whole (W t) (well-small 8 6 t w) d a x y z)))
+      f (record { x = x; y = y; z = z; in-x = p; in-y = q; in-z = r }) ∙ sym (cell-whole (W t) (well-small n tallest t w) d a x y z)))

@@ -3,6 +3,7 @@ use mathlib.Core.Path.{_≡_, sym, ap, _∙_, subst}
 use mathlib.Core.Logic.{_⊎_, inl, inr, _↔_}
 use Prim.Native.Nat.{ℕ, _+_, _%_, _≤_, _<_}
 use native.Mathlib.Omega.{arith}
+use Rattle.basics.specs.Limits.{kidWords}
 use Rattle.ids.specs.Ids.{generationOf}
 use Rattle.nodes.specs.Tally.{kidsOf, occ}
 use Rattle.nodes.specs.Words.{Words, own, slot}
@@ -34,11 +35,11 @@ empty-keeps n c U U′ a z b (under i k h r) l = absurd (k .0 z)
 
 -- ## A call, or any sequence of calls
 
-module _ (n tallest : ℕ) (m : n ≤ 8) {t u : Tables} {granted taken times : ℕ → ℕ} (w : WellFormed n tallest t) (d : Does n tallest t u granted taken times) where
+module _ (n tallest : ℕ) (m : n ≤ kidWords) {t u : Tables} {granted taken times : ℕ → ℕ} (w : WellFormed n tallest t) (d : Does n tallest t u granted taken times) where
   -- A node goes exactly if nobody holds it afterwards, that is, all holds that it had or was granted are taken, and no node that is there afterwards has it
   -- as a child.
   pub gone-exactly : (y : ℕ) → Lives t y
-      → (Lives u y → ⊥) ↔ ((holdsOn t y + granted y ≡ taken y) × ((b : ℕ) → Lives u b → occ y (kidsOf 8 (W u) (slot b)) ≡ 0))
+      → (Lives u y → ⊥) ↔ ((holdsOn t y + granted y ≡ taken y) × ((b : ℕ) → Lives u b → occ y (kidsOf kidWords (W u) (slot b)) ≡ 0))
   gone-exactly y v =
       let r = unlive-exactly n tallest u m (d .well) y (live-nonzero v) in
       let e = d .balance y in
@@ -73,7 +74,7 @@ module _ (n tallest : ℕ) (m : n ≤ 8) {t u : Tables} {granted taken times : �
 
     -- After 32,766 it can match again: if a node with the same children is in the slot then, its id is the same number. (So is a leaf's of another
     -- value: the id does not hold the value.)
-    pub matches-again : times (slot y) % 32766 ≡ 0 → (z : ℕ) → Lives u z → slot z ≡ slot y → ((i : ℕ) → i < 8 → W u (slot y) i ≡ W t (slot y) i) → z ≡ y
+    pub matches-again : times (slot y) % 32766 ≡ 0 → (z : ℕ) → Lives u z → slot z ≡ slot y → ((i : ℕ) → i < kidWords → W u (slot y) i ≡ W t (slot y) i) → z ≡ y
     matches-again r z l e same =
         let p = by-then in
         let a = p .0 in
@@ -109,7 +110,7 @@ module _ (n tallest : ℕ) (m : n ≤ 8) {t u : Tables} {granted taken times : �
 
 -- ## Since a fresh arena
 
-module _ (n tallest : ℕ) (m : n ≤ 8) where
+module _ (n tallest : ℕ) (m : n ≤ kidWords) where
   -- A fresh arena is well formed, and nothing in it is held.
   pub fresh-made : {t : Tables} → Fresh t → WellFormed n tallest t × ((y : ℕ) → holdsOn t y ≡ 0)
   fresh-made (fresh c k f e z) =

@@ -5,6 +5,7 @@ use Prim.Native.Nat.{ℕ, _≤_, _<_}
 use native.Mathlib.Decide.{decLt}
 use native.Mathlib.Omega.{arith}
 use borrow.Author.Tests.{ne-eqb, le-leb, lt-leb, lt-ltb, le-ltb}
+use Rattle.basics.specs.Limits.{kidWords}
 use Rattle.ids.specs.Ids.{generationOf}
 use Rattle.nodes.specs.Tally.{Live}
 use Rattle.nodes.specs.Values.{valueAt, heightAt}
@@ -23,7 +24,7 @@ use Rattle.calls.specs.Does.{Does}
 use Rattle.calls.proofs.Compose.{held-lives, does-as}
 
 -- what the ledger says of a call that ends no node
-pub grew-extends : (n : ℕ) → n ≤ 8 → {t u : Tables} → Grew t u → Extends n (cap t) (W t) (W u)
+pub grew-extends : (n : ℕ) → n ≤ kidWords → {t u : Tables} → Grew t u → Extends n (cap t) (W t) (W u)
 unfolding valueAt heightAt
 grew-extends n m {t} {u} g y l =
     let z = ne-eqb y 0 (live-nonzero l) in
@@ -43,7 +44,7 @@ ended-small t u s = cases (decLt (W t s own) floor)
     (λ l. rw (le-leb floor (W t s own) (omega arith)) (cases (decLt (W u s own) floor)
     (λ k. rw (lt-ltb (W u s own) floor k) (omega arith)) (λ k. rw (le-ltb (W u s own) floor (omega arith)) (omega arith))))
 
-module _ (n tallest : ℕ) (m : n ≤ 8) (t u : Tables) (w : WellFormed n tallest t) where
+module _ (n tallest : ℕ) (m : n ≤ kidWords) (t u : Tables) (w : WellFormed n tallest t) where
   -- ## No node ends
 
   module _ (grows : Extends n (cap t) (W t) (W u)) where

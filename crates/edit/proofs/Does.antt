@@ -1,35 +1,66 @@
 -- What an edit does, as any call.
 use mathlib.Core.Path.{_≡_, refl, sym, subst}
+use mathlib.Core.Logic.{_≢_}
+use mathlib.Core.List.{List}
 use Prim.Native.Nat.{ℕ, _≤_}
 use native.Mathlib.Decide.{ℕ-discrete}
 use native.Mathlib.Omega.{arith}
+use Rattle.basics.specs.Limits.{deepest, cubeKids, kidWords, largestValue}
 use Rattle.nodes.proofs.Sums.{cases}
 use Rattle.paths.specs.declared.IVec3.{IVec3}
 use Rattle.tree.specs.Tree.{Extends}
-use Rattle.arena.specs.Calls.{Out}
+use Rattle.arena.specs.Calls.{Out, refused}
 use Rattle.arena.specs.Tables.{Tables, cap, W, WellFormed}
 use Rattle.ledger.specs.Ledger.{on, ifAccepted}
 use Rattle.ledger.specs.Fates.{ended}
+use Rattle.ledger.proofs.Effects.{unaccepted}
 use Rattle.calls.specs.Does.{Does}
 use Rattle.calls.proofs.Once.{grown}
-use Rattle.edit.specs.Edit.{editNo, editOf}
-use Rattle.edit.proofs.Edits.{edit-right, edit-refused, edit-well}
-use Rattle.edit.proofs.Holds.{edit-balance}
-use Rattle.edit.proofs.Generations.{edit-gens}
+use Rattle.edit.specs.Edit.{cellNo, editCell, editOf}
+use Rattle.edit.specs.Promises.{Posed}
+use Rattle.edit.proofs.Edits.{cell-right, cell-refused, cell-well, by-cell}
+use Rattle.edit.proofs.Holds.{cell-balance}
+use Rattle.edit.proofs.Generations.{cell-gens}
 
-module _ (t : Tables) (w : WellFormed 8 6 t) where
-  -- an edit of any root at any depth, accepted or refused, keeps the capacity and every node
-  pub edit-grows : (b e : ℕ) (p : IVec3) (v : ℕ) → v ≤ 65535 → (cap (editOf t b e p v .after) ≡ cap t) × Extends 8 (cap t) (W t) (W (editOf t b e p v .after))
-  edit-grows b e p v h = cases (ℕ-discrete (editNo t b e p v) 0)
-      (λ z. let r = edit-right t w b e p v h z in (r .size, r .edited .grows))
-      (λ z. subst (λ (o : Out). (cap (o .after) ≡ cap t) × Extends 8 (cap t) (W t) (W (o .after))) (sym (edit-refused t b e p v z))
-      (refl, (λ a l. record { still = l; kids = λ i k. refl; value = refl; height = refl })))
+-- the capacity stays, and every node
+abbrev pub Grows : ℕ → Tables → Tables → Type 0
+Grows n t u = (cap u ≡ cap t) × Extends n (cap t) (W t) (W u)
 
-  -- An edit grants one hold on its answer.
-  pub edit-does : (b e : ℕ) (p : IVec3) (v : ℕ) → v ≤ 65535
-      → Does 8 6 t (editOf t b e p v .after) (λ y. ifAccepted (editOf t b e p v) (on y (editOf t b e p v .id))) (λ y. 0) (ended t (editOf t b e p v .after))
-  edit-does b e p v h =
-      let u = editOf t b e p v .after in
-      let g = edit-grows b e p v h in
-      grown 8 6 (omega arith) t u w (g .1) (λ y. ifAccepted (editOf t b e p v) (on y (editOf t b e p v .id))) (λ y. 0) (edit-well t w b e p v h) (g .0)
-      (λ y. let z = edit-balance t w b e p v h y in omega arith) (edit-gens t w b e p v h)
+-- one hold is granted on the answer
+abbrev pub Grants : ℕ → ℕ → Tables → Out → Type 0
+Grants n tallest t o = Does n tallest t (o .after) (λ y. ifAccepted o (on y (o .id))) (λ y. 0) (ended t (o .after))
+
+same-grows : (n : ℕ) (t : Tables) → Grows n t t
+same-grows n t = (refl, (λ a l. record { still = l; kids = λ i k. refl; value = refl; height = refl }))
+
+-- a refusal grants none
+refused-does : (n tallest : ℕ) → n ≤ kidWords → (t : Tables) → WellFormed n tallest t → (k : ℕ) → k ≢ 0 → Grants n tallest t (refused k t)
+refused-does n tallest m t w k z =
+    grown n tallest m t t w (same-grows n t .1) (λ y. ifAccepted (refused k t) (on y (refused k t .id))) (λ y. 0) w refl
+    (λ y. omega (arith, unaccepted (refused k t) (on y (refused k t .id)) z)) (λ s. refl)
+
+-- ## An edit of a cell
+
+module _ {n tallest : ℕ} {t : Tables} {root d : ℕ} {cell : List ℕ} {v : ℕ} (q : Posed n tallest t root d cell v) where
+  -- an edit, accepted or refused, keeps the capacity and every node
+  pub cell-grows : Grows n t (editCell n t root d cell v .after)
+  cell-grows = cases (ℕ-discrete (cellNo n t root d cell v) 0)
+      (λ z. let r = cell-right q z in (r .size, r .edited .grows))
+      (λ z. subst (λ (o : Out). Grows n t (o .after)) (sym (cell-refused n t root d cell v z)) (same-grows n t))
+
+  -- it grants one hold on its answer
+  pub cell-does : Grants n tallest t (editCell n t root d cell v)
+  cell-does =
+      let o = editCell n t root d cell v in
+      grown n tallest (q .words) t (o .after) (q .well) (cell-grows .1) (λ y. ifAccepted o (on y (o .id))) (λ y. 0) (cell-well q) (cell-grows .0)
+      (λ y. let z = cell-balance q y in omega arith) (cell-gens q)
+
+-- ## An edit of a cube
+
+-- at any depth, of any root
+module _ (t : Tables) (w : WellFormed cubeKids deepest t) (b e : ℕ) (p : IVec3) (v : ℕ) (h : v ≤ largestValue) where
+  pub edit-grows : Grows cubeKids t (editOf t b e p v .after)
+  edit-grows = by-cell t b e p v w h (λ o. Grows cubeKids t (o .after)) (λ k z. same-grows cubeKids t) cell-grows
+
+  pub edit-does : Grants cubeKids deepest t (editOf t b e p v)
+  edit-does = by-cell t b e p v w h (Grants cubeKids deepest t) (refused-does cubeKids deepest (omega arith) t w) cell-does

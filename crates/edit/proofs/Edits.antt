@@ -7,6 +7,7 @@ use Prim.Native.Nat.{ℕ, _+_, _-_, _≤_}
 use native.Mathlib.Decide.{ℕ-discrete, decLe}
 use native.Mathlib.Omega.{arith}
 use borrow.Author.Tests.{eq-eqb, ne-eqb, le-leb, lt-leb}
+use Rattle.basics.specs.Limits.{deepest, cubeKids, kidWords, largestValue}
 use Rattle.nodes.specs.Values.{heightAt, valueAt}
 use Rattle.nodes.specs.Words.{own, value, height, holds, slot}
 use Rattle.nodes.proofs.Access.{Within, put-same, put-slot, put-field}
@@ -14,26 +15,25 @@ use Rattle.nodes.proofs.Counts.{live-nonzero, live-same}
 use Rattle.nodes.proofs.Sums.{cases, split}
 use Rattle.paths.specs.declared.IVec3.{IVec3}
 use Rattle.paths.specs.Paths.{whole}
-use Rattle.tree.specs.Tree.{LiveOr0, WellMade, Cell, look, Extends}
+use Rattle.tree.specs.Tree.{LiveOr0, WellMade, look, Extends}
 use Rattle.tree.specs.Anew.{Anew, Answer, asked, made}
-use Rattle.tree.specs.Lacks.{Need, have, lack}
+use Rattle.tree.specs.Lacks.{Need, have, lack, Plan}
 use Rattle.tree.proofs.CellLaws.{cube-cell}
 use Rattle.tree.proofs.Making.{edited, renewed, anew-later}
 use Rattle.tree.proofs.Plan.{plan-have, plan-lack}
+use Rattle.tree.proofs.Room.{plan-some}
 use Rattle.arena.specs.Tables.{Tables, cap, W, WellFormed}
 use Rattle.arena.specs.Calls.{Out, refused, fullOf, heldAt}
 use Rattle.arena.proofs.Inv.{inv-wf, sized-within}
 use Rattle.arena.proofs.Leaves.{held-kept}
 use Rattle.read_cell.specs.Calls.{lookNo}
 use Rattle.read_cell.proofs.Meaning.{wf-made}
-use Rattle.edit.specs.Edit.{planOf, resultOf, freshNode, leafAnew, branchAnew, makeOf, grantNo, granted, answerOf, cellAt, editNo, editOf}
-use Rattle.edit.specs.Promises.{Effect, Right}
+use Rattle.edit.specs.Edit.{planOf, resultOf, freshNode, leafAnew, branchAnew, makeOf, grantNo, granted, answerOf, cellNo, editCell, cellAt, editNo, editOf}
+use Rattle.edit.specs.Promises.{Posed, Effect, Right}
 use Rattle.edit.proofs.Growing.{grown-extends}
 use Rattle.edit.proofs.Planning.{plan-is}
 use Rattle.edit.proofs.Wholes.{content-made}
-use Rattle.edit.proofs.Upward.{Done, make-done, have-lack, lack-inj}
-use Rattle.edit.proofs.Mirror.{Agree, agree-have, agree-lack, plan-agree}
-use Rattle.edit_plan.specs.declared.Plan as planning
+use Rattle.edit.proofs.Upward.{Done, make-done}
 use Rattle.edit.proofs.Law.{deep, root-there}
 
 make-no : (n : ℕ) (t : Tables) (x : ℕ) (p : List ℕ) (a h q : ℕ) → makeOf n t x p a h q .no ≡ 0
@@ -82,7 +82,7 @@ held-other : (t : Tables) (s b : ℕ) → b ≢ s → W (heldAt t s) b holds ≡
 unfolding heldAt
 held-other t s b d = put-slot (t .nodes) s holds (W t s holds + 1) b holds d
 
-granted-effect : (t : Tables) (r : ℕ) → WellFormed 8 6 t → LiveOr0 (cap t) (W t) r → Effect t (granted t r) r
+granted-effect : {n tallest : ℕ} (t : Tables) (r : ℕ) → WellFormed n tallest t → LiveOr0 (cap t) (W t) r → Effect n t (granted t r) r
 granted-effect t r w there = record {
   granted-one = λ d. rw (granted-node t r d) (held-word t (slot r) (within there d));
   no-other = λ s l o. other s o;
@@ -100,7 +100,7 @@ granted-effect t r w there = record {
     other s (inl z) = rw (granted-empty t r z)
     other s (inr q) = cases (ℕ-discrete r 0) (λ z. rw (granted-empty t r z)) (λ z. rw (granted-node t r z) (held-other t (slot r) s q))
 
-pub granted-extends : (n : ℕ) (t : Tables) (r : ℕ) → n ≤ 8 → Extends n (cap t) (W t) (W (granted t r))
+pub granted-extends : (n : ℕ) (t : Tables) (r : ℕ) → n ≤ kidWords → Extends n (cap t) (W t) (W (granted t r))
 unfolding valueAt heightAt
 granted-extends n t r m a l =
     let z = ne-eqb a 0 (live-nonzero l) in
@@ -123,139 +123,190 @@ unfolding grantNo
 grant-room t k e = cases (decLe k (cap t - 1 - t .arena .live)) (λ l. l)
     (λ l. absurd (let z : _≡_ {A = ℕ} 11 0 = (rw (lt-leb k (cap t - 1 - t .arena .live) (omega arith)) at e) in omega arith))
 
-granted-well : (t : Tables) (r : ℕ) → WellFormed 8 6 t → LiveOr0 (cap t) (W t) r → grantNo t (have r) ≡ 0 → WellFormed 8 6 (granted t r)
-granted-well t r w (inl z) e = rw (granted-empty t r z) w
-granted-well t r w (inr l) e =
+granted-well : {n tallest : ℕ} → n ≤ kidWords → (t : Tables) (r : ℕ) → WellFormed n tallest t → LiveOr0 (cap t) (W t) r → grantNo t (have r) ≡ 0
+    → WellFormed n tallest (granted t r)
+granted-well m t r w (inl z) e = rw (granted-empty t r z) w
+granted-well {n} {tallest} m t r w (inr l) e =
     let d = live-nonzero l in
     let o = l .is in
     let h = l .high in
-    rw (granted-node t r d) (held-kept 8 6 t (slot r) (omega arith) w (l .low, omega arith) (not-full t r d e))
-
--- what is lacking is at least one node
-pub lack-one : {B k : ℕ} {b : planning.Plan} {r : Need} → Agree B b r → r ≡ lack k → 1 ≤ k
-lack-one agree-have e = absurd (have-lack e)
-lack-one (agree-lack {k = j} one most) e = let z = lack-inj e in omega arith
+    rw (granted-node t r d) (held-kept n tallest t (slot r) m w (l .low, omega arith) (not-full t r d e))
 
 -- ---- the number, on any tables
 
-module _ (t : Tables) (root d : ℕ) (p : IVec3) (v : ℕ) where
+module _ (n : ℕ) (t : Tables) (root d : ℕ) (cell : List ℕ) (v : ℕ) where
   -- what the number 0 says
-  pub accepted-past : editNo t root d p v ≡ 0 → (lookNo t root d p ≡ 0) × (heightAt (W t) root ≤ d) × (grantNo t (resultOf 8 t v (cellAt d p) root) ≡ 0)
-  unfolding editNo
-  accepted-past e = cases (ℕ-discrete (lookNo t root d p) 0)
-      (λ n. cases (decLe (heightAt (W t) root) d)
-      (λ l. (n, l, (rw (eq-eqb (lookNo t root d p) 0 n, le-leb (heightAt (W t) root) d l) at e)))
-      (λ l. absurd (let z : _≡_ {A = ℕ} 8 0 = (rw (eq-eqb (lookNo t root d p) 0 n, lt-leb (heightAt (W t) root) d (omega arith)) at e) in omega arith)))
-      (λ n. absurd (n (rw (ne-eqb (lookNo t root d p) 0 n) at e)))
+  pub cell-past : cellNo n t root d cell v ≡ 0 → (heightAt (W t) root ≤ d) × (grantNo t (resultOf n t v cell root) ≡ 0)
+  unfolding cellNo
+  cell-past e = cases (decLe (heightAt (W t) root) d)
+      (λ l. (l, (rw (le-leb (heightAt (W t) root) d l) at e)))
+      (λ l. absurd (let z : _≡_ {A = ℕ} 8 0 = (rw (lt-leb (heightAt (W t) root) d (omega arith)) at e) in omega arith))
 
-  accepted-is : editNo t root d p v ≡ 0 → editOf t root d p v ≡ answerOf t (resultOf 8 t v (cellAt d p) root) (makeOf 8 t v (cellAt d p) root 1 0)
-  unfolding editOf
-  accepted-is e = rw (eq-eqb (editNo t root d p v) 0 e)
+  cell-accepted : cellNo n t root d cell v ≡ 0 → editCell n t root d cell v ≡ answerOf t (resultOf n t v cell root) (makeOf n t v cell root 1 0)
+  unfolding editCell
+  cell-accepted e = rw (eq-eqb (cellNo n t root d cell v) 0 e)
 
   -- a refused one changes nothing
-  pub edit-refused : editNo t root d p v ≢ 0 → editOf t root d p v ≡ refused (editNo t root d p v) t
-  unfolding editOf
-  edit-refused e = rw (ne-eqb (editNo t root d p v) 0 e)
+  pub cell-refused : cellNo n t root d cell v ≢ 0 → editCell n t root d cell v ≡ refused (cellNo n t root d cell v) t
+  unfolding editCell
+  cell-refused e = rw (ne-eqb (cellNo n t root d cell v) 0 e)
 
   -- the answer's number is the lowest refusal that applies, or 0
-  pub edit-number : editOf t root d p v .no ≡ editNo t root d p v
-  edit-number = cases (ℕ-discrete (editNo t root d p v) 0)
-      (λ e. ap (λ (o : Out). o .no) (accepted-is e) ∙ answer-no t (resultOf 8 t v (cellAt d p) root) (makeOf 8 t v (cellAt d p) root 1 0) (make-no 8 t v (cellAt d p) root 1 0) ∙ sym e)
-      (λ e. ap (λ (o : Out). o .no) (edit-refused e))
+  pub cell-number : editCell n t root d cell v .no ≡ cellNo n t root d cell v
+  cell-number = cases (ℕ-discrete (cellNo n t root d cell v) 0)
+      (λ e. ap (λ (o : Out). o .no) (cell-accepted e) ∙ answer-no t (resultOf n t v cell root) (makeOf n t v cell root 1 0) (make-no n t v cell root 1 0) ∙ sym e)
+      (λ e. ap (λ (o : Out). o .no) (cell-refused e))
 
 -- ---- an accepted edit
 
-module _ (t : Tables) (w : WellFormed 8 6 t) (root d : ℕ) (p : IVec3) (v : ℕ) (high : v ≤ 65535) where
-  abbrev here : List ℕ
-  here = cellAt d p
+module _ {n tallest : ℕ} {t : Tables} {root d : ℕ} {cell : List ℕ} {v : ℕ} (q : Posed n tallest t root d cell v) where
+  abbrev new : Out
+  new = makeOf n t v cell root 1 0
 
-  cell : Cell 8 d here
-  cell = cube-cell d (whole (p .x)) (whole (p .y)) (whole (p .z))
+  made-t : WellMade n (cap t) (W t)
+  made-t = wf-made n tallest t (q .words) (q .well)
 
-  made-t : WellMade 8 (cap t) (W t)
-  made-t = wf-made 8 6 t (omega arith) w
-
-  module _ (n : lookNo t root d p ≡ 0) (low : heightAt (W t) root ≤ d) where
-    abbrev there : LiveOr0 (cap t) (W t) root
-    there = root-there t root d p n
-
-    right : (u : Tables) (r : ℕ) → WellFormed 8 6 u → cap u ≡ cap t → Extends 8 (cap t) (W t) (W u) → Answer 8 (cap t) (W t) (W u) root here v r → Effect t u r → Right t root d here v u r
+  module _ (low : heightAt (W t) root ≤ d) where
+    right : (u : Tables) (r : ℕ) → WellFormed n tallest u → cap u ≡ cap t → Extends n (cap t) (W t) (W u) → Answer n (cap t) (W t) (W u) root cell v r → Effect n t u r
+        → Right n tallest t root d cell v u r
     right u r wu size ext ans eff = record {
       well = wu;
       size = size;
-      edited = edited (omega arith) made-t there low cell ext (subst (λ (c : ℕ). WellMade 8 c (W u)) size (wf-made 8 6 u (omega arith) wu)) ans;
+      edited = edited (omega arith) made-t (q .there) low (q .cell-is) ext (subst (λ (c : ℕ). WellMade n c (W u)) size (wf-made n tallest u (q .words) wu)) ans;
       effect = eff;
       answer = ans;
     }
 
-    -- the old root
-    same-right : look (W t) here root ≡ v → grantNo t (have root) ≡ 0 → Right t root d here v (granted t root) root
-    same-right e g = right (granted t root) root (granted-well t root w there g) (granted-cap t root) (granted-extends 8 t root (omega arith)) (asked e refl) (granted-effect t root w there)
+    -- an answer that was there
+    there-right : (r : ℕ) → LiveOr0 (cap t) (W t) r → grantNo t (have r) ≡ 0 → Answer n (cap t) (W t) (W (granted t r)) root cell v r
+        → Right n tallest t root d cell v (granted t r) r
+    there-right r l g ans =
+        right (granted t r) r (granted-well (q .words) t r (q .well) l g) (granted-cap t r) (granted-extends n t r (q .words)) ans (granted-effect t r (q .well) l)
 
-    -- a result that was there
-    have-right : (r : ℕ) → look (W t) here root ≢ v → planOf 8 t v here root ≡ have r → grantNo t (have r) ≡ 0 → Right t root d here v (granted t r) r
+    have-right : (r : ℕ) → look (W t) cell root ≢ v → planOf n t v cell root ≡ have r → grantNo t (have r) ≡ 0 → Right n tallest t root d cell v (granted t r) r
     have-right r e pl g =
-        let a : Anew 8 (cap t) (W t) v here root r = plan-have (rw pl at (plan-is 8 6 t (omega arith) (omega arith) w v root there low cell)) in
-        let z = renewed 8 (cap t) (omega arith) (W t) made-t v there low cell a in
-        let x = granted-extends 8 t r (omega arith) in
-        right (granted t r) r (granted-well t r w (z .there) g) (granted-cap t r) x (made e (anew-later made-t x there cell a)) (granted-effect t r w (z .there))
+        let a : Anew n (cap t) (W t) v cell root r = plan-have (rw pl at (plan-is n tallest t (q .words) (omega arith) (q .well) v root (q .there) low (q .cell-is))) in
+        let z = renewed n (cap t) (omega arith) (W t) made-t v (q .there) low (q .cell-is) a in
+        there-right r (z .there) g (made e (anew-later made-t (granted-extends n t r (q .words)) (q .there) (q .cell-is) a))
 
-    -- a result that is made
-    lack-done : (k : ℕ) → planOf 8 t v here root ≡ lack k → grantNo t (lack k) ≡ 0 → Done 8 6 t v here root k 1 0 (makeOf 8 t v here root 1 0)
-    lack-done k pl g =
-        let l = grant-room t k g in
-        let one = lack-one (plan-agree 6 t w v high root (let h = deep t root d p n in omega arith) cell) pl in
-        make-done 8 6 t (omega arith) (omega arith) w v high root k 1 0 there low (deep t root d p n) cell pl (omega arith) (omega arith) (omega arith)
+    -- an answer that is made
+    module _ (k : ℕ) (pl : planOf n t v cell root ≡ lack k) where
+      plan-lacks : Plan n (cap t) (W t) v cell root (lack k)
+      plan-lacks = rw pl at (plan-is n tallest t (q .words) (omega arith) (q .well) v root (q .there) low (q .cell-is))
 
-    lack-effect : (k : ℕ) → planOf 8 t v here root ≡ lack k → Done 8 6 t v here root k 1 0 (makeOf 8 t v here root 1 0)
-        → Effect t (makeOf 8 t v here root 1 0 .after) (makeOf 8 t v here root 1 0 .id)
-    lack-effect k pl r =
-        let o = makeOf 8 t v here root 1 0 in
-        let low-id = r .live .low in
-        record {
-          granted-one = λ d. r .held ∙ (let z = w .cleared (slot (o .id)) low-id (r .dead) .words holds (omega arith) (omega arith) (omega arith) in omega arith);
-          no-other = λ s l q. r .holds-kept s l (⊎-elim (λ z. absurd (live-nonzero (r .live) z)) (λ z. z) q);
-          only = r .only;
-          new = k;
-          count = r .grown .lives;
-          lacked = inr (plan-lack 8 (cap t) (omega arith) (W t) (W (o .after)) made-t
-              (subst (λ (c : ℕ). WellMade 8 c (W (o .after))) (r .grown .caps) (content-made 8 6 (cap (o .after)) (W (o .after)) (omega arith) (r .grown .inv .sized .most) (r .grown .content)))
-              (grown-extends (r .grown) (omega arith)) v there low cell (rw pl at (plan-is 8 6 t (omega arith) (omega arith) w v root there low cell)) (r .anew));
-        }
+      pub lack-done : grantNo t (lack k) ≡ 0 → Done n tallest t v cell root k 1 0 new
+      lack-done g =
+          let l = grant-room t k g in
+          let one = plan-some plan-lacks in
+          make-done n tallest t (q .words) (q .several) (q .well) v (q .small) root k 1 0 (q .there) low (q .deep) (q .cell-is) pl (omega arith) (omega arith) (omega arith)
 
-    lack-right : (k : ℕ) → look (W t) here root ≢ v → planOf 8 t v here root ≡ lack k → grantNo t (lack k) ≡ 0
-        → Right t root d here v (makeOf 8 t v here root 1 0 .after) (makeOf 8 t v here root 1 0 .id)
-    lack-right k e pl g =
-        let o = makeOf 8 t v here root 1 0 in
-        let r = lack-done k pl g in
-        right (o .after) (o .id) (inv-wf 8 6 (o .after) (r .grown .inv) (r .grown .content)) (r .grown .caps) (grown-extends (r .grown) (omega arith)) (made e (r .anew)) (lack-effect k pl r)
+      lack-effect : Done n tallest t v cell root k 1 0 new → Effect n t (new .after) (new .id)
+      lack-effect r =
+          let low-id = r .live .low in
+          record {
+            granted-one = λ d. r .held ∙ (let z = q .well .cleared (slot (new .id)) low-id (r .dead) .words holds (omega arith) (omega arith) (omega arith) in omega arith);
+            no-other = λ s l o. r .holds-kept s l (⊎-elim (λ z. absurd (live-nonzero (r .live) z)) (λ z. z) o);
+            only = r .only;
+            new = k;
+            count = r .grown .lives;
+            lacked = inr (plan-lack n (cap t) (q .several) (W t) (W (new .after)) made-t
+                (subst (λ (c : ℕ). WellMade n c (W (new .after))) (r .grown .caps) (content-made n tallest (cap (new .after)) (W (new .after)) (q .words) (r .grown .inv .sized .most) (r .grown .content)))
+                (grown-extends (r .grown) (q .words)) v (q .there) low (q .cell-is) plan-lacks (r .anew));
+          }
 
-    answer-right : (r : Need) → look (W t) here root ≢ v → planOf 8 t v here root ≡ r → grantNo t r ≡ 0
-        → Right t root d here v (answerOf t r (makeOf 8 t v here root 1 0) .after) (answerOf t r (makeOf 8 t v here root 1 0) .id)
+      lack-right : look (W t) cell root ≢ v → grantNo t (lack k) ≡ 0 → Right n tallest t root d cell v (new .after) (new .id)
+      lack-right e g =
+          let r = lack-done g in
+          right (new .after) (new .id) (inv-wf n tallest (new .after) (r .grown .inv) (r .grown .content)) (r .grown .caps) (grown-extends (r .grown) (q .words)) (made e (r .anew)) (lack-effect r)
+
+    answer-right : (r : Need) → look (W t) cell root ≢ v → planOf n t v cell root ≡ r → grantNo t r ≡ 0
+        → Right n tallest t root d cell v (answerOf t r new .after) (answerOf t r new .id)
     unfolding answerOf
     answer-right (have r) e pl g = have-right r e pl g
-    answer-right (lack k) e pl g = lack-right k e pl g
+    answer-right (lack k) e pl g = lack-right k pl e g
 
-    old : look (W t) here root ≡ v → grantNo t (have root) ≡ 0
-        → Right t root d here v (answerOf t (have root) (makeOf 8 t v here root 1 0) .after) (answerOf t (have root) (makeOf 8 t v here root 1 0) .id)
+    old : look (W t) cell root ≡ v → grantNo t (have root) ≡ 0 → Right n tallest t root d cell v (answerOf t (have root) new .after) (answerOf t (have root) new .id)
     unfolding answerOf
-    old z g = same-right z g
+    old z g = there-right root (q .there) g (asked z refl)
 
-    result-right : grantNo t (resultOf 8 t v here root) ≡ 0
-        → Right t root d here v (answerOf t (resultOf 8 t v here root) (makeOf 8 t v here root 1 0) .after) (answerOf t (resultOf 8 t v here root) (makeOf 8 t v here root 1 0) .id)
+    result-right : grantNo t (resultOf n t v cell root) ≡ 0
+        → Right n tallest t root d cell v (answerOf t (resultOf n t v cell root) new .after) (answerOf t (resultOf n t v cell root) new .id)
     unfolding resultOf
-    result-right g = cases (ℕ-discrete (look (W t) here root) v)
-        (λ z. rw (eq-eqb (look (W t) here root) v z) (old z (rw (eq-eqb (look (W t) here root) v z) at g)))
-        (λ z. rw (ne-eqb (look (W t) here root) v z) (answer-right (planOf 8 t v here root) z refl (rw (ne-eqb (look (W t) here root) v z) at g)))
+    result-right g = cases (ℕ-discrete (look (W t) cell root) v)
+        (λ z. rw (eq-eqb (look (W t) cell root) v z) (old z (rw (eq-eqb (look (W t) cell root) v z) at g)))
+        (λ z. rw (ne-eqb (look (W t) cell root) v z) (answer-right (planOf n t v cell root) z refl (rw (ne-eqb (look (W t) cell root) v z) at g)))
 
   -- an accepted edit of well-formed tables is right
-  pub edit-right : editNo t root d p v ≡ 0 → Right t root d here v (editOf t root d p v .after) (editOf t root d p v .id)
-  edit-right e =
-      let a = accepted-past t root d p v e in
-      subst (λ (o : Out). Right t root d here v (o .after) (o .id)) (sym (accepted-is t root d p v e)) (result-right (a .0) (a .1) (a .2))
+  pub cell-right : cellNo n t root d cell v ≡ 0 → Right n tallest t root d cell v (editCell n t root d cell v .after) (editCell n t root d cell v .id)
+  cell-right e =
+      let a = cell-past n t root d cell v e in
+      subst (λ (o : Out). Right n tallest t root d cell v (o .after) (o .id)) (sym (cell-accepted n t root d cell v e)) (result-right (a .0) (a .1))
 
   -- so every edit keeps well-formed tables well formed
-  pub edit-well : WellFormed 8 6 (editOf t root d p v .after)
-  edit-well = cases (ℕ-discrete (editNo t root d p v) 0)
-      (λ e. edit-right e .well)
-      (λ e. subst (λ (o : Out). WellFormed 8 6 (o .after)) (sym (edit-refused t root d p v e)) w)
+  pub cell-well : WellFormed n tallest (editCell n t root d cell v .after)
+  cell-well = cases (ℕ-discrete (cellNo n t root d cell v) 0)
+      (λ e. cell-right e .well)
+      (λ e. subst (λ (o : Out). WellFormed n tallest (o .after)) (sym (cell-refused n t root d cell v e)) (q .well))
+
+-- ---- the cube
+
+module _ (t : Tables) (root d : ℕ) (p : IVec3) (v : ℕ) where
+  -- past the refusals of a lookup it is the edit of the cell
+  pub past-look : lookNo t root d p ≡ 0
+      → (editNo t root d p v ≡ cellNo cubeKids t root d (cellAt d p) v) × (editOf t root d p v ≡ editCell cubeKids t root d (cellAt d p) v)
+  unfolding editNo editOf
+  past-look n = (rw (eq-eqb (lookNo t root d p) 0 n), rw (eq-eqb (lookNo t root d p) 0 n))
+
+  not-past : lookNo t root d p ≢ 0 → (editNo t root d p v ≡ lookNo t root d p) × (editOf t root d p v ≡ refused (lookNo t root d p) t)
+  unfolding editNo editOf
+  not-past n = (rw (ne-eqb (lookNo t root d p) 0 n), rw (ne-eqb (lookNo t root d p) 0 n))
+
+  -- the answer's number is the lowest refusal that applies, or 0
+  pub edit-number : editOf t root d p v .no ≡ editNo t root d p v
+  edit-number = cases (ℕ-discrete (lookNo t root d p) 0)
+      (λ n. let e = past-look n in ap (λ (o : Out). o .no) (e .1) ∙ cell-number cubeKids t root d (cellAt d p) v ∙ sym (e .0))
+      (λ n. let e = not-past n in ap (λ (o : Out). o .no) (e .1) ∙ sym (e .0))
+
+  -- a refused one changes nothing
+  pub edit-refused : editNo t root d p v ≢ 0 → editOf t root d p v ≡ refused (editNo t root d p v) t
+  edit-refused h = cases (ℕ-discrete (lookNo t root d p) 0)
+      (λ n. let e = past-look n in e .1 ∙ cell-refused cubeKids t root d (cellAt d p) v (λ z. h (e .0 ∙ z)) ∙ ap (λ (k : ℕ). refused k t) (sym (e .0)))
+      (λ n. let e = not-past n in e .1 ∙ ap (λ (k : ℕ). refused k t) (sym (e .0)))
+
+  -- what the number 0 says
+  pub accepted-past : editNo t root d p v ≡ 0
+      → (lookNo t root d p ≡ 0) × (heightAt (W t) root ≤ d) × (grantNo t (resultOf cubeKids t v (cellAt d p) root) ≡ 0)
+  accepted-past z = cases (ℕ-discrete (lookNo t root d p) 0)
+      (λ n. let a = cell-past cubeKids t root d (cellAt d p) v (sym (past-look n .0) ∙ z) in (n, a .0, a .1))
+      (λ n. absurd (n (sym (not-past n .0) ∙ z)))
+
+  module _ (w : WellFormed cubeKids deepest t) (high : v ≤ largestValue) where
+    pub posed : lookNo t root d p ≡ 0 → Posed cubeKids deepest t root d (cellAt d p) v
+    posed n = record {
+      words = omega arith;
+      several = omega arith;
+      well = w;
+      there = root-there t root d p n;
+      deep = deep t root d p n;
+      cell-is = cube-cell d (whole (p .x)) (whole (p .y)) (whole (p .z));
+      small = high;
+    }
+
+    -- what holds of a refusal, and of the edit of a cell, holds of the edit of a cube
+    pub by-cell : (P : Out → Type 0) → ((k : ℕ) → k ≢ 0 → P (refused k t))
+        → (Posed cubeKids deepest t root d (cellAt d p) v → P (editCell cubeKids t root d (cellAt d p) v)) → P (editOf t root d p v)
+    by-cell P none some = cases (ℕ-discrete (lookNo t root d p) 0)
+        (λ n. subst P (sym (past-look n .1)) (some (posed n)))
+        (λ n. subst P (sym (not-past n .1)) (none (lookNo t root d p) n))
+
+module _ (t : Tables) (w : WellFormed cubeKids deepest t) (root d : ℕ) (p : IVec3) (v : ℕ) (high : v ≤ largestValue) where
+  -- an accepted edit of well-formed tables is right
+  pub edit-right : editNo t root d p v ≡ 0 → Right cubeKids deepest t root d (cellAt d p) v (editOf t root d p v .after) (editOf t root d p v .id)
+  edit-right z =
+      let n = accepted-past t root d p v z .0 in
+      let e = past-look t root d p v n in
+      subst (λ (o : Out). Right cubeKids deepest t root d (cellAt d p) v (o .after) (o .id)) (sym (e .1)) (cell-right (posed t root d p v w high n) (sym (e .0) ∙ z))
+
+  -- so every edit keeps well-formed tables well formed
+  pub edit-well : WellFormed cubeKids deepest (editOf t root d p v .after)
+  edit-well = by-cell t root d p v w high (λ o. WellFormed cubeKids deepest (o .after)) (λ k h. w) cell-well

@@ -6,18 +6,18 @@ use native.Mathlib.Decide.{ℕ-discrete}
 use native.Mathlib.Omega.{arith}
 use lib.ListN.{length, set}
 use borrow.Author.Tests.{eq-eqb, ne-eqb}
+use Rattle.basics.specs.Limits.{deepest, cubeKids, kidWords, largestValue, mostHolds}
 use Rattle.ids.specs.Ids.{generationOf}
 use Rattle.nodes.specs.Values.{heightAt}
 use Rattle.nodes.specs.Words.{own}
 use Rattle.nodes.proofs.Access.{written-others, written-fact}
 use Rattle.nodes.proofs.Sums.{cases}
 use Rattle.paths.specs.declared.IVec3.{IVec3}
-use Rattle.paths.specs.Paths.{whole}
 use Rattle.tree.specs.Tree.{LiveOr0, WellMade, Cell, here, down, look}
 use Rattle.tree.specs.Anew.{part, replace}
 use Rattle.tree.specs.Lacks.{Need, have, lack, Plan}
-use Rattle.tree.proofs.CellLaws.{cube-cell}
 use Rattle.tree.proofs.Making.{part-there, part-low}
+use Rattle.tree.proofs.Room.{plan-some}
 use Rattle.arena.specs.Calls.{Out, said, each, empties, freshSlot, freshFacts}
 use Rattle.arena.specs.Node.{leafId, branchId, valueFor, heightFor}
 use Rattle.arena.specs.Tables.{Tables, cap, W, WellFormed}
@@ -26,11 +26,10 @@ use Rattle.arena.proofs.Inv.{Inv, sized-within, wf-inv}
 use Rattle.arena.proofs.Make.{fresh-free}
 use Rattle.arena.proofs.Rows.{empties-length, fresh-length}
 use Rattle.read_cell.proofs.Meaning.{wf-made}
-use Rattle.edit.specs.Edit.{wordsOf, needOf, upNeed, planOf, resultOf, owed, lowOf, freshNode, leafAnew, branchAnew, makeOf, grantNo, granted, answerOf, cellAt, editNo, editOf}
-use Rattle.edit.proofs.Edits.{granted-word, grant-room, lack-one, accepted-past}
+use Rattle.edit.specs.Edit.{wordsOf, needOf, upNeed, planOf, resultOf, owed, lowOf, freshNode, leafAnew, branchAnew, makeOf, grantNo, granted, answerOf, cellNo, editCell, editOf}
+use Rattle.edit.specs.Promises.{Posed}
+use Rattle.edit.proofs.Edits.{granted-word, grant-room, cell-past, by-cell}
 use Rattle.edit.proofs.Growing.{owed-word, each-word}
-use Rattle.edit.proofs.Law.{deep, root-there}
-use Rattle.edit.proofs.Mirror.{plan-agree}
 use Rattle.edit.proofs.Planning.{words-length, plan-is}
 use Rattle.edit.proofs.Upward.{Low, Done, low-have, low-lack, placed, lack-inj, have-lack, over, make-done}
 
@@ -50,7 +49,7 @@ module _ (t : Tables) (debt : List ℕ) (i : Inv t debt) (room : t .arena .live 
   small : s < 65536
   small = let l = low in let m = i .sized .most in omega arith
 
-  fresh-gens : (id : ℕ) (ks : List ℕ) (v up h q : ℕ) → length ks ≡ 8 → generationOf id ≡ generationOf (W t s own) → Gens-kept t (freshNode t id ks v up h q .after)
+  fresh-gens : (id : ℕ) (ks : List ℕ) (v up h q : ℕ) → length ks ≡ kidWords → generationOf id ≡ generationOf (W t s own) → Gens-kept t (freshNode t id ks v up h q .after)
   unfolding freshNode freshFacts
   fresh-gens id ks v up h q e g b =
       let row = freshFacts id v up h q in
@@ -66,7 +65,7 @@ module _ (t : Tables) (debt : List ℕ) (i : Inv t debt) (room : t .arena .live 
       let g = generationOf (W t s own) in
       fresh-gens (leafId s g) empties x 0 h q empties-length (leaf-gen s g (omega arith) (gen-small (W t s own)))
 
-  branch-gens : (n : ℕ) (ks : List ℕ) (h q : ℕ) → length ks ≡ 8 → Gens-kept t (branchAnew n t ks h q .after)
+  branch-gens : (n : ℕ) (ks : List ℕ) (h q : ℕ) → length ks ≡ kidWords → Gens-kept t (branchAnew n t ks h q .after)
   unfolding branchAnew
   branch-gens n ks h q e =
       let l = small in
@@ -75,56 +74,50 @@ module _ (t : Tables) (debt : List ℕ) (i : Inv t debt) (room : t .arena .live 
 
 -- ## The making
 
-m8 : 8 ≤ 8
-m8 = omega arith
-
-two : 1 < 8
-two = omega arith
-
-module _ (t : Tables) (w : WellFormed 8 6 t) (x : ℕ) (fits-16 : x ≤ 65535) where
-  made : WellMade 8 (cap t) (W t)
-  made = wf-made 8 6 t m8 w
+module _ (n tallest : ℕ) (t : Tables) (m : n ≤ kidWords) (two : 1 < n) (w : WellFormed n tallest t) (x : ℕ) (fits-16 : x ≤ largestValue) where
+  made : WellMade n (cap t) (W t)
+  made = wf-made n tallest t m w
 
   -- the branch over a part
-  over-gens : (d c a j h q : ℕ) (p : List ℕ) (o : Out) → LiveOr0 (cap t) (W t) a → heightAt (W t) a ≤ suc d → c < 8 → Cell 8 d p → suc d ≤ 6
-      → t .arena .live + suc j < cap t → h ≤ 1000000 → 1 ≤ h + q → Low 8 6 t x p a c j o → Gens-kept t (o .after)
-      → Gens-kept t (over 8 6 t m8 two w x fits-16 c a h q o .after)
+  over-gens : (d c a j h q : ℕ) (p : List ℕ) (o : Out) → LiveOr0 (cap t) (W t) a → heightAt (W t) a ≤ suc d → c < n → Cell n d p → suc d ≤ tallest
+      → t .arena .live + suc j < cap t → h ≤ mostHolds → 1 ≤ h + q → Low n tallest t x p a c j o → Gens-kept t (o .after)
+      → Gens-kept t (over n tallest t m two w x fits-16 c a h q o .after)
   over-gens d c a j h q p o l low b cell tall room few held r same i =
       let f = replace (part (W t) a) c (o .id) in
-      let ks = wordsOf 8 f in
+      let ks = wordsOf n f in
       let v = each owed (o .after) (set ks c 0) in
-      let g = placed 8 6 t m8 two w x fits-16 d c a j h q p o l low b cell tall room few held r in
+      let g = placed n tallest t m two w x fits-16 d c a j h q p o l low b cell tall room few held r in
       let free : v .arena .live + 1 < cap v = (let y = g .lives in let k = r .grown .lives in let u = g .caps in let z = r .grown .caps in omega arith) in
-      branch-gens v (ks ++ []) (g .inv) free 8 ks h q (words-length 8 f) i ∙ ap generationOf (each-word (set ks c 0) (o .after) i own (omega arith)) ∙ same i
+      branch-gens v (ks ++ []) (g .inv) free n ks h q (words-length n f) i ∙ ap generationOf (each-word (set ks c 0) (o .after) i own (omega arith)) ∙ same i
 
-  step-gens : (d c a k h q : ℕ) (p : List ℕ) → LiveOr0 (cap t) (W t) a → heightAt (W t) a ≤ suc d → c < 8 → Cell 8 d p → suc d ≤ 6
-      → (pl : Need) (new : Out) → Plan 8 (cap t) (W t) x p (part (W t) a c) pl
-      → ((j : ℕ) → pl ≡ lack j → t .arena .live + j < cap t → Done 8 6 t x p (part (W t) a c) j 0 1 new × Gens-kept t (new .after))
-      → upNeed (λ s. needOf 8 t (replace (part (W t) a) c s)) pl ≡ lack k → t .arena .live + k < cap t → h ≤ 1000000 → 1 ≤ h + q
-      → Gens-kept t (over 8 6 t m8 two w x fits-16 c a h q (lowOf t pl new) .after)
+  step-gens : (d c a k h q : ℕ) (p : List ℕ) → LiveOr0 (cap t) (W t) a → heightAt (W t) a ≤ suc d → c < n → Cell n d p → suc d ≤ tallest
+      → (pl : Need) (new : Out) → Plan n (cap t) (W t) x p (part (W t) a c) pl
+      → ((j : ℕ) → pl ≡ lack j → t .arena .live + j < cap t → Done n tallest t x p (part (W t) a c) j 0 1 new × Gens-kept t (new .after))
+      → upNeed (λ s. needOf n t (replace (part (W t) a) c s)) pl ≡ lack k → t .arena .live + k < cap t → h ≤ mostHolds → 1 ≤ h + q
+      → Gens-kept t (over n tallest t m two w x fits-16 c a h q (lowOf t pl new) .after)
   unfolding upNeed lowOf
   step-gens d c a k h q p l low b cell tall (have s) new u ih e room few held =
-      let r = low-have 8 6 t m8 two w x fits-16 d c a s k p l low b cell u e in
+      let r = low-have n tallest t m two w x fits-16 d c a s k p l low b cell u e in
       let one = r .1 in
       over-gens d c a 0 h q p (said 0 s (owed t s)) l low b cell tall (omega arith) few held (r .0) (λ i. ap generationOf (owed-word t s i own (omega arith)))
   step-gens d c a k h q p l low b cell tall (lack j) new u ih e room few held =
       let one : suc j ≡ k = lack-inj e in
       let r = ih j refl (omega arith) in
-      over-gens d c a j h q p new l low b cell tall (omega arith) few held (low-lack 8 6 t m8 two w x fits-16 d c a j p new l b (r .0)) (r .1)
+      over-gens d c a j h q p new l low b cell tall (omega arith) few held (low-lack n tallest t m two w x fits-16 d c a j p new l b (r .0)) (r .1)
 
-  make-gens : {d : ℕ} {p : List ℕ} (a k h q : ℕ) → LiveOr0 (cap t) (W t) a → heightAt (W t) a ≤ d → d ≤ 6 → Cell 8 d p
-      → planOf 8 t x p a ≡ lack k → t .arena .live + k < cap t → h ≤ 1000000 → 1 ≤ h + q → Gens-kept t (makeOf 8 t x p a h q .after)
+  make-gens : {d : ℕ} {p : List ℕ} (a k h q : ℕ) → LiveOr0 (cap t) (W t) a → heightAt (W t) a ≤ d → d ≤ tallest → Cell n d p
+      → planOf n t x p a ≡ lack k → t .arena .live + k < cap t → h ≤ mostHolds → 1 ≤ h + q → Gens-kept t (makeOf n t x p a h q .after)
   unfolding makeOf planOf
   make-gens a k h q l low tall here e room few held =
-      let one = lack-one (plan-agree 6 t w x fits-16 a (omega arith) here) e in
-      leaf-gens t [] (wf-inv 8 6 t m8 w) (omega arith) x h q
+      let one = plan-some (rw e at (plan-is n tallest t m (omega arith) w x a l low here)) in
+      leaf-gens t [] (wf-inv n tallest t m w) (omega arith) x h q
   make-gens a k h q l low tall (down {d = d} {c = c} {p = p} b cell) e room few held =
-      let lb = part-there 8 (cap t) (W t) made a c l b in
-      let hb = part-low 8 (cap t) (W t) made a c l b d low in
-      step-gens d c a k h q p l low b cell tall (planOf 8 t x p (part (W t) a c)) (makeOf 8 t x p (part (W t) a c) 0 1)
-      (plan-is 8 6 t m8 (omega arith) w x (part (W t) a c) lb hb cell)
+      let lb = part-there n (cap t) (W t) made a c l b in
+      let hb = part-low n (cap t) (W t) made a c l b d low in
+      step-gens d c a k h q p l low b cell tall (planOf n t x p (part (W t) a c)) (makeOf n t x p (part (W t) a c) 0 1)
+      (plan-is n tallest t m (omega arith) w x (part (W t) a c) lb hb cell)
       (λ j z y. (
-        make-done 8 6 t m8 two w x fits-16 (part (W t) a c) j 0 1 lb hb (omega arith) cell z y (omega arith) (omega arith),
+        make-done n tallest t m two w x fits-16 (part (W t) a c) j 0 1 lb hb (omega arith) cell z y (omega arith) (omega arith),
         make-gens (part (W t) a c) j 0 1 lb hb (omega arith) cell z y (omega arith) (omega arith),
       ))
       e room few held
@@ -134,38 +127,38 @@ module _ (t : Tables) (w : WellFormed 8 6 t) (x : ℕ) (fits-16 : x ≤ 65535) w
 granted-gens : (t : Tables) (r : ℕ) → Gens-kept t (granted t r)
 granted-gens t r b = ap generationOf (granted-word t r b own (omega arith))
 
-module _ (t : Tables) (w : WellFormed 8 6 t) (root d : ℕ) (p : IVec3) (v : ℕ) (high : v ≤ 65535) where
-  abbrev cell : List ℕ
-  cell = cellAt d p
-
+module _ {n tallest : ℕ} {t : Tables} {root d : ℕ} {cell : List ℕ} {v : ℕ} (q : Posed n tallest t root d cell v) where
   abbrev new : Out
-  new = makeOf 8 t v cell root 1 0
+  new = makeOf n t v cell root 1 0
 
   answer-gens : (r : Need) → ((k : ℕ) → r ≡ lack k → Gens-kept t (new .after)) → Gens-kept t (answerOf t r new .after)
   unfolding answerOf
   answer-gens (have r) h = granted-gens t r
   answer-gens (lack k) h = h k refl
 
-  result-plan : (k : ℕ) → resultOf 8 t v cell root ≡ lack k → planOf 8 t v cell root ≡ lack k
+  result-plan : (k : ℕ) → resultOf n t v cell root ≡ lack k → planOf n t v cell root ≡ lack k
   unfolding resultOf
   result-plan k = cases (ℕ-discrete (look (W t) cell root) v)
       (λ z. rw (eq-eqb (look (W t) cell root) v z) (λ e. absurd (have-lack e)))
       (λ z. rw (ne-eqb (look (W t) cell root) v z) (λ e. e))
 
-  accepted-gens : editNo t root d p v ≡ 0 → Gens-kept t (answerOf t (resultOf 8 t v cell root) new .after)
+  accepted-gens : cellNo n t root d cell v ≡ 0 → Gens-kept t (answerOf t (resultOf n t v cell root) new .after)
   accepted-gens e =
-      let past = accepted-past t root d p v e in
-      let top = deep t root d p (past .0) in
-      let at = cube-cell d (whole (p .x)) (whole (p .y)) (whole (p .z)) in
-      answer-gens (resultOf 8 t v cell root) (λ k z.
+      let past = cell-past n t root d cell v e in
+      answer-gens (resultOf n t v cell root) (λ k z.
       let pl = result-plan k z in
-      let one = lack-one (plan-agree 6 t w v high root (omega arith) at) pl in
-      let free = grant-room t k (subst (λ (r : Need). grantNo t r ≡ 0) z (past .2)) in
-      make-gens t w v high root k 1 0 (root-there t root d p (past .0)) (past .1) top at pl (omega arith) (omega arith) (omega arith))
+      let one = plan-some (rw pl at (plan-is n tallest t (q .words) (omega arith) (q .well) v root (q .there) (past .0) (q .cell-is))) in
+      let free = grant-room t k (subst (λ (r : Need). grantNo t r ≡ 0) z (past .1)) in
+      make-gens n tallest t (q .words) (q .several) (q .well) v (q .small) root k 1 0 (q .there) (past .0) (q .deep) (q .cell-is) pl (omega arith) (omega arith) (omega arith))
 
   -- An edit, accepted or refused, leaves the generation of every slot: a node that it makes has the one that its slot had.
-  pub edit-gens : (b : ℕ) → generationOf (W (editOf t root d p v .after) b own) ≡ generationOf (W t b own)
-  unfolding editOf
-  edit-gens b = cases (ℕ-discrete (editNo t root d p v) 0)
-      (λ e. rw (eq-eqb (editNo t root d p v) 0 e) (accepted-gens e b))
-      (λ e. rw (ne-eqb (editNo t root d p v) 0 e))
+  pub cell-gens : (b : ℕ) → generationOf (W (editCell n t root d cell v .after) b own) ≡ generationOf (W t b own)
+  unfolding editCell
+  cell-gens b = cases (ℕ-discrete (cellNo n t root d cell v) 0)
+      (λ e. rw (eq-eqb (cellNo n t root d cell v) 0 e) (accepted-gens e b))
+      (λ e. rw (ne-eqb (cellNo n t root d cell v) 0 e))
+
+pub edit-gens : (t : Tables) → WellFormed cubeKids deepest t → (root d : ℕ) (p : IVec3) (v : ℕ) → v ≤ largestValue
+    → (b : ℕ) → generationOf (W (editOf t root d p v .after) b own) ≡ generationOf (W t b own)
+edit-gens t w root d p v h b =
+    by-cell t root d p v w h (λ o. generationOf (W (o .after) b own) ≡ generationOf (W t b own)) (λ k z. refl) (λ q. cell-gens q b)

@@ -5,6 +5,7 @@ use mathlib.Core.List.{List}
 use Prim.Native.Nat.{ℕ, _+_, _≤_, _<_}
 use native.Mathlib.Decide.{ℕ-discrete, decLt}
 use native.Mathlib.Omega.{arith}
+use Rattle.basics.specs.Limits.{deepest, cubeKids, kidWords, largestValue}
 use Rattle.nodes.specs.Tally.{Live}
 use Rattle.nodes.specs.Words.{own, holds, slot, floor}
 use Rattle.nodes.proofs.Counts.{live-nonzero, live-inj}
@@ -12,16 +13,16 @@ use Rattle.nodes.proofs.Sums.{cases}
 use Rattle.paths.specs.declared.IVec3.{IVec3}
 use Rattle.tree.specs.Tree.{LiveOr0}
 use Rattle.arena.specs.Tables.{Tables, cap, W, LiveSlot, WellFormed}
-use Rattle.arena.specs.Calls.{Out}
+use Rattle.arena.specs.Calls.{Out, refused}
 use Rattle.ledger.specs.Ledger.{on, ifAccepted, holdsOn}
 use Rattle.ledger.specs.Fates.{Lives}
 use Rattle.ledger.proofs.Effects.{by-life, holds-live, holds-dead, on-zero, on-same, on-diff, accepted, unaccepted}
 use Rattle.ledger.proofs.Found.{slot-own, slot-lives}
-use Rattle.edit.specs.Edit.{editNo, editOf}
-use Rattle.edit.specs.Promises.{Right}
-use Rattle.edit.proofs.Edits.{edit-right, edit-refused, edit-number}
+use Rattle.edit.specs.Edit.{cellNo, editCell, editOf}
+use Rattle.edit.specs.Promises.{Posed, Right}
+use Rattle.edit.proofs.Edits.{cell-right, cell-refused, cell-number, by-cell}
 
-module _ (t : Tables) (w : WellFormed 8 6 t) (u : Tables) (r : ℕ) {root d : ℕ} {cell : List ℕ} {v : ℕ} (e : Right t root d cell v u r) where
+module _ {n tallest : ℕ} (m : n ≤ kidWords) {t u : Tables} {r root d : ℕ} {cell : List ℕ} {v : ℕ} (w : WellFormed n tallest t) (e : Right n tallest t root d cell v u r) where
   there : LiveOr0 (cap u) (W u) r
   there = subst (λ (k : ℕ). LiveOr0 k (W u) r) (sym (e .size)) (e .edited .there)
 
@@ -39,8 +40,8 @@ module _ (t : Tables) (w : WellFormed 8 6 t) (u : Tables) (r : ℕ) {root d : �
       (λ q. w .cleared (slot y) in-t q .words holds (omega arith) (omega arith) (omega arith))
       (λ q.
       let s : LiveSlot t (slot y) = (in-t, omega arith) in
-      let x = slot-lives 8 6 t (omega arith) w (slot y) s in
-      let same : W t (slot y) own ≡ y = live-inj (later (W t (slot y) own) x) l (slot-own 8 6 t (omega arith) w (slot y) s) in
+      let x = slot-lives n tallest t m w (slot y) s in
+      let same : W t (slot y) own ≡ y = live-inj (later (W t (slot y) own) x) l (slot-own n tallest t m w (slot y) s) in
       absurd (d (subst (λ (k : ℕ). Lives t k) same x)))
 
   apart : LiveOr0 (cap u) (W u) r → (y : ℕ) → Lives u y → y ≢ r → (r ≡ 0) ⊎ (slot y ≢ slot r)
@@ -70,13 +71,21 @@ module _ (t : Tables) (w : WellFormed 8 6 t) (u : Tables) (r : ℕ) {root d : �
       (λ k. omega (arith, holds-live u y l, holds-dead t y k, none-before y l k, word y l)))
       (λ d. omega (arith, holds-dead u y d, holds-dead t y (λ l. d (later y l)), absent there y d))
 
-pub edit-balance : (t : Tables) → WellFormed 8 6 t → (b e : ℕ) (p : IVec3) (v : ℕ) → v ≤ 65535 → (y : ℕ)
+module _ {n tallest : ℕ} {t : Tables} {root d : ℕ} {cell : List ℕ} {v : ℕ} (q : Posed n tallest t root d cell v) where
+  pub cell-balance : (y : ℕ)
+      → holdsOn (editCell n t root d cell v .after) y ≡ holdsOn t y + ifAccepted (editCell n t root d cell v) (on y (editCell n t root d cell v .id))
+  cell-balance y =
+      let o = editCell n t root d cell v in
+      let k = cell-number n t root d cell v in
+      cases (ℕ-discrete (cellNo n t root d cell v) 0)
+      (λ z. omega (arith, right-balance (q .words) (q .well) (cell-right q z) y, accepted o (on y (o .id)) (k ∙ z)))
+      (λ z.
+      let same : holdsOn (o .after) y ≡ holdsOn t y = ap (λ (x : Out). holdsOn (x .after) y) (cell-refused n t root d cell v z) in
+      omega (arith, unaccepted o (on y (o .id)) (λ i. z (sym k ∙ i))))
+
+pub edit-balance : (t : Tables) → WellFormed cubeKids deepest t → (b e : ℕ) (p : IVec3) (v : ℕ) → v ≤ largestValue → (y : ℕ)
     → holdsOn (editOf t b e p v .after) y ≡ holdsOn t y + ifAccepted (editOf t b e p v) (on y (editOf t b e p v .id))
 edit-balance t w b e p v h y =
-    let o = editOf t b e p v in
-    let n = edit-number t b e p v in
-    cases (ℕ-discrete (editNo t b e p v) 0)
-    (λ z. omega (arith, right-balance t w (o .after) (o .id) (edit-right t w b e p v h z) y, accepted o (on y (o .id)) (n ∙ z)))
-    (λ z.
-    let same : holdsOn (o .after) y ≡ holdsOn t y = ap (λ (x : Out). holdsOn (x .after) y) (edit-refused t b e p v z) in
-    omega (arith, unaccepted o (on y (o .id)) (λ q. z (sym n ∙ q))))
+    by-cell t b e p v w h (λ o. holdsOn (o .after) y ≡ holdsOn t y + ifAccepted o (on y (o .id)))
+    (λ k z. omega (arith, unaccepted (refused k t) (on y (refused k t .id)) z))
+    (λ q. cell-balance q y)

@@ -11,6 +11,7 @@ use mir.Syntax.{w32}
 use mir.ValLaws.{toZ-ofZ}
 use borrow.Author.Tests.{eq-eqb, ne-eqb, le-leb, lt-leb, leb-true}
 use Rattle.nodes.specs.Values.{heightAt}
+use Rattle.basics.specs.Limits.{deepest, cubeKids, largestValue}
 use Rattle.basics.specs.Pick.{pick}
 use Rattle.basics.proofs.Rungs.{past-yes}
 use Rattle.nodes.specs.Words.{wordOf, factOf, putOf, holds, slot}
@@ -29,7 +30,7 @@ use Rattle.read_cell.specs.Models.{lookNoAt}
 use Rattle.read_cell.proofs.Calls.{look-no-same, look-inside, coord-is}
 use Rattle.read_cell.proofs.Laws.{there-live, well-small}
 use Rattle.read_cell.proofs.Plain.{cell-whole}
-use Rattle.edit.specs.Edit.{planOf, resultOf, makeOf, grantNo, granted, answerOf, cellAt, editNo, editOf}
+use Rattle.edit.specs.Edit.{planOf, resultOf, makeOf, grantNo, granted, answerOf, cellNo, editCell, cellAt, editOf}
 use Rattle.edit_plan.specs.Models.{planned, planBy, rootPlan, resultBy}
 use Rattle.edit_plan.specs.declared.Plan as planning
 use Rattle.edit_make.specs.Models.{makeBy, makeAt}
@@ -43,15 +44,15 @@ module _ (t : Tables) (root d : ℕ) (p : IVec3) (e : lookNo t root d p ≡ 0) w
   abbrev inner : ℕ
   inner = pick (inside d (p .x)) (pick (inside d (p .y)) (pick (inside d (p .z)) (pick (liveOrEmpty (cap t) (W t) root) 0 4) 3) 3) 3
 
-  past : (fits t ≡ true) × (leb d 6 ≡ true) × (inner ≡ 0)
+  past : (fits t ≡ true) × (leb d deepest ≡ true) × (inner ≡ 0)
   unfolding lookNo
   past =
-      let a = past-yes (fits t) (pick (leb d 6) inner 2) 1 0 (omega arith) e in
-      let b = past-yes (leb d 6) inner 2 0 (omega arith) (a .1) in
+      let a = past-yes (fits t) (pick (leb d deepest) inner 2) 1 0 (omega arith) e in
+      let b = past-yes (leb d deepest) inner 2 0 (omega arith) (a .1) in
       (a .0, b .0, b .1)
 
-  pub deep : d ≤ 6
-  deep = leb-true d 6 (past .1)
+  pub deep : d ≤ deepest
+  deep = leb-true d deepest (past .1)
 
   pub root-there : LiveOr0 (cap t) (W t) root
   root-there =
@@ -68,11 +69,11 @@ unsized-no t root d p u = rw u
 
 module _ (t : Tables) (root d x y z v : ℕ) (p : IVec3) (no-same : lookNoAt t root d x y z ≡ lookNo t root d p) where
   refused-same : lookNo t root d p ≢ 0 → editBy t root d x y z v ≡ editOf t root d p v
-  unfolding editBy editOf editNoAt editNo
+  unfolding editBy editOf editNoAt
   refused-same n = rw (no-same, ne-eqb (lookNo t root d p) 0 n, ne-eqb (lookNo t root d p) 0 n)
 
   tall-same : lookNo t root d p ≡ 0 → leb (heightAt (W t) root) d ≡ false → editBy t root d x y z v ≡ editOf t root d p v
-  unfolding editBy editOf editNoAt editNo
+  unfolding editBy editOf editNoAt editCell cellNo
   tall-same n h = rw (no-same, eq-eqb (lookNo t root d p) 0 n, h)
 
   low-by : lookNo t root d p ≡ 0 → leb (heightAt (W t) root) d ≡ true → editBy t root d x y z v ≡ editPast t v d x y z root (resultBy t v d x y z root)
@@ -84,8 +85,8 @@ abbrev ended : Tables → Need → Out → Out
 ended t r new = pick (eqb (grantNo t r) 0) (answerOf t r new) (refused (grantNo t r) t)
 
 low-of : (t : Tables) (root d v : ℕ) (p : IVec3) → lookNo t root d p ≡ 0 → leb (heightAt (W t) root) d ≡ true
-    → editOf t root d p v ≡ ended t (resultOf 8 t v (cellAt d p) root) (makeOf 8 t v (cellAt d p) root 1 0)
-unfolding editOf editNo
+    → editOf t root d p v ≡ ended t (resultOf cubeKids t v (cellAt d p) root) (makeOf cubeKids t v (cellAt d p) root 1 0)
+unfolding editOf editCell cellNo
 low-of t root d v p n h = rw (eq-eqb (lookNo t root d p) 0 n, h)
 
 -- ---- the ends
@@ -117,7 +118,7 @@ lack-end t v d x y z k s root new one h = cases (decLe k (cap t - 1 - t .arena .
 
 -- ---- the whole
 
-module _ (t : Tables) (root d v : ℕ) (p : IVec3) (high : v ≤ 65535) where
+module _ (t : Tables) (root d v : ℕ) (p : IVec3) (high : v ≤ largestValue) where
   abbrev X : ℕ
   X = whole (p .x)
 
@@ -127,26 +128,26 @@ module _ (t : Tables) (root d v : ℕ) (p : IVec3) (high : v ≤ 65535) where
   abbrev Z : ℕ
   Z = whole (p .z)
 
-  result-same : WellFormed 8 6 t → lookNo t root d p ≡ 0 → heightAt (W t) root ≤ d
-      → editPast t v d X Y Z root (resultBy t v d X Y Z root) ≡ ended t (resultOf 8 t v (cellAt d p) root) (makeOf 8 t v (cellAt d p) root 1 0)
+  result-same : WellFormed cubeKids deepest t → lookNo t root d p ≡ 0 → heightAt (W t) root ≤ d
+      → editPast t v d X Y Z root (resultBy t v d X Y Z root) ≡ ended t (resultOf cubeKids t v (cellAt d p) root) (makeOf cubeKids t v (cellAt d p) root 1 0)
   unfolding resultBy rootPlan resultOf
   result-same w n low =
-      let l = le-leb d 6 (deep t root d p n) in
-      let whole-look : look (W t) (cellAt d p) root % 2 ^ 16 ≡ look (W t) (cellAt d p) root = cell-whole (W t) (well-small 8 6 t w) d root X Y Z in
+      let l = le-leb d deepest (deep t root d p n) in
+      let whole-look : look (W t) (cellAt d p) root % 2 ^ 16 ≡ look (W t) (cellAt d p) root = cell-whole (W t) (well-small cubeKids deepest t w) d root X Y Z in
       cases (ℕ-discrete (look (W t) (cellAt d p) root) v)
-      (λ z. rw (l, whole-look, eq-eqb (look (W t) (cellAt d p) root) v z) (have-end t v d X Y Z root root (makeOf 8 t v (cellAt d p) root 1 0)))
+      (λ z. rw (l, whole-look, eq-eqb (look (W t) (cellAt d p) root) v z) (have-end t v d X Y Z root root (makeOf cubeKids t v (cellAt d p) root 1 0)))
       (λ z. rw (l, whole-look, ne-eqb (look (W t) (cellAt d p) root) v z)
-      (go w n low (planBy t v (cellAt d p) root) (planOf 8 t v (cellAt d p) root) refl refl
-      (plan-agree 6 t w v high root (let h = deep t root d p n in omega arith) (cube-cell d X Y Z))))
+      (go w n low (planBy t v (cellAt d p) root) (planOf cubeKids t v (cellAt d p) root) refl refl
+      (plan-agree deepest t w v high root (let h = deep t root d p n in omega arith) (cube-cell d X Y Z))))
     where
-      go : WellFormed 8 6 t → lookNo t root d p ≡ 0 → heightAt (W t) root ≤ d → (b : planning.Plan) (r : Need) → planBy t v (cellAt d p) root ≡ b
-          → planOf 8 t v (cellAt d p) root ≡ r → Agree (suc d) b r → editPast t v d X Y Z root b ≡ ended t r (makeOf 8 t v (cellAt d p) root 1 0)
-      go w n low b r eb er (agree-have {r = s}) = have-end t v d X Y Z s root (makeOf 8 t v (cellAt d p) root 1 0)
+      go : WellFormed cubeKids deepest t → lookNo t root d p ≡ 0 → heightAt (W t) root ≤ d → (b : planning.Plan) (r : Need) → planBy t v (cellAt d p) root ≡ b
+          → planOf cubeKids t v (cellAt d p) root ≡ r → Agree (suc d) b r → editPast t v d X Y Z root b ≡ ended t r (makeOf cubeKids t v (cellAt d p) root 1 0)
+      go w n low b r eb er (agree-have {r = s}) = have-end t v d X Y Z s root (makeOf cubeKids t v (cellAt d p) root 1 0)
       go w n low b r eb er (agree-lack {k = k} {s = s} one most) =
-          lack-end t v d X Y Z k s root (makeOf 8 t v (cellAt d p) root 1 0) one
+          lack-end t v d X Y Z k s root (makeOf cubeKids t v (cellAt d p) root 1 0) one
           (λ l. make-path t v d X Y Z root k s 1 0 (deep t root d p n)
           ∙ ap (λ (i : planning.Plan). makeBy t v (cellAt d p) root (i .new) (i .id) 1 0) (sym eb)
-          ∙ make-same 6 (omega arith) t w v high root k 1 0 (root-there t root d p n) low (deep t root d p n) (cube-cell d X Y Z) er
+          ∙ make-same deepest (omega arith) t w v high root k 1 0 (root-there t root d p n) low (deep t root d p n) (cube-cell d X Y Z) er
           (let z = w .sized .least in omega arith) (omega arith) (omega arith))
 
   module _ (x y z : ℕ) (ex : x ≡ coordOf (p .x)) (ey : y ≡ coordOf (p .y)) (ez : z ≡ coordOf (p .z)) where
@@ -165,7 +166,7 @@ module _ (t : Tables) (root d v : ℕ) (p : IVec3) (high : v ≤ 65535) where
         ap₂ (λ (i j : ℕ). lookNoAt t root d i j z) ex ey ∙ ap (lookNoAt t root d (coordOf (p .x)) (coordOf (p .y))) ez
         ∙ look-no-same (t .arena) (t .nodes .kids) (t .nodes .facts) (t .find) root d p
 
-    well-same : WellFormed 8 6 t → editBy t root d x y z v ≡ editOf t root d p v
+    well-same : WellFormed cubeKids deepest t → editBy t root d x y z v ≡ editOf t root d p v
     well-same w = cases (ℕ-discrete (lookNo t root d p) 0)
         (λ n. cases (decLe (heightAt (W t) root) d)
         (λ l. low-by t root d x y z v p no-at n (le-leb (heightAt (W t) root) d l) ∙ past-same n
@@ -173,13 +174,13 @@ module _ (t : Tables) (root d v : ℕ) (p : IVec3) (high : v ≤ 65535) where
         (λ l. tall-same t root d x y z v p no-at n (lt-leb (heightAt (W t) root) d (omega arith))))
         (λ n. refused-same t root d x y z v p no-at n)
 
-    edit-same : Fair 8 6 t → editBy t root d x y z v ≡ editOf t root d p v
+    edit-same : Fair cubeKids deepest t → editBy t root d x y z v ≡ editOf t root d p v
     edit-same (inl u) = refused-same t root d x y z v p no-at (λ n. let e = unsized-no t root d p u in omega arith)
     edit-same (inr w) = well-same w
 
 -- the contract of the code
 pub voxel-law : (t : Tables) (root d : ℕ) (p : IVec3) (v x y z : ℕ) (r : Out) → v < 65536 → mag (p .x) < 2 ^ 31 → mag (p .y) < 2 ^ 31 → mag (p .z) < 2 ^ 31
-    → x ≡ coordOf (back (p .x)) → y ≡ coordOf (back (p .y)) → z ≡ coordOf (back (p .z)) → r ≡ editBy t root d x y z v → Fair 8 6 t → r ≡ editOf t root d p v
+    → x ≡ coordOf (back (p .x)) → y ≡ coordOf (back (p .y)) → z ≡ coordOf (back (p .z)) → r ≡ editBy t root d x y z v → Fair cubeKids deepest t → r ≡ editOf t root d p v
 voxel-law t root d p v x y z r hv hx hy hz ex ey ez er fair =
     let i : x ≡ coordOf (p .x) = ex ∙ ap coordOf (toZ-ofZ w32 (p .x) (record { sfits = hx })) in
     let j : y ≡ coordOf (p .y) = ey ∙ ap coordOf (toZ-ofZ w32 (p .y) (record { sfits = hy })) in

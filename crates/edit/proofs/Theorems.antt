@@ -7,10 +7,10 @@ use native.Mathlib.Decide.{ℕ-discrete, decLe}
 use native.Mathlib.Omega.{arith}
 use lib.ListN.{set, length-set}
 use borrow.Author.Tests.{eq-eqb, ne-eqb, le-leb, lt-leb}
+use Rattle.basics.specs.Limits.{deepest, cubeKids, largestValue}
 use Rattle.nodes.specs.Values.{heightAt}
 use Rattle.nodes.specs.Words.{Words, slot}
 use Rattle.nodes.proofs.Sums.{cases, split}
-use Rattle.paths.specs.declared.IVec3.{IVec3}
 use Rattle.paths.specs.Paths.{whole}
 use Rattle.tree.specs.Tree.{LiveOr0, WellMade, Root, look, Extends}
 use Rattle.tree.specs.Anew.{Anew}
@@ -19,21 +19,21 @@ use Rattle.tree.specs.Demand.{At, way, Apart}
 use Rattle.tree.specs.Lacks.{Need, have, lack, Lacks}
 use Rattle.tree.proofs.Canon.{canon}
 use Rattle.tree.proofs.CellLaws.{cube-cell, cube-one, cube-onto}
-use Rattle.tree.proofs.Grow.{extends-keeps, look-later, there-later}
+use Rattle.tree.proofs.Grow.{extends-keeps}
 use Rattle.tree.proofs.Plan.{plan-lack}
 use Rattle.tree.proofs.Room.{tables-bare, there-more, made-more, plan-wider}
 use Rattle.arena.specs.Tables.{Tables, cap, W, WellFormed}
 use Rattle.arena.specs.Calls.{fullOf}
-use Rattle.read_cell.specs.Calls.{lookNo, looked, lookOf, expandOf}
-use Rattle.read_cell.specs.declared.Looked.{Looked}
+use Rattle.read_cell.specs.Calls.{lookOf, expandOf}
 use Rattle.read_cell.proofs.Meaning.{wf-made}
 use Rattle.calls.specs.Cells.{spot, standsAt}
-use Rattle.edit.specs.Edit.{planOf, resultOf, grantNo, cellAt, editNo}
-use Rattle.edit.specs.Promises.{then, gives, Reads}
+use Rattle.edit.specs.Edit.{planOf, resultOf, grantNo, cellNo, editNo}
+use Rattle.edit.specs.Promises.{Posed, then, gives, Reads}
 use Rattle.edit.proofs.Planning.{plan-is}
-use Rattle.edit.proofs.Law.{root-there}
+use Rattle.edit.proofs.Law.{deep, root-there}
 use Rattle.edit.proofs.Edits.{accepted-past, edit-right}
-use Rattle.calls.proofs.Expanding.{look-at, way-one, stands-apart, one-set, expand-at, expand-list}
+use Rattle.calls.proofs.Expanding.{look-at, answers-as, answers-alike, way-one, stands-apart, one-set, expand-at, expand-list}
+use Rattle.calls.proofs.Roots.{kept-reads}
 
 -- ## Refusal 11
 
@@ -54,93 +54,89 @@ short-eleven : (t : Tables) (k : ℕ) → cap t - 1 - t .arena .live < k → gra
 unfolding grantNo
 short-eleven t k h = rw (lt-leb k (cap t - 1 - t .arena .live) h)
 
-module _ (t : Tables) (w : WellFormed 8 6 t) (root d : ℕ) (p : IVec3) (v : ℕ) (n : lookNo t root d p ≡ 0) (low : heightAt (W t) root ≤ d) where
+module _ {n tallest : ℕ} {t : Tables} {root d : ℕ} {cell : List ℕ} {v : ℕ} (q : Posed n tallest t root d cell v) (low : heightAt (W t) root ≤ d) where
   -- if the dry run lacks k nodes, then wherever the result r is made, in tables of that size or of any larger one, exactly k of its nodes are not live now
-  pub lack-right : (k r c : ℕ) (W′ : Words) → planOf 8 t v (cellAt d p) root ≡ lack k → cap t ≤ c → WellMade 8 c W′ → Extends 8 c (W t) W′
-      → Anew 8 c W′ v (cellAt d p) root r → Lacks 8 c (W t) W′ r k
+  pub lack-right : (k r c : ℕ) (W′ : Words) → planOf n t v cell root ≡ lack k → cap t ≤ c → WellMade n c W′ → Extends n c (W t) W′
+      → Anew n c W′ v cell root r → Lacks n c (W t) W′ r k
   lack-right k r c W′ e h w′ g a =
-      let there = root-there t root d p n in
-      let cell = cube-cell d (whole (p .x)) (whole (p .y)) (whole (p .z)) in
-      let bare = tables-bare (t .nodes) (cap t) (w .sized .facts) in
-      plan-lack 8 c (omega arith) (W t) W′ (made-more h bare (wf-made 8 6 t (omega arith) w)) w′ g v (there-more h there) low cell
-      (plan-wider h bare (rw e at (plan-is 8 6 t (omega arith) (omega arith) w v root there low cell))) a
+      let bare = tables-bare (t .nodes) (cap t) (q .well .sized .facts) in
+      plan-lack n c (q .several) (W t) W′ (made-more h bare (wf-made n tallest t (q .words) (q .well))) w′ g v (there-more h (q .there)) low (q .cell-is)
+      (plan-wider h bare (rw e at (plan-is n tallest t (q .words) (omega arith) (q .well) v root (q .there) low (q .cell-is)))) a
 
-  pub past-no : editNo t root d p v ≡ grantNo t (resultOf 8 t v (cellAt d p) root)
-  unfolding editNo
-  past-no = rw (eq-eqb (lookNo t root d p) 0 n, le-leb (heightAt (W t) root) d low)
+  pub past-no : cellNo n t root d cell v ≡ grantNo t (resultOf n t v cell root)
+  unfolding cellNo
+  past-no = rw (le-leb (heightAt (W t) root) d low)
 
-  pub result-new : look (W t) (cellAt d p) root ≢ v → resultOf 8 t v (cellAt d p) root ≡ planOf 8 t v (cellAt d p) root
+  pub result-new : look (W t) cell root ≢ v → resultOf n t v cell root ≡ planOf n t v cell root
   unfolding resultOf
-  result-new z = rw (ne-eqb (look (W t) (cellAt d p) root) v z)
+  result-new z = rw (ne-eqb (look (W t) cell root) v z)
 
-  pub result-old : look (W t) (cellAt d p) root ≡ v → resultOf 8 t v (cellAt d p) root ≡ have root
+  pub result-old : look (W t) cell root ≡ v → resultOf n t v cell root ≡ have root
   unfolding resultOf
-  result-old z = rw (eq-eqb (look (W t) (cellAt d p) root) v z)
+  result-old z = rw (eq-eqb (look (W t) cell root) v z)
 
   -- refusal 11 is given exactly if the cell has another value and the result lacks more nodes than there are free slots
-  pub eleven : editNo t root d p v ≡ 11 → (look (W t) (cellAt d p) root ≢ v) × ((k : ℕ) × (planOf 8 t v (cellAt d p) root ≡ lack k) × (cap t - 1 - t .arena .live < k))
-  eleven e = cases (ℕ-discrete (look (W t) (cellAt d p) root) v)
+  pub eleven : cellNo n t root d cell v ≡ 11 → (look (W t) cell root ≢ v) × ((k : ℕ) × (planOf n t v cell root ≡ lack k) × (cap t - 1 - t .arena .live < k))
+  eleven e = cases (ℕ-discrete (look (W t) cell root) v)
       (λ z. absurd (have-not-eleven t root (ap (grantNo t) (sym (result-old z)) ∙ sym past-no ∙ e)))
-      (λ z. (z, go (planOf 8 t v (cellAt d p) root) refl (ap (grantNo t) (sym (result-new z)) ∙ sym past-no ∙ e)))
+      (λ z. (z, go (planOf n t v cell root) refl (ap (grantNo t) (sym (result-new z)) ∙ sym past-no ∙ e)))
     where
-      go : (r : Need) → planOf 8 t v (cellAt d p) root ≡ r → grantNo t r ≡ 11 → (k : ℕ) × (planOf 8 t v (cellAt d p) root ≡ lack k) × (cap t - 1 - t .arena .live < k)
-      go (have r) q g = absurd (have-not-eleven t r g)
-      go (lack k) q g = (k, q, lack-eleven t k g)
+      go : (r : Need) → planOf n t v cell root ≡ r → grantNo t r ≡ 11 → (k : ℕ) × (planOf n t v cell root ≡ lack k) × (cap t - 1 - t .arena .live < k)
+      go (have r) p g = absurd (have-not-eleven t r g)
+      go (lack k) p g = (k, p, lack-eleven t k g)
 
-  pub eleven-given : (k : ℕ) → look (W t) (cellAt d p) root ≢ v → planOf 8 t v (cellAt d p) root ≡ lack k → cap t - 1 - t .arena .live < k → editNo t root d p v ≡ 11
-  eleven-given k z q h = past-no ∙ ap (grantNo t) (result-new z ∙ q) ∙ short-eleven t k h
+  pub eleven-given : (k : ℕ) → look (W t) cell root ≢ v → planOf n t v cell root ≡ lack k → cap t - 1 - t .arena .live < k → cellNo n t root d cell v ≡ 11
+  eleven-given k z p h = past-no ∙ ap (grantNo t) (result-new z ∙ p) ∙ short-eleven t k h
 
 -- ## Canonicity: what shows the same cube is the same id
 
-pub one-id : {d : ℕ} (t : Tables) → WellFormed 8 6 t → d ≤ 6 → (a b : ℕ) → Root 8 (cap t) d (W t) a → Root 8 (cap t) d (W t) b
-    → ((c : At d) → lookOf t a d (spot c) ≡ lookOf t b d (spot c)) → a ≡ b
-one-id {d} t w h a b ra rb same = canon 8 (cap t) (W t) (wf-made 8 6 t (omega arith) w) (omega arith) d a b ra rb
+pub one-id : {tallest d : ℕ} (t : Tables) → WellFormed cubeKids tallest t → d ≤ deepest → (a b : ℕ) → Root cubeKids (cap t) d (W t) a → Root cubeKids (cap t) d (W t) b
+    → ((c : At d) → lookOf t a d (spot c) .value ≡ lookOf t b d (spot c) .value) → a ≡ b
+one-id {tallest} {d} t w h a b ra rb same = canon cubeKids (cap t) (W t) (wf-made cubeKids tallest t (omega arith) w) (omega arith) d a b ra rb
     (λ q c.
     let k = cube-onto c in
     let at : At d = record { x = k .x; y = k .y; z = k .z; in-x = k .small-x; in-y = k .small-y; in-z = k .small-z } in
-    let e = sym (look-at t w h a (ra .there) at) ∙ same at ∙ look-at t w h b (rb .there) at in
-    subst (λ (l : List ℕ). look (W t) l a ≡ look (W t) l b) (k .path) (ap (λ (r : Looked). r .value) e))
+    subst (λ (l : List ℕ). look (W t) l a ≡ look (W t) l b) (k .path)
+    (sym (look-at t w h a (ra .there) at .value) ∙ same at ∙ look-at t w h b (rb .there) at .value))
 
--- ## An edit of a cell
+-- ## An edit of a cell of a cube
 
 -- an accepted edit, with the capacity that the tables had at the start
-pub cell-edited : {d : ℕ} (c₀ : ℕ) (t : Tables) → WellFormed 8 6 t → cap t ≡ c₀ → (a : ℕ) (c : At d) (v : ℕ) → v ≤ 65535 → editNo t a d (spot c) v ≡ 0
-    → Edited 8 c₀ d (W t) a (way c) v (W (then t a c v)) (gives t a c v)
+pub cell-edited : {d : ℕ} (c₀ : ℕ) (t : Tables) → WellFormed cubeKids deepest t → cap t ≡ c₀ → (a : ℕ) (c : At d) (v : ℕ) → v ≤ largestValue → editNo t a d (spot c) v ≡ 0
+    → Edited cubeKids c₀ d (W t) a (way c) v (W (then t a c v)) (gives t a c v)
 unfolding whole
 cell-edited {d} c₀ t w e a c v h ok =
-    subst (λ (k : ℕ). Edited 8 k d (W t) a (way c) v (W (then t a c v)) (gives t a c v)) e (edit-right t w a d (spot c) v h ok .edited)
+    subst (λ (k : ℕ). Edited cubeKids k d (W t) a (way c) v (W (then t a c v)) (gives t a c v)) e (edit-right t w a d (spot c) v h ok .edited)
 
 apart-way : {d : ℕ} (c e : At d) → Apart c e → way c ≢ way e
 apart-way {d} c e h k = h (cube-one d (c .in-x) (c .in-y) (c .in-z) (e .in-x) (e .in-y) (e .in-z) k)
 
 -- ## Lookup after an accepted edit
 
-pub edit-reads : {d : ℕ} (t : Tables) → WellFormed 8 6 t → d ≤ 6 → (a : ℕ) (c : At d) (v : ℕ) → v ≤ 65535 → editNo t a d (spot c) v ≡ 0
+pub edit-reads : {d : ℕ} (t : Tables) → WellFormed cubeKids deepest t → (a : ℕ) (c : At d) (v : ℕ) → v ≤ largestValue → editNo t a d (spot c) v ≡ 0
     → Reads t a c v (then t a c v) (gives t a c v)
-edit-reads {d} t w h a c v high ok =
+edit-reads {d} t w a c v high ok =
     let s = edit-right t w a d (spot c) v high ok in
     let u = then t a c v in
     let r = gives t a c v in
     let e = cell-edited (cap t) t w refl a c v high ok in
     let z = s .size in
     let past = accepted-past t a d (spot c) v ok in
+    let h = deep t a d (spot c) (past .0) in
     let there = root-there t a d (spot c) (past .0) in
     let there′ : LiveOr0 (cap u) (W u) r = subst (λ (k : ℕ). LiveOr0 k (W u) r) (sym z) (e .there) in
-    let made = wf-made 8 6 t (omega arith) w in
+    let elsewhere : (i : At d) → Apart i c → look (W u) (way i) r ≡ look (W t) (way i) a =
+    (λ i q. e .others (way i) (cube-cell d (i .x) (i .y) (i .z)) (apart-way i c q)) in
     record {
-      at = look-at u (s .well) h r there′ c ∙ ap (looked 0) (e .changed);
-      elsewhere = λ i q.
-          look-at u (s .well) h r there′ i ∙ ap (looked 0) (e .others (way i) (cube-cell d (i .x) (i .y) (i .z)) (apart-way i c q)) ∙ sym (look-at t w h a there i);
-      cube = λ l m el em.
-          let x = expand-at t w h a there m em in
+      at = answers-as (look-at u (s .well) h r there′ c) (e .changed);
+      elsewhere = λ i q. answers-alike (look-at u (s .well) h r there′ i) (look-at t w h a there i) (elsewhere i q);
+      cube = λ g l m el em.
+          let x = expand-at t w g a there m em in
           let old = expandOf t a d m .cube in
-          expand-list u (s .well) h r there′ l el (set old (standsAt c) v) (length-set old (standsAt c) v ∙ x .size)
+          expand-list u (s .well) g r there′ l el (set old (standsAt c) v) (length-set old (standsAt c) v ∙ x .size)
           (λ i.
           one-set c v old (x .size) i (look (W u) (way i) r) (λ q. ap (λ (y : List ℕ). look (W u) y r) (way-one i c q) ∙ e .changed)
-          (λ q. e .others (way i) (cube-cell d (i .x) (i .y) (i .z)) (apart-way i c (stands-apart i c q)) ∙ sym (x .cells i)));
-      root = λ q. subst (λ (k : ℕ). Root 8 k d (W u) r) (sym z) (record { there = e .there; tidy = e .tidy (q .tidy); low = e .low });
-      others = λ b l f g i.
-          let k = extends-keeps (e .grows) b in
-          let lb : LiveOr0 (cap u) (W u) b = subst (λ (j : ℕ). LiveOr0 j (W u) b) (sym z) (there-later 8 (cap t) (W t) (W u) made b l k) in
-          look-at u (s .well) g b lb i ∙ ap (looked 0) (sym (look-later 8 (cap t) (W t) (W u) made b l k (cube-cell f (i .x) (i .y) (i .z)))) ∙ sym (look-at t w g b l i);
+          (λ q. elsewhere i (stands-apart i c q) ∙ sym (x .cells i)));
+      root = λ q. subst (λ (k : ℕ). Root cubeKids k d (W u) r) (sym z) (record { there = e .there; tidy = e .tidy (q .tidy); low = e .low });
+      others = λ b l f g i. kept-reads w l (record { well = s .well; size = z; keeps = extends-keeps (e .grows) b }) g i;
     }

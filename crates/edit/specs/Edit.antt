@@ -24,7 +24,7 @@ use Rattle.read_cell.specs.Calls.{lookNo}
 
 -- ## The dry run: what is there already, and how many nodes are not
 
--- the eight child words of a branch that has the n parts f: EMPTY from n on
+-- the child words of a branch that has the n parts f: EMPTY from n on
 unfoldable pub wordsOf : ℕ → (ℕ → ℕ) → List ℕ
 wordsOf n f = tabFrom kidWords 0 (λ i. pick (ltb i n) (f i) empty)
 
@@ -95,7 +95,7 @@ makeOf n t x (c ∷ p) a h q =
     let ks = wordsOf n (replace (part (W t) a) c (low .id)) in
     branchAnew n (each owed (low .after) (set ks c empty)) ks h q
 
--- ## The call
+-- ## The edit of a cell
 
 -- refusals 10 and 11: the answer already has 1,000,000 holds; more nodes of the result not yet live than free slots
 unfoldable pub grantNo : Tables → Need → ℕ
@@ -111,18 +111,25 @@ unfoldable pub answerOf : Tables → Need → Out → Out
 answerOf t (have r) new = said 0 r (granted t r)
 answerOf t (lack k) new = new
 
+-- refusals 8 (root taller than d), 10 and 11, the lowest that applies
+unfoldable pub cellNo : ℕ → Tables → ℕ → ℕ → List ℕ → ℕ → ℕ
+cellNo n t root d cell x = pick (leb (heightAt (W t) root) d) (grantNo t (resultOf n t x cell root)) 8
+
+-- the edit of a cell of depth d below a root that is EMPTY or live
+unfoldable pub editCell : ℕ → Tables → ℕ → ℕ → List ℕ → ℕ → Out
+editCell n t root d cell x =
+    let new = makeOf n t x cell root 1 0 in
+    pick (eqb (cellNo n t root d cell x) 0) (answerOf t (resultOf n t x cell root) new) (refused (cellNo n t root d cell x) t)
+
+-- ## The call, of a cube
+
 -- the path of the position at depth d
 abbrev pub cellAt : ℕ → IVec3 → List ℕ
 cellAt d p = cubePath d (whole (p .x)) (whole (p .y)) (whole (p .z))
 
--- refusals 1, 2, 3 and 4 as of a lookup, 8 (root taller than d), 10 and 11, the lowest that applies
+-- refusals 1, 2, 3 and 4 as of a lookup, then those of the cell
 unfoldable pub editNo : Tables → ℕ → ℕ → IVec3 → ℕ → ℕ
-editNo t root d p x =
-    pick (eqb (lookNo t root d p) 0)
-    (pick (leb (heightAt (W t) root) d) (grantNo t (resultOf cubeKids t x (cellAt d p) root)) 8)
-    (lookNo t root d p)
+editNo t root d p x = pick (eqb (lookNo t root d p) 0) (cellNo cubeKids t root d (cellAt d p) x) (lookNo t root d p)
 
 unfoldable pub editOf : Tables → ℕ → ℕ → IVec3 → ℕ → Out
-editOf t root d p x =
-    let new = makeOf cubeKids t x (cellAt d p) root 1 0 in
-    pick (eqb (editNo t root d p x) 0) (answerOf t (resultOf cubeKids t x (cellAt d p) root) new) (refused (editNo t root d p x) t)
+editOf t root d p x = pick (eqb (lookNo t root d p) 0) (editCell cubeKids t root d (cellAt d p) x) (refused (lookNo t root d p) t)

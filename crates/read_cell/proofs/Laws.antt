@@ -2,13 +2,14 @@
 use Prim.Native.Nat.{ℕ, _+_, _*_, _^_, _≤_, _<_}
 use native.Mathlib.Decide.{ℕ-discrete, decLt}
 use native.Mathlib.Omega.{arith}
-use mathlib.Core.Path.{_≡_, _∙_, sym, ap}
+use mathlib.Core.Path.{_≡_, _∙_, refl, sym}
 use mathlib.Core.Logic.{_≢_, inl, inr}
 use mathlib.Core.Bool.{true}
 use mathlib.Core.List.{List}
-use borrow.Author.Tests.{lt-ltb, le-leb, eq-eqb, ne-eqb}
+use borrow.Author.Tests.{lt-ltb, le-leb, leb-true, eq-eqb, ne-eqb}
 use lib.Dec.{leb, eqb}
 use lib.ListN.{length, getD}
+use Rattle.basics.specs.Limits.{deepest, deepestCube}
 use Rattle.basics.specs.Pick.{pick}
 use Rattle.basics.proofs.Rungs.{pick-no, past-yes}
 use Rattle.nodes.specs.Words.{own, value, slot, floor}
@@ -22,7 +23,7 @@ use Rattle.arena.specs.Tables.{Tables, cap, W, WellFormed}
 use Rattle.arena.specs.Calls.{fits, liveOf, liveOrEmpty}
 use Rattle.arena.proofs.Fits.{sized-fits, live-is}
 use Rattle.read_cell.specs.Reading.{cubeOf}
-use Rattle.read_cell.specs.Calls.{lookNo, looked, lookOf, expandNo, expanded, expandOf}
+use Rattle.read_cell.specs.Calls.{lookNo, lookOf, expandNo, expanded, expandOf}
 use Rattle.read_cell.proofs.Cube.{cube-cell, cube-length}
 use Rattle.read_cell.proofs.Plain.{cell-whole}
 
@@ -55,13 +56,14 @@ well-small n tallest t w s =
 
 -- ---- lookup as document 01 has it
 
-module _ (n tallest : ℕ) (t : Tables) (w : WellFormed n tallest t) (id d x y z : ℕ) (hd : d ≤ 6) (hx : x < 2 ^ d) (hy : y < 2 ^ d) (hz : z < 2 ^ d) where
-  pub lookup-right : LiveOr0 (cap t) (W t) id → lookOf t id d (place x y z) ≡ looked 0 (look (W t) (cubePath d x y z) id)
+module _ (n tallest : ℕ) (t : Tables) (w : WellFormed n tallest t) (id d x y z : ℕ) (hd : d ≤ deepest) (hx : x < 2 ^ d) (hy : y < 2 ^ d) (hz : z < 2 ^ d) where
+  pub lookup-right : LiveOr0 (cap t) (W t) id
+      → (lookOf t id d (place x y z) .no ≡ 0) × (lookOf t id d (place x y z) .value ≡ look (W t) (cubePath d x y z) id)
   unfolding lookOf lookNo inside whole
   lookup-right l =
       let k : lookNo t id d (place x y z) ≡ 0 =
-      rw (sized-fits t (w .sized), le-leb d 6 hd, lt-ltb x (2 ^ d) hx, lt-ltb y (2 ^ d) hy, lt-ltb z (2 ^ d) hz, live-there t id l) in
-      rw (eq-eqb (lookNo t id d (place x y z)) 0 k) (ap (looked 0) (cell-whole (W t) (well-small n tallest t w) d id x y z))
+      rw (sized-fits t (w .sized), le-leb d deepest hd, lt-ltb x (2 ^ d) hx, lt-ltb y (2 ^ d) hy, lt-ltb z (2 ^ d) hz, live-there t id l) in
+      rw (eq-eqb (lookNo t id d (place x y z)) 0 k) (refl, cell-whole (W t) (well-small n tallest t w) d id x y z)
 
 -- ---- expansion writes every cell, and each equals lookup; a refused one writes none
 
@@ -78,12 +80,12 @@ module _ (t : Tables) (id d : ℕ) (l : List ℕ) where
     pub expand-length : length (expandOf t id d l .cube) ≡ 8 ^ d
     expand-length = rw expand-is (cube-length (W t) d id)
 
-    passed : (fits t ≡ true) × (leb d 6 ≡ true) × (liveOrEmpty (cap t) (W t) id ≡ true)
+    passed : (fits t ≡ true) × (leb d deepestCube ≡ true) × (liveOrEmpty (cap t) (W t) id ≡ true)
     unfolding expandNo
     passed =
         let nine : ℕ = pick (eqb (length l) (8 ^ d)) 0 9 in
-        let p = past-yes (fits t) (pick (leb d 6) (pick (liveOrEmpty (cap t) (W t) id) nine 4) 2) 1 0 (omega arith) ok in
-        let q = past-yes (leb d 6) (pick (liveOrEmpty (cap t) (W t) id) nine 4) 2 0 (omega arith) (p .1) in
+        let p = past-yes (fits t) (pick (leb d deepestCube) (pick (liveOrEmpty (cap t) (W t) id) nine 4) 2) 1 0 (omega arith) ok in
+        let q = past-yes (leb d deepestCube) (pick (liveOrEmpty (cap t) (W t) id) nine 4) 2 0 (omega arith) (p .1) in
         let r = past-yes (liveOrEmpty (cap t) (W t) id) nine 4 0 (omega arith) (q .1) in
         (p .0, q .0, r .0)
 
@@ -91,7 +93,9 @@ module _ (t : Tables) (id d : ℕ) (l : List ℕ) where
       -- lookup accepts every cell of the cube
       pub look-accepts : lookNo t id d (place x y z) ≡ 0
       unfolding lookNo inside
-      look-accepts = rw (passed .0, passed .1, lt-ltb x (2 ^ d) hx, lt-ltb y (2 ^ d) hy, lt-ltb z (2 ^ d) hz, passed .2)
+      look-accepts =
+          let h : leb d deepest ≡ true = le-leb d deepest (omega (arith, leb-true d deepestCube (passed .1))) in
+          rw (passed .0, h, lt-ltb x (2 ^ d) hx, lt-ltb y (2 ^ d) hy, lt-ltb z (2 ^ d) hz, passed .2)
 
       pub expand-look : getD (expandOf t id d l .cube) (y * 4 ^ d + z * 2 ^ d + x) 0 ≡ lookOf t id d (place x y z) .value
       unfolding lookOf whole

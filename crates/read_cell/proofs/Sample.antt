@@ -1,9 +1,10 @@
 -- The definitions compute: a leaf of value 1 in slot 1, and in slot 2 a branch that has it for its children 0 and 2.
 use mathlib.Core.Path.{_≡_, refl}
 use mathlib.Core.List.{List, [], _∷_, _++_}
-use Prim.Native.Nat.{ℕ}
+use Prim.Native.Nat.{ℕ, suc}
 use native.Mathlib.Decide.{decLe}
 use lib.ListN.{replicate}
+use Rattle.basics.specs.Limits.{deepest}
 use Rattle.ids.specs.Ids.{invalid, indexOf}
 use Rattle.nodes.specs.Words.{kidOf, factOf, wordOf, slot, floor}
 use Rattle.nodes.specs.Tally.{tabFrom}
@@ -14,8 +15,9 @@ use Rattle.tree.specs.Cells.{pathBy}
 use Rattle.paths.specs.Paths.{octant}
 use Rattle.arena.specs.Tables.{Tables, tables}
 use Rattle.arena.specs.Calls.{fitOf, liveOf, liveOrEmpty}
+use Rattle.read_cell.specs.declared.Looked.{Looked}
 use Rattle.read_cell.specs.Reading.{cubeOf}
-use Rattle.read_cell.specs.Calls.{lookNo, looked, lookOf, expandNo, expanded, expandOf}
+use Rattle.read_cell.specs.Calls.{lookNo, lookOf, expandNo, expanded, expandOf}
 
 -- index 1, generation 0
 abbrev one : ℕ
@@ -35,27 +37,31 @@ facts = replicate 7 0 ++ (one ∷ 1 ∷ 0 ∷ 0 ∷ 2 ∷ 0 ∷ 0 ∷ []) ++ (ro
 abbrev sample : Tables
 sample = tables (record { capacity = 3; next = 3; top = 0; live = 2 }) kids facts (replicate 9 0)
 
--- at depth 0 the stored average decides, 2 / 8; at depth 1 the cube is plain
-pub at-depth-0 : lookOf sample root 0 (place 0 0 0) ≡ looked 0 0
-unfolding lookOf lookNo fitOf inside whole liveOrEmpty liveOf floor look kind decLe valueAt slot indexOf wordOf kidOf factOf pathBy octant
-at-depth-0 = refl
+-- lookup's number and value
+abbrev Says : ℕ → ℕ → Looked → Type 0
+Says k v r = (r .no ≡ k) × (r .value ≡ v)
 
-pub at-depth-1 : lookOf sample root 1 (place 0 1 0) ≡ looked 0 1
+-- at depth 0 the stored average decides, 2 / 8; at depth 1 the cube is plain
+pub at-depth-0 : Says 0 0 (lookOf sample root 0 (place 0 0 0))
 unfolding lookOf lookNo fitOf inside whole liveOrEmpty liveOf floor look kind decLe valueAt slot indexOf wordOf kidOf factOf pathBy octant
-at-depth-1 = refl
+at-depth-0 = (refl, refl)
+
+pub at-depth-1 : Says 0 1 (lookOf sample root 1 (place 0 1 0))
+unfolding lookOf lookNo fitOf inside whole liveOrEmpty liveOf floor look kind decLe valueAt slot indexOf wordOf kidOf factOf pathBy octant
+at-depth-1 = (refl, refl)
 
 -- refusals
-pub too-deep : lookOf sample root 7 (place 0 0 0) ≡ looked 2 0
+pub too-deep : Says 2 0 (lookOf sample root (suc deepest) (place 0 0 0))
 unfolding lookOf lookNo fitOf
-too-deep = refl
+too-deep = (refl, refl)
 
-pub outside : lookOf sample root 1 (place 0 2 0) ≡ looked 3 0
+pub outside : Says 3 0 (lookOf sample root 1 (place 0 2 0))
 unfolding lookOf lookNo fitOf inside
-outside = refl
+outside = (refl, refl)
 
-pub not-live : lookOf sample invalid 1 (place 0 1 0) ≡ looked 4 0
+pub not-live : Says 4 0 (lookOf sample invalid 1 (place 0 1 0))
 unfolding lookOf lookNo fitOf inside liveOrEmpty liveOf floor slot indexOf wordOf factOf
-not-live = refl
+not-live = (refl, refl)
 
 -- cell (x, y, z) stands at y * 4^d + z * 2^d + x
 pub expands : expandOf sample root 1 (replicate 8 9) ≡ expanded 0 (1 ∷ 0 ∷ 0 ∷ 0 ∷ 1 ∷ 0 ∷ 0 ∷ 0 ∷ [])

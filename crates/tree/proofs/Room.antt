@@ -109,6 +109,12 @@ plan-few here (plan-leaf z q) = omega arith
 plan-few (down h t) (plan-branch u y z) = omega arith
 plan-few (down h t) (plan-more u) = let i = plan-few t u in omega arith
 
+-- and at least one
+pub plan-some : {n cap : ℕ} {W : Words} {x : ℕ} {p : List ℕ} {a k : ℕ} → Plan n cap W x p a (lack k) → 1 ≤ k
+plan-some (plan-leaf z q) = omega arith
+plan-some (plan-branch u y z) = omega arith
+plan-some (plan-more u) = omega arith
+
 -- ## One slot more, with a node in it
 
 -- the slot s has the words g
