@@ -41,26 +41,26 @@ refused-does n tallest m t w k z =
 
 -- ## An edit of a cell
 
-module _ {n tallest : ℕ} {t : Tables} {root d : ℕ} {cell : List ℕ} {v : ℕ} (q : Posed n tallest t root d cell v) where
+module _ {n tallest : ℕ} {t : Tables} {root d : ℕ} {cell : List ℕ} {v : ℕ} (q : Posed n tallest t root d cell) (high : v ≤ largestValue) where
   -- an edit, accepted or refused, keeps the capacity and every node
   pub cell-grows : Grows n t (editCell n t root d cell v .after)
   cell-grows = cases (ℕ-discrete (cellNo n t root d cell v) 0)
-      (λ z. let r = cell-right q z in (r .size, r .edited .grows))
+      (λ z. let r = cell-right q high z in (r .size, r .edited .grows))
       (λ z. subst (λ (o : Out). Grows n t (o .after)) (sym (cell-refused n t root d cell v z)) (same-grows n t))
 
   -- it grants one hold on its answer
   pub cell-does : Grants n tallest t (editCell n t root d cell v)
   cell-does =
       let o = editCell n t root d cell v in
-      grown n tallest (q .words) t (o .after) (q .well) (cell-grows .1) (λ y. ifAccepted o (on y (o .id))) (λ y. 0) (cell-well q) (cell-grows .0)
-      (λ y. let z = cell-balance q y in omega arith) (cell-gens q)
+      grown n tallest (q .words) t (o .after) (q .well) (cell-grows .1) (λ y. ifAccepted o (on y (o .id))) (λ y. 0) (cell-well q high) (cell-grows .0)
+      (λ y. let z = cell-balance q high y in omega arith) (cell-gens q high)
 
 -- ## An edit of a cube
 
 -- at any depth, of any root
 module _ (t : Tables) (w : WellFormed cubeKids deepest t) (b e : ℕ) (p : IVec3) (v : ℕ) (h : v ≤ largestValue) where
   pub edit-grows : Grows cubeKids t (editOf t b e p v .after)
-  edit-grows = by-cell t b e p v w h (λ o. Grows cubeKids t (o .after)) (λ k z. same-grows cubeKids t) cell-grows
+  edit-grows = by-cell t b e p v w (λ o. Grows cubeKids t (o .after)) (λ k z. same-grows cubeKids t) (λ q. cell-grows q h)
 
   pub edit-does : Grants cubeKids deepest t (editOf t b e p v)
-  edit-does = by-cell t b e p v w h (Grants cubeKids deepest t) (refused-does cubeKids deepest (omega arith) t w) cell-does
+  edit-does = by-cell t b e p v w (Grants cubeKids deepest t) (refused-does cubeKids deepest (omega arith) t w) (λ q. cell-does q h)

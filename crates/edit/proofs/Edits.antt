@@ -159,7 +159,7 @@ module _ (n : ℕ) (t : Tables) (root d : ℕ) (cell : List ℕ) (v : ℕ) where
 
 -- ---- an accepted edit
 
-module _ {n tallest : ℕ} {t : Tables} {root d : ℕ} {cell : List ℕ} {v : ℕ} (q : Posed n tallest t root d cell v) where
+module _ {n tallest : ℕ} {t : Tables} {root d : ℕ} {cell : List ℕ} {v : ℕ} (q : Posed n tallest t root d cell) (high : v ≤ largestValue) where
   abbrev new : Out
   new = makeOf n t v cell root 1 0
 
@@ -198,7 +198,7 @@ module _ {n tallest : ℕ} {t : Tables} {root d : ℕ} {cell : List ℕ} {v : �
       lack-done g =
           let l = grant-room t k g in
           let one = plan-some plan-lacks in
-          make-done n tallest t (q .words) (q .several) (q .well) v (q .small) root k 1 0 (q .there) low (q .deep) (q .cell-is) pl (omega arith) (omega arith) (omega arith)
+          make-done n tallest t (q .words) (q .several) (q .well) v high root k 1 0 (q .there) low (q .deep) (q .cell-is) pl (omega arith) (omega arith) (omega arith)
 
       lack-effect : Done n tallest t v cell root k 1 0 new → Effect n t (new .after) (new .id)
       lack-effect r =
@@ -250,6 +250,16 @@ module _ {n tallest : ℕ} {t : Tables} {root d : ℕ} {cell : List ℕ} {v : �
 
 -- ---- the cube
 
+pub posed : (t : Tables) → WellFormed cubeKids deepest t → (root d : ℕ) (p : IVec3) → lookNo t root d p ≡ 0 → Posed cubeKids deepest t root d (cellAt d p)
+posed t w root d p n = record {
+  words = omega arith;
+  several = omega arith;
+  well = w;
+  there = root-there t root d p n;
+  deep = deep t root d p n;
+  cell-is = cube-cell d (whole (p .x)) (whole (p .y)) (whole (p .z));
+}
+
 module _ (t : Tables) (root d : ℕ) (p : IVec3) (v : ℕ) where
   -- past the refusals of a lookup it is the edit of the cell
   pub past-look : lookNo t root d p ≡ 0
@@ -280,24 +290,12 @@ module _ (t : Tables) (root d : ℕ) (p : IVec3) (v : ℕ) where
       (λ n. let a = cell-past cubeKids t root d (cellAt d p) v (sym (past-look n .0) ∙ z) in (n, a .0, a .1))
       (λ n. absurd (n (sym (not-past n .0) ∙ z)))
 
-  module _ (w : WellFormed cubeKids deepest t) (high : v ≤ largestValue) where
-    pub posed : lookNo t root d p ≡ 0 → Posed cubeKids deepest t root d (cellAt d p) v
-    posed n = record {
-      words = omega arith;
-      several = omega arith;
-      well = w;
-      there = root-there t root d p n;
-      deep = deep t root d p n;
-      cell-is = cube-cell d (whole (p .x)) (whole (p .y)) (whole (p .z));
-      small = high;
-    }
-
-    -- what holds of a refusal, and of the edit of a cell, holds of the edit of a cube
-    pub by-cell : (P : Out → Type 0) → ((k : ℕ) → k ≢ 0 → P (refused k t))
-        → (Posed cubeKids deepest t root d (cellAt d p) v → P (editCell cubeKids t root d (cellAt d p) v)) → P (editOf t root d p v)
-    by-cell P none some = cases (ℕ-discrete (lookNo t root d p) 0)
-        (λ n. subst P (sym (past-look n .1)) (some (posed n)))
-        (λ n. subst P (sym (not-past n .1)) (none (lookNo t root d p) n))
+  -- what holds of a refusal, and of the edit of a cell, holds of the edit of a cube
+  pub by-cell : WellFormed cubeKids deepest t → (P : Out → Type 0) → ((k : ℕ) → k ≢ 0 → P (refused k t))
+      → (Posed cubeKids deepest t root d (cellAt d p) → P (editCell cubeKids t root d (cellAt d p) v)) → P (editOf t root d p v)
+  by-cell w P none some = cases (ℕ-discrete (lookNo t root d p) 0)
+      (λ n. subst P (sym (past-look n .1)) (some (posed t w root d p n)))
+      (λ n. subst P (sym (not-past n .1)) (none (lookNo t root d p) n))
 
 module _ (t : Tables) (w : WellFormed cubeKids deepest t) (root d : ℕ) (p : IVec3) (v : ℕ) (high : v ≤ largestValue) where
   -- an accepted edit of well-formed tables is right
@@ -305,8 +303,8 @@ module _ (t : Tables) (w : WellFormed cubeKids deepest t) (root d : ℕ) (p : IV
   edit-right z =
       let n = accepted-past t root d p v z .0 in
       let e = past-look t root d p v n in
-      subst (λ (o : Out). Right cubeKids deepest t root d (cellAt d p) v (o .after) (o .id)) (sym (e .1)) (cell-right (posed t root d p v w high n) (sym (e .0) ∙ z))
+      subst (λ (o : Out). Right cubeKids deepest t root d (cellAt d p) v (o .after) (o .id)) (sym (e .1)) (cell-right (posed t w root d p n) high (sym (e .0) ∙ z))
 
   -- so every edit keeps well-formed tables well formed
   pub edit-well : WellFormed cubeKids deepest (editOf t root d p v .after)
-  edit-well = by-cell t root d p v w high (λ o. WellFormed cubeKids deepest (o .after)) (λ k h. w) cell-well
+  edit-well = by-cell t root d p v w (λ o. WellFormed cubeKids deepest (o .after)) (λ k h. w) (λ q. cell-well q high)

@@ -127,7 +127,7 @@ module _ (n tallest : ℕ) (t : Tables) (m : n ≤ kidWords) (two : 1 < n) (w : 
 granted-gens : (t : Tables) (r : ℕ) → Gens-kept t (granted t r)
 granted-gens t r b = ap generationOf (granted-word t r b own (omega arith))
 
-module _ {n tallest : ℕ} {t : Tables} {root d : ℕ} {cell : List ℕ} {v : ℕ} (q : Posed n tallest t root d cell v) where
+module _ {n tallest : ℕ} {t : Tables} {root d : ℕ} {cell : List ℕ} {v : ℕ} (q : Posed n tallest t root d cell) (high : v ≤ largestValue) where
   abbrev new : Out
   new = makeOf n t v cell root 1 0
 
@@ -149,7 +149,7 @@ module _ {n tallest : ℕ} {t : Tables} {root d : ℕ} {cell : List ℕ} {v : �
       let pl = result-plan k z in
       let one = plan-some (rw pl at (plan-is n tallest t (q .words) (omega arith) (q .well) v root (q .there) (past .0) (q .cell-is))) in
       let free = grant-room t k (subst (λ (r : Need). grantNo t r ≡ 0) z (past .1)) in
-      make-gens n tallest t (q .words) (q .several) (q .well) v (q .small) root k 1 0 (q .there) (past .0) (q .deep) (q .cell-is) pl (omega arith) (omega arith) (omega arith))
+      make-gens n tallest t (q .words) (q .several) (q .well) v high root k 1 0 (q .there) (past .0) (q .deep) (q .cell-is) pl (omega arith) (omega arith) (omega arith))
 
   -- An edit, accepted or refused, leaves the generation of every slot: a node that it makes has the one that its slot had.
   pub cell-gens : (b : ℕ) → generationOf (W (editCell n t root d cell v .after) b own) ≡ generationOf (W t b own)
@@ -161,4 +161,4 @@ module _ {n tallest : ℕ} {t : Tables} {root d : ℕ} {cell : List ℕ} {v : �
 pub edit-gens : (t : Tables) → WellFormed cubeKids deepest t → (root d : ℕ) (p : IVec3) (v : ℕ) → v ≤ largestValue
     → (b : ℕ) → generationOf (W (editOf t root d p v .after) b own) ≡ generationOf (W t b own)
 edit-gens t w root d p v h b =
-    by-cell t root d p v w h (λ o. generationOf (W (o .after) b own) ≡ generationOf (W t b own)) (λ k z. refl) (λ q. cell-gens q b)
+    by-cell t root d p v w (λ o. generationOf (W (o .after) b own) ≡ generationOf (W t b own)) (λ k z. refl) (λ q. cell-gens q h b)

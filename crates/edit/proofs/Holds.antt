@@ -71,14 +71,14 @@ module _ {n tallest : ℕ} (m : n ≤ kidWords) {t u : Tables} {r root d : ℕ} 
       (λ k. omega (arith, holds-live u y l, holds-dead t y k, none-before y l k, word y l)))
       (λ d. omega (arith, holds-dead u y d, holds-dead t y (λ l. d (later y l)), absent there y d))
 
-module _ {n tallest : ℕ} {t : Tables} {root d : ℕ} {cell : List ℕ} {v : ℕ} (q : Posed n tallest t root d cell v) where
+module _ {n tallest : ℕ} {t : Tables} {root d : ℕ} {cell : List ℕ} {v : ℕ} (q : Posed n tallest t root d cell) (high : v ≤ largestValue) where
   pub cell-balance : (y : ℕ)
       → holdsOn (editCell n t root d cell v .after) y ≡ holdsOn t y + ifAccepted (editCell n t root d cell v) (on y (editCell n t root d cell v .id))
   cell-balance y =
       let o = editCell n t root d cell v in
       let k = cell-number n t root d cell v in
       cases (ℕ-discrete (cellNo n t root d cell v) 0)
-      (λ z. omega (arith, right-balance (q .words) (q .well) (cell-right q z) y, accepted o (on y (o .id)) (k ∙ z)))
+      (λ z. omega (arith, right-balance (q .words) (q .well) (cell-right q high z) y, accepted o (on y (o .id)) (k ∙ z)))
       (λ z.
       let same : holdsOn (o .after) y ≡ holdsOn t y = ap (λ (x : Out). holdsOn (x .after) y) (cell-refused n t root d cell v z) in
       omega (arith, unaccepted o (on y (o .id)) (λ i. z (sym k ∙ i))))
@@ -86,6 +86,6 @@ module _ {n tallest : ℕ} {t : Tables} {root d : ℕ} {cell : List ℕ} {v : �
 pub edit-balance : (t : Tables) → WellFormed cubeKids deepest t → (b e : ℕ) (p : IVec3) (v : ℕ) → v ≤ largestValue → (y : ℕ)
     → holdsOn (editOf t b e p v .after) y ≡ holdsOn t y + ifAccepted (editOf t b e p v) (on y (editOf t b e p v .id))
 edit-balance t w b e p v h y =
-    by-cell t b e p v w h (λ o. holdsOn (o .after) y ≡ holdsOn t y + ifAccepted o (on y (o .id)))
+    by-cell t b e p v w (λ o. holdsOn (o .after) y ≡ holdsOn t y + ifAccepted o (on y (o .id)))
     (λ k z. omega (arith, unaccepted (refused k t) (on y (refused k t .id)) z))
-    (λ q. cell-balance q y)
+    (λ q. cell-balance q h y)

@@ -33,7 +33,7 @@ module _ {n c : ℕ} {U U′ : Words} {root x r : ℕ} {p : List ℕ} where
   kept z (asked e q) = q
   kept z (made q a) = absurd (q z)
 
-module _ {n tallest : ℕ} {t : Tables} {root d : ℕ} {cell : List ℕ} {v : ℕ} (q : Posed n tallest t root d cell v) (low : heightAt (W t) root ≤ d) where
+module _ {n tallest : ℕ} {t : Tables} {root d : ℕ} {cell : List ℕ} (q : Posed n tallest t root d cell) (v : ℕ) (low : heightAt (W t) root ≤ d) where
   abbrev well : WellMade n (cap t) (W t)
   well = wf-made n tallest t (q .words) (q .well)
 
@@ -72,7 +72,7 @@ module _ {n tallest : ℕ} {t : Tables} {root d : ℕ} {cell : List ℕ} {v : �
     lacked : (j : ℕ) → look (W t) cell root ≢ v → planOf n t v cell root ≡ lack j → k ≡ j
     lacked j z e =
         let i = m .imagined in
-        newly-one (m .newly) (lacks-newly (lack-right q low j (m .result) (m .slots) (m .words) e (i .size) (i .made) (i .grows) (answered z (i .answer))))
+        newly-one (m .newly) (lacks-newly (lack-right q v low j (m .result) (m .slots) (m .words) e (i .size) (i .made) (i .grows) (answered z (i .answer))))
 
   -- there is such an arena: the one of t if the result is there, else one that has as many slots more as nodes are lacking
   same : Extends n (cap t) (W t) (W t)
@@ -97,7 +97,7 @@ module _ {n tallest : ℕ} {t : Tables} {root d : ℕ} {cell : List ℕ} {v : �
         words = o .words;
         result = o .id;
         imagined = record { size = u; made = o .made; grows = o .grows; answer = made z (o .anew) };
-        newly = lacks-newly (lack-right q low k (o .id) (o .slots) (o .words) e u (o .made) (o .grows) (o .anew));
+        newly = lacks-newly (lack-right q v low k (o .id) (o .slots) (o .words) e u (o .made) (o .grows) (o .anew));
       }
 
   -- the result has a number of nodes that are not live (at depths that ids of 32 bits for a slot leave room for) ..
@@ -127,7 +127,7 @@ module _ {n tallest : ℕ} {t : Tables} {root d : ℕ} {cell : List ℕ} {v : �
     where
       short : cellNo n t root d cell v ≡ 11 → cap t - 1 - t .arena .live < k
       short e =
-          let r = eleven q low e in
+          let r = eleven q v low e in
           let s = r .1 in
           let p = lacked k m (s .0) (r .0) (s .1) in
           let f = s .2 in
@@ -135,7 +135,7 @@ module _ {n tallest : ℕ} {t : Tables} {root d : ℕ} {cell : List ℕ} {v : �
 
       go : look (W t) cell root ≢ v → (r : Need) → planOf n t v cell root ≡ r → cap t - 1 - t .arena .live < k → cellNo n t root d cell v ≡ 11
       go z (have r) e h = absurd (let p = had-none k m r z e in omega arith)
-      go z (lack j) e h = let p = lacked k m j z e in eleven-given q low j z e (omega arith)
+      go z (lack j) e h = let p = lacked k m j z e in eleven-given q v low j z e (omega arith)
 
       given : cap t - 1 - t .arena .live < k → cellNo n t root d cell v ≡ 11
       given h = cases (ℕ-discrete (look (W t) cell root) v)
@@ -149,20 +149,20 @@ module _ {n tallest : ℕ} {t : Tables} {root d : ℕ} {cell : List ℕ} {v : �
 
   pub result-there : (r : ℕ) → result ≡ have r → LiveOr0 (cap t) (W t) r × Imagined n t root cell v (cap t) (W t) r
   result-there r e = cases (ℕ-discrete (look (W t) cell root) v)
-      (λ z. let p : root ≡ r = cc (result-old q low z) in (subst (λ (y : ℕ). LiveOr0 (cap t) (W t) y) p (q .there), now r (asked z (sym p))))
-      (λ z. let h = had r (sym (result-new q low z) ∙ e) in (h .1, now r (made z (h .0))))
+      (λ z. let p : root ≡ r = cc (result-old q v low z) in (subst (λ (y : ℕ). LiveOr0 (cap t) (W t) y) p (q .there), now r (asked z (sym p))))
+      (λ z. let h = had r (sym (result-new q v low z) ∙ e) in (h .1, now r (made z (h .0))))
 
   pub result-one : (r c : ℕ) (W′ : Words) (s : ℕ) → result ≡ have r → Imagined n t root cell v c W′ s → s ≡ r
   result-one r c W′ s e i = cases (ℕ-discrete (look (W t) cell root) v)
-      (λ z. let p : root ≡ r = cc (result-old q low z) in kept z (i .answer) ∙ p)
-      (λ z. had-one r c W′ s z (sym (result-new q low z) ∙ e) i)
+      (λ z. let p : root ≡ r = cc (result-old q v low z) in kept z (i .answer) ∙ p)
+      (λ z. had-one r c W′ s z (sym (result-new q v low z) ∙ e) i)
 
   -- where nodes are lacking, the result is one of them
   pub result-dead : (k c : ℕ) (W′ : Words) (s : ℕ) → result ≡ lack k → Imagined n t root cell v c W′ s → Live (cap t) (W t) s → ⊥
   result-dead k c W′ s e i l = cases (ℕ-discrete (look (W t) cell root) v)
-      (λ z. have-lack (sym (result-old q low z) ∙ e))
+      (λ z. have-lack (sym (result-old q v low z) ∙ e))
       (λ z.
-      let o = lack-right q low k s c W′ (sym (result-new q low z) ∙ e) (i .size) (i .made) (i .grows) (answered z (i .answer)) in
+      let o = lack-right q v low k s c W′ (sym (result-new q v low z) ∙ e) (i .size) (i .made) (i .grows) (answered z (i .answer)) in
       let h = i .size in
       let f = l .low in
       o .new .new (record { low = omega arith; is = l .is; high = l .high }))

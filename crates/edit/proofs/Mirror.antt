@@ -9,6 +9,7 @@ use native.Mathlib.Omega.{arith}
 use lib.Dec.{eqb, ltb}
 use lib.ListN.{length, getD, set, length-set}
 use borrow.Author.Tests.{eq-eqb, ne-eqb, lt-ltb}
+use Rattle.basics.specs.Limits.{cubeKids, kidWords, largestValue, mostHolds}
 use Rattle.basics.specs.Pick.{pick}
 use Rattle.ids.specs.Ids.{isLeaf, generationOf}
 use Rattle.nodes.specs.Words.{Words, own, value, places, slot, floor, wordOf, factOf, putOf}
@@ -50,29 +51,29 @@ use Rattle.edit.proofs.Upward.{Low, Done, low-have, low-lack, placed, l
 
 -- ---- the eight words of a node's parts, one replaced
 
-words-set : (U : Words) (a c s : ℕ) → c < 8 → set (eightParts U a) c s ≡ wordsOf 8 (replace (part U a) c s)
+words-set : (U : Words) (a c s : ℕ) → c < cubeKids → set (eightParts U a) c s ≡ wordsOf cubeKids (replace (part U a) c s)
 unfolding eightParts wordsOf
 words-set U a c s l =
-    let e : length (set (tabFrom 8 0 (part U a)) c s) ≡ 8 = length-set (tabFrom 8 0 (part U a)) c s ∙ tabFrom-length 8 0 (part U a) in
-    sym (subst (λ (k : ℕ). tabFrom k 0 (λ i. pick (ltb i 8) (replace (part U a) c s i) 0) ≡ set (tabFrom 8 0 (part U a)) c s) e
-    (tab-list (set (tabFrom 8 0 (part U a)) c s) 0 (λ i. pick (ltb i 8) (replace (part U a) c s i) 0) (λ j h. at j (omega arith))))
+    let e : length (set (tabFrom cubeKids 0 (part U a)) c s) ≡ kidWords = length-set (tabFrom cubeKids 0 (part U a)) c s ∙ tabFrom-length cubeKids 0 (part U a) in
+    sym (subst (λ (k : ℕ). tabFrom k 0 (λ i. pick (ltb i cubeKids) (replace (part U a) c s i) 0) ≡ set (tabFrom cubeKids 0 (part U a)) c s) e
+    (tab-list (set (tabFrom cubeKids 0 (part U a)) c s) 0 (λ i. pick (ltb i cubeKids) (replace (part U a) c s i) 0) (λ j h. at j (omega arith))))
   where
-    at : (j : ℕ) → j < 8 → pick (ltb (0 + j) 8) (replace (part U a) c s (0 + j)) 0 ≡ getD (set (tabFrom 8 0 (part U a)) c s) j 0
+    at : (j : ℕ) → j < cubeKids → pick (ltb (0 + j) cubeKids) (replace (part U a) c s (0 + j)) 0 ≡ getD (set (tabFrom cubeKids 0 (part U a)) c s) j 0
     at j h =
         let z : 0 + j ≡ j = omega arith in
-        let n = tabFrom-length 8 0 (part U a) in
-        rw (z, lt-ltb j 8 h) (cases (ℕ-discrete j c)
-        (λ (q : j ≡ c). replace-same (part U a) c s j q ∙ sym (ap (λ (i : ℕ). getD (set (tabFrom 8 0 (part U a)) c s) i 0) q ∙ set-at (tabFrom 8 0 (part U a)) c s (omega arith)))
-        (λ q. replace-other (part U a) c s j q ∙ sym (set-other (tabFrom 8 0 (part U a)) c s j q ∙ tab-get 8 0 (part U a) j h ∙ ap (part U a) z)))
+        let n = tabFrom-length cubeKids 0 (part U a) in
+        rw (z, lt-ltb j cubeKids h) (cases (ℕ-discrete j c)
+        (λ (q : j ≡ c). replace-same (part U a) c s j q ∙ sym (ap (λ (i : ℕ). getD (set (tabFrom cubeKids 0 (part U a)) c s) i 0) q ∙ set-at (tabFrom cubeKids 0 (part U a)) c s (omega arith)))
+        (λ q. replace-other (part U a) c s j q ∙ sym (set-other (tabFrom cubeKids 0 (part U a)) c s j q ∙ tab-get cubeKids 0 (part U a) j h ∙ ap (part U a) z)))
 
-words-tab : (f : ℕ → ℕ) → wordsOf 8 f ≡ tabFrom 8 0 f
+words-tab : (f : ℕ → ℕ) → wordsOf cubeKids f ≡ tabFrom cubeKids 0 f
 unfolding wordsOf
-words-tab f = tabFrom-ext 8 0 (λ i. pick (ltb i 8) (f i) 0) f (λ j p q. let l : j < 8 = omega arith in rw (lt-ltb j 8 l))
+words-tab f = tabFrom-ext cubeKids 0 (λ i. pick (ltb i cubeKids) (f i) 0) f (λ j p q. let l : j < cubeKids = omega arith in rw (lt-ltb j cubeKids l))
 
-leaf-kids : (f : ℕ → ℕ) → leafKids (wordsOf 8 f) ≡ oneLeaf 8 f
+leaf-kids : (f : ℕ → ℕ) → leafKids (wordsOf cubeKids f) ≡ oneLeaf cubeKids f
 unfolding leafKids oneLeaf
 leaf-kids f =
-    ap₂ (λ (k : ℕ) (l : List ℕ). pick (isLeaf k) (allOf (eqb k) l) false) (words-at 8 f 0 (omega arith) (omega arith)) (words-tab f)
+    ap₂ (λ (k : ℕ) (l : List ℕ). pick (isLeaf k) (allOf (eqb k) l) false) (words-at cubeKids f 0 (omega arith) (omega arith)) (words-tab f)
 
 set-twice : (ks : List ℕ) (c x y : ℕ) → set (set ks c x) c y ≡ set ks c y
 set-twice [] c x y = refl
@@ -90,77 +91,77 @@ pub data Agree (B : ℕ) : planning.Plan → Need → Type 0 where
   agree-have : {r : ℕ} → Agree B (planned 0 r) (have r)
   agree-lack : {k s : ℕ} → 1 ≤ k → k ≤ B → Agree B (planned k s) (lack k)
 
-module _ (tallest : ℕ) (t : Tables) (w : WellFormed 8 tallest t) where
-  abbrev m : 8 ≤ 8
+module _ (tallest : ℕ) (t : Tables) (w : WellFormed cubeKids tallest t) where
+  abbrev m : cubeKids ≤ kidWords
   m = omega arith
 
-  abbrev pos : 1 ≤ 8
+  abbrev pos : 1 ≤ cubeKids
   pos = omega arith
 
-  value-low : (y : ℕ) → valueAt (W t) y ≤ 65535
+  value-low : (y : ℕ) → valueAt (W t) y ≤ largestValue
   unfolding valueAt
-  value-low y = split (eqb y 0) (λ e. rw e (omega arith)) (λ e. rw e (let z = well-small 8 tallest t w (slot y) in omega arith))
+  value-low y = split (eqb y 0) (λ e. rw e (omega arith)) (λ e. rw e (let z = well-small cubeKids tallest t w (slot y) in omega arith))
 
-  value-by : (ks : List ℕ) → valueBy 8 (W t) ks ≡ valueFor 8 (W t) ks
+  value-by : (ks : List ℕ) → valueBy cubeKids (W t) ks ≡ valueFor cubeKids (W t) ks
   unfolding valueBy valueFor
-  value-by ks = ap (λ (z : ℕ). z / 8) (sum-wraps (W t) ks 8 (λ i l. value-low (getD ks i 0)))
+  value-by ks = ap (λ (z : ℕ). z / cubeKids) (sum-wraps (W t) ks cubeKids (λ i l. value-low (getD ks i 0)))
 
   -- the search finds what the scan finds
   find-leaf : (x : ℕ) → x ≢ 0 → foundBy t empties x ≡ leafSlot t x
   unfolding foundBy
   find-leaf x d = cases (ℕ-discrete (leafSlot t x) 0)
-      (λ z. search-miss 8 tallest t w empties x empties-length (no-leaf 8 tallest t m w x d z) ∙ sym z)
+      (λ z. search-miss cubeKids tallest t w empties x empties-length (no-leaf cubeKids tallest t m w x d z) ∙ sym z)
       (λ z.
-      let q = leaf-slot 8 tallest t m w x d z in
-      search-hit 8 tallest t w empties x empties-length (leafSlot t x) (leaf-in 8 tallest t m w x d (leafSlot t x) (q .0) (q .1) .0) (leaf-content 8 tallest t m w x d (leafSlot t x) (q .0) (q .1)))
+      let q = leaf-slot cubeKids tallest t m w x d z in
+      search-hit cubeKids tallest t w empties x empties-length (leafSlot t x) (leaf-in cubeKids tallest t m w x d (leafSlot t x) (q .0) (q .1) .0) (leaf-content cubeKids tallest t m w x d (leafSlot t x) (q .0) (q .1)))
 
-  module _ (f : ℕ → ℕ) (e : allOf (eqb 0) (tabFrom 8 0 f) ≡ false) where
+  module _ (f : ℕ → ℕ) (e : allOf (eqb 0) (tabFrom cubeKids 0 f) ≡ false) where
     -- a live slot with those children has their value
-    slot-value : (s : ℕ) → LiveSlot t s → ((j : ℕ) → j < 8 → W t s j ≡ getD (wordsOf 8 f) j 0) → W t s value ≡ valueFor 8 (W t) (wordsOf 8 f)
+    slot-value : (s : ℕ) → LiveSlot t s → ((j : ℕ) → j < cubeKids → W t s j ≡ getD (wordsOf cubeKids f) j 0) → W t s value ≡ valueFor cubeKids (W t) (wordsOf cubeKids f)
     unfolding valueFor
     slot-value s l h = ⊎-elim
-        (λ b. absurd (true≢false (sym (all-yes 0 8 0 f (λ j p q. sym (words-at 8 f j (omega arith) (omega arith)) ∙ sym (h j (omega arith)) ∙ b .bare j (omega arith))) ∙ e)))
-        (λ b. b .averaged ∙ ap (λ (z : ℕ). z / 8) (sumTo-ext 8 (λ i. valueAt (W t) (W t s i)) (λ i. valueAt (W t) (getD (wordsOf 8 f) i 0)) (λ i k. ap (valueAt (W t)) (h i k))))
+        (λ b. absurd (true≢false (sym (all-yes 0 cubeKids 0 f (λ j p q. sym (words-at cubeKids f j (omega arith) (omega arith)) ∙ sym (h j (omega arith)) ∙ b .bare j (omega arith))) ∙ e)))
+        (λ b. b .averaged ∙ ap (λ (z : ℕ). z / cubeKids) (sumTo-ext cubeKids (λ i. valueAt (W t) (W t s i)) (λ i. valueAt (W t) (getD (wordsOf cubeKids f) i 0)) (λ i k. ap (valueAt (W t)) (h i k))))
         (w .nodes s l .kind)
 
-    find-branch : foundBy t (wordsOf 8 f) (valueBy 8 (W t) (wordsOf 8 f)) ≡ branchSlot t (wordsOf 8 f)
+    find-branch : foundBy t (wordsOf cubeKids f) (valueBy cubeKids (W t) (wordsOf cubeKids f)) ≡ branchSlot t (wordsOf cubeKids f)
     unfolding foundBy
-    find-branch = rw (value-by (wordsOf 8 f)) (cases (ℕ-discrete (branchSlot t (wordsOf 8 f)) 0)
-        (λ z. search-miss 8 tallest t w (wordsOf 8 f) (valueFor 8 (W t) (wordsOf 8 f)) (words-length 8 f) (none z) ∙ sym z)
+    find-branch = rw (value-by (wordsOf cubeKids f)) (cases (ℕ-discrete (branchSlot t (wordsOf cubeKids f)) 0)
+        (λ z. search-miss cubeKids tallest t w (wordsOf cubeKids f) (valueFor cubeKids (W t) (wordsOf cubeKids f)) (words-length cubeKids f) (none z) ∙ sym z)
         (λ z. hit z))
       where
-        none : branchSlot t (wordsOf 8 f) ≡ 0 → (s : ℕ) → 0 < s → LiveSlot t s → contentIs (W t) (wordsOf 8 f) (valueFor 8 (W t) (wordsOf 8 f)) s ≡ false
-        none z s p l = split (contentIs (W t) (wordsOf 8 f) (valueFor 8 (W t) (wordsOf 8 f)) s)
-            (λ q. absurd (slot-lone t (wordsOf 8 f) (words-length 8 f) z s l (omega arith) (content-words (W t) (wordsOf 8 f) (valueFor 8 (W t) (wordsOf 8 f)) s (words-length 8 f) q .0)))
+        none : branchSlot t (wordsOf cubeKids f) ≡ 0 → (s : ℕ) → 0 < s → LiveSlot t s → contentIs (W t) (wordsOf cubeKids f) (valueFor cubeKids (W t) (wordsOf cubeKids f)) s ≡ false
+        none z s p l = split (contentIs (W t) (wordsOf cubeKids f) (valueFor cubeKids (W t) (wordsOf cubeKids f)) s)
+            (λ q. absurd (slot-lone t (wordsOf cubeKids f) (words-length cubeKids f) z s l (omega arith) (content-words (W t) (wordsOf cubeKids f) (valueFor cubeKids (W t) (wordsOf cubeKids f)) s (words-length cubeKids f) q .0)))
             (λ q. q)
 
-        hit : branchSlot t (wordsOf 8 f) ≢ 0 → getD (t .find) (cellFor t (wordsOf 8 f) (valueFor 8 (W t) (wordsOf 8 f))) 0 ≡ branchSlot t (wordsOf 8 f)
+        hit : branchSlot t (wordsOf cubeKids f) ≢ 0 → getD (t .find) (cellFor t (wordsOf cubeKids f) (valueFor cubeKids (W t) (wordsOf cubeKids f))) 0 ≡ branchSlot t (wordsOf cubeKids f)
         hit z =
-            let r = scanned t (wordsOf 8 f) z in
-            let n = words-length 8 f in
-            let b = branch-words t (wordsOf 8 f) (branchSlot t (wordsOf 8 f)) (r .0) in
-            let l : LiveSlot t (branchSlot t (wordsOf 8 f)) = (r .1, b .0) in
-            let k : (j : ℕ) → j < 8 → W t (branchSlot t (wordsOf 8 f)) j ≡ getD (wordsOf 8 f) j 0 =
+            let r = scanned t (wordsOf cubeKids f) z in
+            let n = words-length cubeKids f in
+            let b = branch-words t (wordsOf cubeKids f) (branchSlot t (wordsOf cubeKids f)) (r .0) in
+            let l : LiveSlot t (branchSlot t (wordsOf cubeKids f)) = (r .1, b .0) in
+            let k : (j : ℕ) → j < cubeKids → W t (branchSlot t (wordsOf cubeKids f)) j ≡ getD (wordsOf cubeKids f) j 0 =
             (λ j h. let q : 0 + j ≡ j = omega arith in rw q at (b .1 j (omega arith))) in
-            search-hit 8 tallest t w (wordsOf 8 f) (valueFor 8 (W t) (wordsOf 8 f)) n (branchSlot t (wordsOf 8 f)) l
-            (content-true (W t) (wordsOf 8 f) (valueFor 8 (W t) (wordsOf 8 f)) (branchSlot t (wordsOf 8 f)) n k (slot-value (branchSlot t (wordsOf 8 f)) l k))
+            search-hit cubeKids tallest t w (wordsOf cubeKids f) (valueFor cubeKids (W t) (wordsOf cubeKids f)) n (branchSlot t (wordsOf cubeKids f)) l
+            (content-true (W t) (wordsOf cubeKids f) (valueFor cubeKids (W t) (wordsOf cubeKids f)) (branchSlot t (wordsOf cubeKids f)) n k (slot-value (branchSlot t (wordsOf cubeKids f)) l k))
 
   -- what eight parts come to, by the code
-  need-by : (f : ℕ → ℕ) (s : ℕ) → ((r : ℕ) × (needOf 8 t f ≡ have r) × (needPlan t (wordsOf 8 f) s ≡ planned 0 r))
-      ⊎ ((needOf 8 t f ≡ lack 1) × (needPlan t (wordsOf 8 f) s ≡ planned 1 s))
+  need-by : (f : ℕ → ℕ) (s : ℕ) → ((r : ℕ) × (needOf cubeKids t f ≡ have r) × (needPlan t (wordsOf cubeKids f) s ≡ planned 0 r))
+      ⊎ ((needOf cubeKids t f ≡ lack 1) × (needPlan t (wordsOf cubeKids f) s ≡ planned 1 s))
   unfolding needOf needPlan slotPlan
-  need-by f s = split (allOf (eqb 0) (tabFrom 8 0 f))
+  need-by f s = split (allOf (eqb 0) (tabFrom cubeKids 0 f))
       (λ e. inl (0, rw e, rw (all-words ∙ e)))
-      (λ e. split (oneLeaf 8 f)
-      (λ q. inl (f 0, rw (e, q), rw (all-words ∙ e, leaf-kids f ∙ q) (ap (planned 0) (words-at 8 f 0 (omega arith) (omega arith)))))
-      (λ q. cases (ℕ-discrete (branchSlot t (wordsOf 8 f)) 0)
-      (λ z. inr (rw (e, q, eq-eqb (branchSlot t (wordsOf 8 f)) 0 z), rw (all-words ∙ e, leaf-kids f ∙ q, find-branch f e, eq-eqb (branchSlot t (wordsOf 8 f)) 0 z)))
-      (λ z. inl (W t (branchSlot t (wordsOf 8 f)) own, rw (e, q, ne-eqb (branchSlot t (wordsOf 8 f)) 0 z), rw (all-words ∙ e, leaf-kids f ∙ q, find-branch f e, ne-eqb (branchSlot t (wordsOf 8 f)) 0 z)))))
+      (λ e. split (oneLeaf cubeKids f)
+      (λ q. inl (f 0, rw (e, q), rw (all-words ∙ e, leaf-kids f ∙ q) (ap (planned 0) (words-at cubeKids f 0 (omega arith) (omega arith)))))
+      (λ q. cases (ℕ-discrete (branchSlot t (wordsOf cubeKids f)) 0)
+      (λ z. inr (rw (e, q, eq-eqb (branchSlot t (wordsOf cubeKids f)) 0 z), rw (all-words ∙ e, leaf-kids f ∙ q, find-branch f e, eq-eqb (branchSlot t (wordsOf cubeKids f)) 0 z)))
+      (λ z. inl (W t (branchSlot t (wordsOf cubeKids f)) own, rw (e, q, ne-eqb (branchSlot t (wordsOf cubeKids f)) 0 z), rw (all-words ∙ e, leaf-kids f ∙ q, find-branch f e, ne-eqb (branchSlot t (wordsOf cubeKids f)) 0 z)))))
     where
-      all-words : allOf (eqb 0) (wordsOf 8 f) ≡ allOf (eqb 0) (tabFrom 8 0 f)
+      all-words : allOf (eqb 0) (wordsOf cubeKids f) ≡ allOf (eqb 0) (tabFrom cubeKids 0 f)
       all-words = ap (allOf (eqb 0)) (words-tab f)
 
-  module _ (x : ℕ) (small : x ≤ 65535) where
+  module _ (x : ℕ) (small : x ≤ largestValue) where
     cell-agree : Agree 1 (cellPlan t x) (cellNeed t x)
     unfolding cellPlan cellNeed slotPlan
     cell-agree = cases (ℕ-discrete x 0)
@@ -170,7 +171,7 @@ module _ (tallest : ℕ) (t : Tables) (w : WellFormed 8 tallest t) where
         (λ z. rw (ne-eqb x 0 d, find-leaf x d, ne-eqb (leafSlot t x) 0 z) agree-have))
 
     -- one level up
-    up-have : (a c s : ℕ) → c < 8 → upPlan t (eightParts (W t) a) c (planned 0 s) ≡ needPlan t (wordsOf 8 (replace (part (W t) a) c s)) s
+    up-have : (a c s : ℕ) → c < cubeKids → upPlan t (eightParts (W t) a) c (planned 0 s) ≡ needPlan t (wordsOf cubeKids (replace (part (W t) a) c s)) s
     unfolding upPlan
     up-have a c s l = ap (λ (ks : List ℕ). needPlan t ks s) (words-set (W t) a c s l)
 
@@ -180,8 +181,8 @@ module _ (tallest : ℕ) (t : Tables) (w : WellFormed 8 tallest t) where
         let e : moreOf k ≡ suc k = (let z = more-few k (omega arith) in omega arith) in
         rw (ne-eqb k 0 (omega arith)) (ap (λ (z : ℕ). planned z s) e)
 
-    up-agree : (B a c : ℕ) (b : planning.Plan) (r : Need) → B ≤ 1000 → c < 8 → Agree B b r
-        → Agree (suc B) (upPlan t (eightParts (W t) a) c b) (upNeed (λ s. needOf 8 t (replace (part (W t) a) c s)) r)
+    up-agree : (B a c : ℕ) (b : planning.Plan) (r : Need) → B ≤ 1000 → c < cubeKids → Agree B b r
+        → Agree (suc B) (upPlan t (eightParts (W t) a) c b) (upNeed (λ s. needOf cubeKids t (replace (part (W t) a) c s)) r)
     unfolding upNeed
     up-agree B a c b r l h (agree-have {r = s}) =
         rw (up-have a c s h) (⊎-elim
@@ -191,11 +192,11 @@ module _ (tallest : ℕ) (t : Tables) (w : WellFormed 8 tallest t) where
     up-agree B a c b r l h (agree-lack {k = k} {s = s} y z) = rw (up-lack a c k s y (omega arith)) (agree-lack {k = suc k} {s = s} (omega arith) (omega arith))
 
     -- the code's dry run is the definition's
-    pub plan-agree : {d : ℕ} {p : List ℕ} (a : ℕ) → d ≤ 900 → Cell 8 d p → Agree (suc d) (planBy t x p a) (planOf 8 t x p a)
+    pub plan-agree : {d : ℕ} {p : List ℕ} (a : ℕ) → d ≤ 900 → Cell cubeKids d p → Agree (suc d) (planBy t x p a) (planOf cubeKids t x p a)
     unfolding planBy planOf
     plan-agree a h here = cell-agree
     plan-agree a h (down {d = d} {c = c} {p = p} l q) =
-        up-agree (suc d) a c (planBy t x p (part (W t) a c)) (planOf 8 t x p (part (W t) a c)) (omega arith) l (plan-agree (part (W t) a c) (omega arith) q)
+        up-agree (suc d) a c (planBy t x p (part (W t) a c)) (planOf cubeKids t x p (part (W t) a c)) (omega arith) l (plan-agree (part (W t) a c) (omega arith) q)
 
 -- ---- places that are owed
 
@@ -203,7 +204,7 @@ few-places : (t : Tables) (d : List ℕ) (s : ℕ) → length d ≤ 1000 → Inv
 few-places t d s n v live =
     let c = v .counts .placed s live in
     let most = v .sized .most in
-    omega (arith, total-bound 8 (cap t) (W t) d s)
+    omega (arith, total-bound kidWords (cap t) (W t) d s)
 
 owe-same : (t : Tables) (s : ℕ) → ((s ≡ 0 → ⊥) → W t (slot s) places < 2 ^ 64 - 1) → tablesOf (t .arena) (record { kids = t .nodes .kids; facts = owe (t .nodes .facts) s }) (t .find) ≡ owed t s
 unfolding owe owed moreOf putOf wordOf
@@ -223,11 +224,11 @@ unfolding oweAll
 owed-cons t k ks e r = ap (λ (u : Tables). owedBy u ks) e ∙ r ∙ sym (each-cons t k ks)
 
 module _ (tallest : ℕ) where
-  pub each-same : (ks : List ℕ) (t : Tables) (d : List ℕ) → length d + length ks ≤ 1000 → Inv t d → Content 8 tallest (cap t) (W t)
+  pub each-same : (ks : List ℕ) (t : Tables) (d : List ℕ) → length d + length ks ≤ 1000 → Inv t d → Content cubeKids tallest (cap t) (W t)
       → ((y : ℕ) → y ≢ 0 → 1 ≤ occ y ks → Live (cap t) (W t) y) → owedBy t ks ≡ each owed t ks
   each-same [] t d n i c h = owed-nil t ∙ sym (each-nil t)
   each-same (k ∷ ks) t d n i c h =
-      let g = owed-grown 8 tallest (omega arith) t d i c k (first k ks t h) in
+      let g = owed-grown cubeKids tallest (omega arith) t d i c k (first k ks t h) in
       owed-cons t k ks (owe-same t k (λ z. few-places t d k (omega arith) i (h k z (omega (arith, occ-here k ks)))))
       (each-same ks (owed t k) (k ∷ d) (omega arith) (g .inv) (g .content) (λ y a b. grown-live g y (h y a (omega (arith, occ-cons y k ks)))))
     where
@@ -275,32 +276,32 @@ leaf-same t d x h q i room =
     rw (e, n) (fresh-same t d empties _ x 0 h q i room)
 
 branch-same : (t : Tables) (d ks : List ℕ) (h q : ℕ) → Inv t d → t .arena .live + 1 < cap t
-    → valueBy 8 (W t) ks ≡ valueFor 8 (W t) ks → heightFor 8 (W t) ks ≤ 1000
-    → branchAnewBy t ks h q ≡ branchAnew 8 t ks h q
+    → valueBy cubeKids (W t) ks ≡ valueFor cubeKids (W t) ks → heightFor cubeKids (W t) ks ≤ 1000
+    → branchAnewBy t ks h q ≡ branchAnew cubeKids t ks h q
 unfolding branchAnewBy branchAnew
 branch-same t d ks h q i room ev low =
     let z = slot-whole t d i room in
     let s = z .0 in
     let n = new-branch ks (freshSlot (t .arena)) (generationOf (W t (freshSlot (t .arena)) own)) (z .1) in
-    let up : moreOf (topFor (W t) ks 8) ≡ heightFor 8 (W t) ks = (let g = height-top 8 t ks in let b = more-few (topFor (W t) ks 8) (omega arith) in omega arith) in
-    rw (s, n, ev, up) (fresh-same t d ks _ (valueFor 8 (W t) ks) (heightFor 8 (W t) ks) h q i room)
+    let up : moreOf (topFor (W t) ks cubeKids) ≡ heightFor cubeKids (W t) ks = (let g = height-top cubeKids t ks in let b = more-few (topFor (W t) ks cubeKids) (omega arith) in omega arith) in
+    rw (s, n, ev, up) (fresh-same t d ks _ (valueFor cubeKids (W t) ks) (heightFor cubeKids (W t) ks) h q i room)
 
-m8 : 8 ≤ 8
-m8 = omega arith
+kids-fit : cubeKids ≤ kidWords
+kids-fit = omega arith
 
-pos8 : 1 ≤ 8
-pos8 = omega arith
+kids-some : 1 ≤ cubeKids
+kids-some = omega arith
 
 -- the sum of the stored values does not wrap
-grown-value : (tallest : ℕ) (t : Tables) (ks : List ℕ) → length ks ≡ 8 → Inv t (ks ++ []) → Content 8 tallest (cap t) (W t) → valueBy 8 (W t) ks ≡ valueFor 8 (W t) ks
+grown-value : (tallest : ℕ) (t : Tables) (ks : List ℕ) → length ks ≡ kidWords → Inv t (ks ++ []) → Content cubeKids tallest (cap t) (W t) → valueBy cubeKids (W t) ks ≡ valueFor cubeKids (W t) ks
 unfolding valueBy valueFor
-grown-value tallest t ks e i c = ap (λ (z : ℕ). z / 8) (sum-wraps (W t) ks 8 (λ k l. kid-small k l))
+grown-value tallest t ks e i c = ap (λ (z : ℕ). z / cubeKids) (sum-wraps (W t) ks cubeKids (λ k l. kid-small k l))
   where
-    kid-small : (k : ℕ) → k < 8 → valueAt (W t) (getD ks k 0) ≤ 65535
+    kid-small : (k : ℕ) → k < cubeKids → valueAt (W t) (getD ks k 0) ≤ largestValue
     kid-small k l = cases (ℕ-discrete (getD ks k 0) 0)
         (λ (z : getD ks k 0 ≡ 0). rw z (let p = value-zero (W t) in omega arith))
         (λ z.
-        let y = i .counts .named (getD ks k 0) z (omega (arith, total-append 8 (cap t) (W t) (getD ks k 0) ks [], occ-at ks k (omega arith))) in
+        let y = i .counts .named (getD ks k 0) z (omega (arith, total-append kidWords (cap t) (W t) (getD ks k 0) ks [], occ-at ks k (omega arith))) in
         let yi = y .is in
         let yh = y .high in
         let b = c .nodes (slot (getD ks k 0)) (y .low) (omega arith) .small in
@@ -308,7 +309,7 @@ grown-value tallest t ks e i c = ap (λ (z : ℕ). z / 8) (sum-wraps (W t) ks 8 
         omega arith)
 
 -- no live leaf of the value
-lack-plan : (tallest : ℕ) (t : Tables) (w : WellFormed 8 tallest t) (x : ℕ) → x ≢ 0 → leafSlot t x ≡ 0 → cellPlan t x ≡ planned 1 0
+lack-plan : (tallest : ℕ) (t : Tables) (w : WellFormed cubeKids tallest t) (x : ℕ) → x ≢ 0 → leafSlot t x ≡ 0 → cellPlan t x ≡ planned 1 0
 unfolding cellPlan slotPlan
 lack-plan tallest t w x d z = rw (ne-eqb x 0 d, find-leaf tallest t w x d, eq-eqb (leafSlot t x) 0 z)
 
@@ -327,74 +328,74 @@ make-leaf : (t : Tables) (x a k s h q : ℕ) → makeBy t x [] a (suc k) s h q �
 unfolding makeBy
 make-leaf t x a k s h q = rw (ne-eqb (suc k) 0 (omega arith))
 
-module _ (tallest : ℕ) (high : tallest ≤ 900) (t : Tables) (w : WellFormed 8 tallest t) (x : ℕ) (small : x ≤ 65535) where
-  two : 1 < 8
+module _ (tallest : ℕ) (high : tallest ≤ 900) (t : Tables) (w : WellFormed cubeKids tallest t) (x : ℕ) (small : x ≤ largestValue) where
+  two : 1 < cubeKids
   two = omega arith
 
   inv : Inv t []
-  inv = wf-inv 8 tallest t m8 w
+  inv = wf-inv cubeKids tallest t kids-fit w
 
-  made : WellMade 8 (cap t) (W t)
-  made = wf-made 8 tallest t m8 w
+  made : WellMade cubeKids (cap t) (W t)
+  made = wf-made cubeKids tallest t kids-fit w
 
   -- the branch over a part
-  over-same : (d c a j h q : ℕ) (p : List ℕ) (o : Out) → LiveOr0 (cap t) (W t) a → heightAt (W t) a ≤ suc d → c < 8 → Cell 8 d p → suc d ≤ tallest
-      → t .arena .live + suc j < cap t → h ≤ 1000000 → 1 ≤ h + q → Low 8 tallest t x p a c j o
-      → upBy o (eightParts (W t) a) c h q ≡ over 8 tallest t m8 two w x small c a h q o
+  over-same : (d c a j h q : ℕ) (p : List ℕ) (o : Out) → LiveOr0 (cap t) (W t) a → heightAt (W t) a ≤ suc d → c < cubeKids → Cell cubeKids d p → suc d ≤ tallest
+      → t .arena .live + suc j < cap t → h ≤ mostHolds → 1 ≤ h + q → Low cubeKids tallest t x p a c j o
+      → upBy o (eightParts (W t) a) c h q ≡ over cubeKids tallest t kids-fit two w x small c a h q o
   unfolding upBy
   over-same d c a j h q p o l low b cell tall room few held r =
-      let ks = wordsOf 8 (replace (part (W t) a) c (o .id)) in
+      let ks = wordsOf cubeKids (replace (part (W t) a) c (o .id)) in
       let e : set (eightParts (W t) a) c (o .id) ≡ ks = words-set (W t) a c (o .id) b in
       let z : set (eightParts (W t) a) c 0 ≡ set ks c 0 = sym (set-twice (eightParts (W t) a) c (o .id) 0) ∙ ap (λ (l : List ℕ). set l c 0) e in
-      let n = eight 8 tallest t m8 two w x small d c a j h q p o l low b cell tall room few held r in
-      let live = others-live 8 tallest t m8 two w x small d c a j h q p o l low b cell tall room few held r in
-      let g = placed 8 tallest t m8 two w x small d c a j h q p o l low b cell tall room few held r in
+      let n = eight cubeKids tallest t kids-fit two w x small d c a j h q p o l low b cell tall room few held r in
+      let live = others-live cubeKids tallest t kids-fit two w x small d c a j h q p o l low b cell tall room few held r in
+      let g = placed cubeKids tallest t kids-fit two w x small d c a j h q p o l low b cell tall room few held r in
       let same : owedBy (o .after) (set ks c 0) ≡ each owed (o .after) (set ks c 0) =
       each-same tallest (set ks c 0) (o .after) (o .id ∷ []) (omega (arith, length-set ks c 0)) (r .grown .inv) (r .grown .content) live in
       let v = each owed (o .after) (set ks c 0) in
-      let ev : valueBy 8 (W v) ks ≡ valueFor 8 (W v) ks = grown-value tallest v ks n (g .inv) (g .content) in
-      let hl = lowers 8 tallest t m8 two w x small d c a j h q p o l low b cell tall room few held r in
+      let ev : valueBy cubeKids (W v) ks ≡ valueFor cubeKids (W v) ks = grown-value tallest v ks n (g .inv) (g .content) in
+      let hl = lowers cubeKids tallest t kids-fit two w x small d c a j h q p o l low b cell tall room few held r in
       rw (e, z, same)
       (branch-same v (ks ++ []) ks h q (g .inv) (let y = g .lives in let k = r .grown .lives in let u = g .caps in let f = r .grown .caps in omega arith) ev
       (omega arith))
 
   -- the code's making is the definition's
-  module _ (d c a k h q : ℕ) (p : List ℕ) (l : LiveOr0 (cap t) (W t) a) (low : heightAt (W t) a ≤ suc d) (b : c < 8) (cell : Cell 8 d p) (tall : suc d ≤ tallest)
-      (room : t .arena .live + k < cap t) (few : h ≤ 1000000) (held : 1 ≤ h + q) (new : Out) where
-    part-s : (s : ℕ) → Plan 8 (cap t) (W t) x p (part (W t) a c) (have s) → LiveOr0 (cap t) (W t) s
+  module _ (d c a k h q : ℕ) (p : List ℕ) (l : LiveOr0 (cap t) (W t) a) (low : heightAt (W t) a ≤ suc d) (b : c < cubeKids) (cell : Cell cubeKids d p) (tall : suc d ≤ tallest)
+      (room : t .arena .live + k < cap t) (few : h ≤ mostHolds) (held : 1 ≤ h + q) (new : Out) where
+    part-s : (s : ℕ) → Plan cubeKids (cap t) (W t) x p (part (W t) a c) (have s) → LiveOr0 (cap t) (W t) s
     part-s s u =
-        subst (λ (y : ℕ). LiveOr0 (cap t) (W t) y) (replace-same (part (W t) a) c s c refl) (parts-there 8 tallest t m8 pos8 w x d c a s p l low b cell u c b)
+        subst (λ (y : ℕ). LiveOr0 (cap t) (W t) y) (replace-same (part (W t) a) c s c refl) (parts-there cubeKids tallest t kids-fit kids-some w x d c a s p l low b cell u c b)
 
     owed-live : (s : ℕ) → LiveOr0 (cap t) (W t) s → (y : ℕ) → y ≢ 0 → 1 ≤ occ y (s ∷ []) → Live (cap t) (W t) y
     owed-live s (inl z) y e o = absurd (omega (arith, occ-there y s [] (λ q. e (q ∙ z)), occ-nil y))
     owed-live s (inr z) y e o = cases (ℕ-discrete y s) (λ q. subst (λ (i : ℕ). Live (cap t) (W t) i) (sym q) z) (λ q. absurd (omega (arith, occ-there y s [] q, occ-nil y)))
 
-    step-have : (s : ℕ) → Plan 8 (cap t) (W t) x p (part (W t) a c) (have s) → needOf 8 t (replace (part (W t) a) c s) ≡ lack k
+    step-have : (s : ℕ) → Plan cubeKids (cap t) (W t) x p (part (W t) a c) (have s) → needOf cubeKids t (replace (part (W t) a) c s) ≡ lack k
         → makeBy t x (c ∷ p) a (upPlan t (eightParts (W t) a) c (planned 0 s) .new) (upPlan t (eightParts (W t) a) c (planned 0 s) .id) h q
-        ≡ over 8 tallest t m8 two w x small c a h q (said 0 s (owed t s))
+        ≡ over cubeKids tallest t kids-fit two w x small c a h q (said 0 s (owed t s))
     step-have s u e =
-        let r = low-have 8 tallest t m8 two w x small d c a s k p l low b cell u e in
+        let r = low-have cubeKids tallest t kids-fit two w x small d c a s k p l low b cell u e in
         let one = r .1 in
         let f = replace (part (W t) a) c s in
         let z : upPlan t (eightParts (W t) a) c (planned 0 s) ≡ planned 1 s = up-have tallest t w x small a c s b ∙ ⊎-elim (λ y. absurd (have-lack (sym (y .1) ∙ e))) (λ y. y .1) (need-by tallest t w f s) in
         let o : makeBy t x p (part (W t) a c) 0 s 0 1 ≡ said 0 s (owed t s) =
         make-zero t x p (part (W t) a c) s 0 1
-        ∙ ap (said 0 s) (each-same tallest (s ∷ []) t [] (omega arith) inv (wf-content 8 tallest t w) (owed-live s (part-s s u)) ∙ each-cons t s [] ∙ each-nil (owed t s)) in
+        ∙ ap (said 0 s) (each-same tallest (s ∷ []) t [] (omega arith) inv (wf-content cubeKids tallest t w) (owed-live s (part-s s u)) ∙ each-cons t s [] ∙ each-nil (owed t s)) in
         rw z (make-more t x c p a 0 s h q ∙ ap (λ (y : Out). upBy y (eightParts (W t) a) c h q) o
         ∙ over-same d c a 0 h q p (said 0 s (owed t s)) l low b cell tall (omega arith) few held (r .0))
 
-    step-lack : (j s : ℕ) → 1 ≤ j → j ≤ 1000 → suc j ≡ k → Done 8 tallest t x p (part (W t) a c) j 0 1 new → makeBy t x p (part (W t) a c) j s 0 1 ≡ new
+    step-lack : (j s : ℕ) → 1 ≤ j → j ≤ 1000 → suc j ≡ k → Done cubeKids tallest t x p (part (W t) a c) j 0 1 new → makeBy t x p (part (W t) a c) j s 0 1 ≡ new
         → makeBy t x (c ∷ p) a (upPlan t (eightParts (W t) a) c (planned j s) .new) (upPlan t (eightParts (W t) a) c (planned j s) .id) h q
-        ≡ over 8 tallest t m8 two w x small c a h q new
+        ≡ over cubeKids tallest t kids-fit two w x small c a h q new
     step-lack j s one top e done ih =
         rw (up-lack tallest t w x small a c j s one top) (make-more t x c p a j s h q ∙ ap (λ (y : Out). upBy y (eightParts (W t) a) c h q) ih
-        ∙ over-same d c a j h q p new l low b cell tall (omega arith) few held (low-lack 8 tallest t m8 two w x small d c a j p new l b done))
+        ∙ over-same d c a j h q p new l low b cell tall (omega arith) few held (low-lack cubeKids tallest t kids-fit two w x small d c a j p new l b done))
 
-    step-same : (B : ℕ) (bp : planning.Plan) (r : Need) → B ≤ 1000 → Agree B bp r → Plan 8 (cap t) (W t) x p (part (W t) a c) r
-        → ((j : ℕ) → r ≡ lack j → t .arena .live + j < cap t → Done 8 tallest t x p (part (W t) a c) j 0 1 new)
+    step-same : (B : ℕ) (bp : planning.Plan) (r : Need) → B ≤ 1000 → Agree B bp r → Plan cubeKids (cap t) (W t) x p (part (W t) a c) r
+        → ((j : ℕ) → r ≡ lack j → t .arena .live + j < cap t → Done cubeKids tallest t x p (part (W t) a c) j 0 1 new)
         → ((j : ℕ) → r ≡ lack j → t .arena .live + j < cap t → makeBy t x p (part (W t) a c) (bp .new) (bp .id) 0 1 ≡ new)
-        → upNeed (λ s. needOf 8 t (replace (part (W t) a) c s)) r ≡ lack k
-        → makeBy t x (c ∷ p) a (upPlan t (eightParts (W t) a) c bp .new) (upPlan t (eightParts (W t) a) c bp .id) h q ≡ over 8 tallest t m8 two w x small c a h q (lowOf t r new)
+        → upNeed (λ s. needOf cubeKids t (replace (part (W t) a) c s)) r ≡ lack k
+        → makeBy t x (c ∷ p) a (upPlan t (eightParts (W t) a) c bp .new) (upPlan t (eightParts (W t) a) c bp .id) h q ≡ over cubeKids tallest t kids-fit two w x small c a h q (lowOf t r new)
     unfolding upNeed lowOf
     step-same B bp r top (agree-have {r = s}) u done ih e = step-have s u e
     step-same B bp r top (agree-lack {k = j} {s = s} one most) u done ih e =
@@ -402,25 +403,25 @@ module _ (tallest : ℕ) (high : tallest ≤ 900) (t : Tables) (w : WellFormed 8
         step-lack j s one (omega arith) z (done j refl (omega arith)) (ih j refl (omega arith))
 
   leaf-case : (a k h q : ℕ) → cellNeed t x ≡ lack k → t .arena .live + k < cap t → makeBy t x [] a (cellPlan t x .new) (cellPlan t x .id) h q ≡ leafAnew t x h q
-  leaf-case a k h q e room = go (cell-came 8 tallest t m8 pos8 w x) (cell-agree tallest t w x small)
+  leaf-case a k h q e room = go (cell-came cubeKids tallest t kids-fit kids-some w x) (cell-agree tallest t w x small)
     where
-      go : Cell-came 8 t x → Agree 1 (cellPlan t x) (cellNeed t x) → makeBy t x [] a (cellPlan t x .new) (cellPlan t x .id) h q ≡ leafAnew t x h q
+      go : Cell-came cubeKids t x → Agree 1 (cellPlan t x) (cellNeed t x) → makeBy t x [] a (cellPlan t x .new) (cellPlan t x .id) h q ≡ leafAnew t x h q
       go (cell-none z r) g = absurd (have-lack (sym r ∙ e))
       go (cell-leaf r d y s) g = absurd (have-lack (sym s ∙ e))
       go (cell-lack d z y s) g =
           let one : 1 ≡ k = lack-inj (sym s ∙ e) in
           rw (lack-plan tallest t w x d z) (make-leaf t x a 0 0 h q ∙ leaf-same t [] x h q inv (omega arith))
 
-  pub make-same : {d : ℕ} {p : List ℕ} (a k h q : ℕ) → LiveOr0 (cap t) (W t) a → heightAt (W t) a ≤ d → d ≤ tallest → Cell 8 d p
-      → planOf 8 t x p a ≡ lack k → t .arena .live + k < cap t → h ≤ 1000000 → 1 ≤ h + q
-      → makeBy t x p a (planBy t x p a .new) (planBy t x p a .id) h q ≡ makeOf 8 t x p a h q
+  pub make-same : {d : ℕ} {p : List ℕ} (a k h q : ℕ) → LiveOr0 (cap t) (W t) a → heightAt (W t) a ≤ d → d ≤ tallest → Cell cubeKids d p
+      → planOf cubeKids t x p a ≡ lack k → t .arena .live + k < cap t → h ≤ mostHolds → 1 ≤ h + q
+      → makeBy t x p a (planBy t x p a .new) (planBy t x p a .id) h q ≡ makeOf cubeKids t x p a h q
   unfolding planBy planOf makeOf
   make-same a k h q l low tall here e room few held = leaf-case a k h q e room
   make-same a k h q l low tall (down {d = d} {c = c} {p = p} b cell) e room few held =
-      let lb = part-there 8 (cap t) (W t) made a c l b in
-      let hb = part-low 8 (cap t) (W t) made a c l b d low in
-      step-same d c a k h q p l low b cell tall room few held (makeOf 8 t x p (part (W t) a c) 0 1)
-      (suc d) (planBy t x p (part (W t) a c)) (planOf 8 t x p (part (W t) a c)) (omega arith) (plan-agree tallest t w x small (part (W t) a c) (omega arith) cell)
-      (plan-is 8 tallest t m8 pos8 w x (part (W t) a c) lb hb cell)
-      (λ j z y. make-done 8 tallest t m8 two w x small (part (W t) a c) j 0 1 lb hb (omega arith) cell z y (omega arith) (omega arith))
+      let lb = part-there cubeKids (cap t) (W t) made a c l b in
+      let hb = part-low cubeKids (cap t) (W t) made a c l b d low in
+      step-same d c a k h q p l low b cell tall room few held (makeOf cubeKids t x p (part (W t) a c) 0 1)
+      (suc d) (planBy t x p (part (W t) a c)) (planOf cubeKids t x p (part (W t) a c)) (omega arith) (plan-agree tallest t w x small (part (W t) a c) (omega arith) cell)
+      (plan-is cubeKids tallest t kids-fit kids-some w x (part (W t) a c) lb hb cell)
+      (λ j z y. make-done cubeKids tallest t kids-fit two w x small (part (W t) a c) j 0 1 lb hb (omega arith) cell z y (omega arith) (omega arith))
       (λ j z y. make-same (part (W t) a c) j 0 1 lb hb (omega arith) cell z y (omega arith) (omega arith)) e

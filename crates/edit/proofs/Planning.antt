@@ -9,6 +9,7 @@ use native.Mathlib.Omega.{arith}
 use lib.Dec.{eqb, leb, ltb}
 use lib.ListN.{length, getD}
 use borrow.Author.Tests.{eq-eqb, ne-eqb, eqb-true, lt-ltb, le-ltb, le-leb, leb-true}
+use Rattle.basics.specs.Limits.{kidWords}
 use Rattle.nodes.specs.Values.{heightAt, valueAt}
 use Rattle.basics.specs.Pick.{pick}
 use Rattle.ids.specs.Ids.{isLeaf, leafFlag, generationOf}
@@ -39,18 +40,18 @@ use Rattle.edit.proofs.Wholes.{leaf-node, branch-node, is-branch}
 -- ---- the eight words of n parts
 
 module _ (n : ℕ) (f : ℕ → ℕ) where
-  pub words-length : length (wordsOf n f) ≡ 8
+  pub words-length : length (wordsOf n f) ≡ kidWords
   unfolding wordsOf
-  words-length = tabFrom-length 8 0 (λ i. pick (ltb i n) (f i) 0)
+  words-length = tabFrom-length kidWords 0 (λ i. pick (ltb i n) (f i) 0)
 
-  word-get : (i : ℕ) → i < 8 → getD (wordsOf n f) i 0 ≡ pick (ltb i n) (f i) 0
+  word-get : (i : ℕ) → i < kidWords → getD (wordsOf n f) i 0 ≡ pick (ltb i n) (f i) 0
   unfolding wordsOf
-  word-get i l = let z : 0 + i ≡ i = omega arith in tab-get 8 0 (λ i. pick (ltb i n) (f i) 0) i l ∙ ap (λ (j : ℕ). pick (ltb j n) (f j) 0) z
+  word-get i l = let z : 0 + i ≡ i = omega arith in tab-get kidWords 0 (λ i. pick (ltb i n) (f i) 0) i l ∙ ap (λ (j : ℕ). pick (ltb j n) (f j) 0) z
 
-  pub words-at : (i : ℕ) → i < 8 → i < n → getD (wordsOf n f) i 0 ≡ f i
+  pub words-at : (i : ℕ) → i < kidWords → i < n → getD (wordsOf n f) i 0 ≡ f i
   words-at i l h = word-get i l ∙ rw (lt-ltb i n h)
 
-  pub words-past : (i : ℕ) → n ≤ i → i < 8 → getD (wordsOf n f) i 0 ≡ 0
+  pub words-past : (i : ℕ) → n ≤ i → i < kidWords → getD (wordsOf n f) i 0 ≡ 0
   words-past i h l = word-get i l ∙ rw (le-ltb i n h)
 
   all-true : (k : ℕ) → allOf (eqb k) (tabFrom n 0 f) ≡ true → All n f k
@@ -69,8 +70,8 @@ branch-words t ks s e =
     (leb-true floor (W t s own) (b .0), agree-words (W t) s 0 ks (b .1))
 
 -- no live slot has words that the scan does not find
-pub slot-lone : (t : Tables) (ks : List ℕ) → length ks ≡ 8 → branchSlot t ks ≡ 0 → (s : ℕ) → LiveSlot t s → s ≢ 0
-    → ((j : ℕ) → j < 8 → W t s j ≡ getD ks j 0) → ⊥
+pub slot-lone : (t : Tables) (ks : List ℕ) → length ks ≡ kidWords → branchSlot t ks ≡ 0 → (s : ℕ) → LiveSlot t s → s ≢ 0
+    → ((j : ℕ) → j < kidWords → W t s j ≡ getD ks j 0) → ⊥
 unfolding branchSlot branchIn
 slot-lone t ks e z s l d h =
     let in-it : branchIn t ks s ≡ true = rw (le-leb floor (W t s own) (l .1)) (agree-true (W t) s 0 ks (λ j k. let q : 0 + j ≡ j = omega arith in rw q (h j (omega arith)))) in
@@ -91,7 +92,7 @@ pub data Came (n : ℕ) (t : Tables) (f : ℕ → ℕ) : Type 0 where
   came-node : (r : ℕ) → Mixed n f → Has n (cap t) (W t) f r → needOf n t f ≡ have r → Came n t f
   came-lack : Mixed n f → branchSlot t (wordsOf n f) ≡ 0 → ((r : ℕ) → ¬ (Has n (cap t) (W t) f r)) → needOf n t f ≡ lack 1 → Came n t f
 
-module _ (n tallest : ℕ) (t : Tables) (m : n ≤ 8) (pos : 1 ≤ n) (w : WellFormed n tallest t) where
+module _ (n tallest : ℕ) (t : Tables) (m : n ≤ kidWords) (pos : 1 ≤ n) (w : WellFormed n tallest t) where
   -- a live id has the leaf flag exactly if it is a leaf's
   flag-leaf : (a : ℕ) → LiveOr0 (cap t) (W t) a → isLeaf a ≡ true → Leaf a
   flag-leaf a (inl z) e = absurd (true≢false (sym e ∙ ap isLeaf z ∙ nothing-flag))
@@ -120,11 +121,11 @@ module _ (n tallest : ℕ) (t : Tables) (m : n ≤ 8) (pos : 1 ≤ n) (w : WellF
   own-live : (s : ℕ) → LiveSlot t s → Live (cap t) (W t) (W t s own) × (slot (W t s own) ≡ s)
   own-live s l =
       let i = wf-inv n tallest t m w in
-      (live-own 8 (cap t) (W t) [] (i .counts) s (l .0) (l .1), i .counts .ids s (l .0) (l .1))
+      (live-own kidWords (cap t) (W t) [] (i .counts) s (l .0) (l .1), i .counts .ids s (l .0) (l .1))
 
   module _ (f : ℕ → ℕ) (there : (i : ℕ) → i < n → LiveOr0 (cap t) (W t) (f i)) where
     -- a live slot with those eight words is a branch that has the parts
-    in-has : (s : ℕ) → LiveSlot t s → ((j : ℕ) → j < 8 → W t s j ≡ getD (wordsOf n f) j 0) → ¬ (All n f 0) → Has n (cap t) (W t) f (W t s own)
+    in-has : (s : ℕ) → LiveSlot t s → ((j : ℕ) → j < kidWords → W t s j ≡ getD (wordsOf n f) j 0) → ¬ (All n f 0) → Has n (cap t) (W t) f (W t s own)
     in-has s l h d =
         let o = own-live s l in
         let at : (i : ℕ) → i < n → W t (slot (W t s own)) i ≡ f i = (λ i k. ap (λ (b : ℕ). W t b i) (o .1) ∙ h i (omega arith) ∙ words-at n f i (omega arith) k) in
@@ -212,7 +213,7 @@ pub data Cell-came (n : ℕ) (t : Tables) (x : ℕ) : Type 0 where
   cell-leaf : (r : ℕ) → x ≢ 0 → HasValue (cap t) (W t) x r → cellNeed t x ≡ have r → Cell-came n t x
   cell-lack : x ≢ 0 → leafSlot t x ≡ 0 → ((r : ℕ) → ¬ (HasValue (cap t) (W t) x r)) → cellNeed t x ≡ lack 1 → Cell-came n t x
 
-module _ (n tallest : ℕ) (t : Tables) (m : n ≤ 8) (pos : 1 ≤ n) (w : WellFormed n tallest t) (x : ℕ) where
+module _ (n tallest : ℕ) (t : Tables) (m : n ≤ kidWords) (pos : 1 ≤ n) (w : WellFormed n tallest t) (x : ℕ) where
   slot-value : x ≢ 0 → leafSlot t x ≢ 0 → HasValue (cap t) (W t) x (W t (leafSlot t x) own)
   unfolding valueAt
   slot-value d z =

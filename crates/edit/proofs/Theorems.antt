@@ -54,7 +54,7 @@ short-eleven : (t : Tables) (k : ℕ) → cap t - 1 - t .arena .live < k → gra
 unfolding grantNo
 short-eleven t k h = rw (lt-leb k (cap t - 1 - t .arena .live) h)
 
-module _ {n tallest : ℕ} {t : Tables} {root d : ℕ} {cell : List ℕ} {v : ℕ} (q : Posed n tallest t root d cell v) (low : heightAt (W t) root ≤ d) where
+module _ {n tallest : ℕ} {t : Tables} {root d : ℕ} {cell : List ℕ} (q : Posed n tallest t root d cell) (v : ℕ) (low : heightAt (W t) root ≤ d) where
   -- if the dry run lacks k nodes, then wherever the result r is made, in tables of that size or of any larger one, exactly k of its nodes are not live now
   pub lack-right : (k r c : ℕ) (W′ : Words) → planOf n t v cell root ≡ lack k → cap t ≤ c → WellMade n c W′ → Extends n c (W t) W′
       → Anew n c W′ v cell root r → Lacks n c (W t) W′ r k

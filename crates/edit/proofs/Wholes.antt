@@ -5,6 +5,7 @@ use Prim.Native.Nat.{ℕ, _/_, _≤_, _<_}
 use native.Mathlib.Decide.{ℕ-discrete, decLt}
 use native.Mathlib.Omega.{arith}
 use borrow.Author.Tests.{ne-eqb}
+use Rattle.basics.specs.Limits.{kidWords}
 use Rattle.ids.specs.Ids.{generationOf}
 use Rattle.nodes.specs.Words.{Words, own, value, height, slot}
 use Rattle.nodes.specs.Tally.{Live}
@@ -16,7 +17,7 @@ use Rattle.nodes.specs.Values.{heightAt, valueAt}
 use Rattle.arena.proofs.Inv.{Content}
 use Rattle.read_cell.proofs.Meaning.{leaf-above, branch-below, generation-small}
 
-module _ (n tallest cap : ℕ) (W : Words) (m : n ≤ 8) (most : cap ≤ 65536) (w : Content n tallest cap W) where
+module _ (n tallest cap : ℕ) (W : Words) (m : n ≤ kidWords) (most : cap ≤ 65536) (w : Content n tallest cap W) where
   node : (a : ℕ) → Live cap W a → Node n tallest cap W (slot a)
   node a l = w .nodes (slot a) (l .low) (rw (l .is) (l .high))
 
@@ -32,13 +33,13 @@ module _ (n tallest cap : ℕ) (W : Words) (m : n ≤ 8) (most : cap ≤ 65536) 
       (node a l .kind)
 
   -- a live id with a child is a branch's, one with none a leaf's
-  pub is-branch : (a i : ℕ) → Live cap W a → i < 8 → W (slot a) i ≢ 0 → tree.Branch a
+  pub is-branch : (a i : ℕ) → Live cap W a → i < kidWords → W (slot a) i ≢ 0 → tree.Branch a
   is-branch a i l h d =
       ⊎-elim (λ v. absurd (d (v .bare i h)))
       (λ v. (live-nonzero l, omega (arith, l .is, v .id, branch-below W (slot a) (generationOf (W (slot a) own)) (let q = l .low in omega arith) (generation-small (W (slot a) own)))))
       (node a l .kind)
 
-  pub is-leaf : (a : ℕ) → Live cap W a → ((i : ℕ) → i < 8 → W (slot a) i ≡ 0) → tree.Leaf a
+  pub is-leaf : (a : ℕ) → Live cap W a → ((i : ℕ) → i < kidWords → W (slot a) i ≡ 0) → tree.Leaf a
   is-leaf a l h =
       ⊎-elim (λ v. omega (arith, l .is, v .id, leaf-above (slot a) (generationOf (W (slot a) own))))
       (λ v. absurd (let s = v .some in let q = s .1 in s .2 (h (s .0) (omega arith))))

@@ -5,7 +5,7 @@ use mathlib.Core.Logic.{_≢_, _⊎_}
 use mathlib.Core.List.{List}
 use Prim.Native.Nat.{ℕ, _+_, _^_, _≤_, _<_}
 use lib.ListN.{length, set}
-use Rattle.basics.specs.Limits.{deepest, deepestCube, cubeKids, kidWords, largestValue}
+use Rattle.basics.specs.Limits.{deepest, deepestCube, cubeKids, kidWords}
 use Rattle.nodes.specs.Words.{Words, holds, slot}
 use Rattle.nodes.specs.Tally.{Live}
 use Rattle.tree.specs.Tree.{LiveOr0, Root, Below, WellMade, Cell, Extends}
@@ -21,15 +21,14 @@ use Rattle.edit.specs.Edit.{editOf}
 -- ## An edit of a cell
 
 -- What an edit of a cell is asked of: nodes with n children, two or more, in well-formed tables; a root that is EMPTY or live; a cell of depth d, at most
--- `tallest`; a value of 16 bits.
-pub record Posed (n tallest : ℕ) (t : Tables) (root d : ℕ) (cell : List ℕ) (v : ℕ) : Type 0 where
+-- `tallest`.
+pub record Posed (n tallest : ℕ) (t : Tables) (root d : ℕ) (cell : List ℕ) : Type 0 where
   pub words : n ≤ kidWords
   pub several : 1 < n
   pub well : WellFormed n tallest t
   pub there : LiveOr0 (cap t) (W t) root
   pub deep : d ≤ tallest
   pub cell-is : Cell n d cell
-  pub small : v ≤ largestValue
 
 -- What the call does to the counts and to the nodes that live: one hold on the answer (none on EMPTY) and no other; what lives was live, or is a node
 -- of the answer; there are `new` nodes more, and these are the nodes of the answer that were not live.

@@ -8,6 +8,7 @@ use native.Mathlib.Decide.{ℕ-discrete}
 use native.Mathlib.Omega.{arith}
 use lib.Dec.{leb, eqb}
 use borrow.Author.Tests.{leb-true, leb-false, le-leb, eq-eqb, ne-eqb}
+use Rattle.basics.specs.Limits.{deepest, cubeKids, mostHolds}
 use Rattle.basics.specs.Pick.{pick}
 use Rattle.nodes.specs.Values.{heightAt}
 use Rattle.nodes.specs.Words.{holds, slot}
@@ -23,8 +24,9 @@ use Rattle.arena.proofs.Fits.{sized-fits}
 use Rattle.ledger.specs.Fates.{Lives}
 use Rattle.ledger.specs.Refusals.{Full, Exactly}
 use Rattle.read_cell.specs.Calls.{lookNo}
-use Rattle.edit.specs.Edit.{resultOf, grantNo, cellAt, editNo, editOf}
-use Rattle.edit.proofs.Edits.{edit-number}
+use Rattle.edit.specs.Edit.{resultOf, grantNo, cellNo, cellAt, editNo, editOf}
+use Rattle.edit.specs.Promises.{Posed}
+use Rattle.edit.proofs.Edits.{edit-number, posed}
 use Rattle.edit.proofs.Theorems.{past-no}
 use Rattle.edit.proofs.Lacking.{missing-some, eleven-right, result-there, result-one, result-dead}
 use Rattle.ladders.specs.Ladder.{ladder, order, Decides, Listed}
@@ -45,11 +47,11 @@ ten-have : (t : Tables) (r : ℕ) → tenOf t (have r) ≡ true → (r ≢ 0) ×
 unfolding tenOf fullOf
 ten-have t r e = cases (ℕ-discrete r 0)
     (λ z. absurd (true≢false (sym (rw (eq-eqb r 0 z) at e))))
-    (λ z. (z, leb-true 1000000 (W t (slot r) holds) (rw (ne-eqb r 0 z) at e)))
+    (λ z. (z, leb-true mostHolds (W t (slot r) holds) (rw (ne-eqb r 0 z) at e)))
 
 have-ten : (t : Tables) (r : ℕ) → r ≢ 0 → Full t r → tenOf t (have r) ≡ true
 unfolding tenOf fullOf
-have-ten t r z f = rw (ne-eqb r 0 z) (le-leb 1000000 (W t (slot r) holds) f)
+have-ten t r z f = rw (ne-eqb r 0 z) (le-leb mostHolds (W t (slot r) holds) f)
 
 ten-lack : (t : Tables) (k : ℕ) → tenOf t (lack k) ≡ true → ⊥
 unfolding tenOf
@@ -72,15 +74,15 @@ eleven-is t (lack k) = go (leb k (cap t - 1 - t .arena .live))
 
 module _ (t : Tables) (root d : ℕ) (p : IVec3) (v : ℕ) where
   abbrev result : Need
-  result = resultOf 8 t v (cellAt d p) root
+  result = resultOf cubeKids t v (cellAt d p) root
 
   abbrev Why : ℕ → Type 0
   Why = EditWhy t root d p v
 
   edit-ladder : editNo t root d p v ≡ ladder (editRungs t root d p v)
-  unfolding editNo lookNo ladder within
+  unfolding editNo cellNo lookNo ladder within
   edit-ladder = split (fits t)
-      (λ f. split (leb d 6)
+      (λ f. split (leb d deepest)
       (λ a. split (inside d (p .x))
       (λ x. split (inside d (p .y))
       (λ y. split (inside d (p .z))
@@ -96,7 +98,7 @@ module _ (t : Tables) (root d : ℕ) (p : IVec3) (v : ℕ) where
   why-1 : Why 1 → Sized t → ⊥
   why-1 (unsizedEdit u) = u
 
-  why-2 : Why 2 → 6 < d
+  why-2 : Why 2 → deepest < d
   why-2 (deepEdit h) = h
 
   why-3 : Why 3 → Beyond d p
@@ -119,23 +121,26 @@ module _ (t : Tables) (root d : ℕ) (p : IVec3) (v : ℕ) where
 
   -- ---- 10 and 11, where no lower number applies
 
-  module _ (w : WellFormed 8 6 t) (n : lookNo t root d p ≡ 0) (low : heightAt (W t) root ≤ d) where
+  module _ (w : WellFormed cubeKids deepest t) (n : lookNo t root d p ≡ 0) (low : heightAt (W t) root ≤ d) where
+    abbrev q : Posed cubeKids deepest t root d (cellAt d p)
+    q = posed t w root d p n
+
     ten-to : (r : Need) → result ≡ r → tenOf t r ≡ true → Why 10
-    ten-to (have r) q e =
-        let h = result-there t w root d p v n low r q in
+    ten-to (have r) i e =
+        let h = result-there q v low r i in
         let f = ten-have t r e in
         fullEdit (cap t) (W t) r (h .1) (lives r (f .0) (h .0)) (f .1)
       where
         lives : (y : ℕ) → y ≢ 0 → LiveOr0 (cap t) (W t) y → Lives t y
         lives y z (inl e) = absurd (z e)
         lives y z (inr l) = l
-    ten-to (lack k) q e = absurd (ten-lack t k e)
+    ten-to (lack k) i e = absurd (ten-lack t k e)
 
     ten-from : (r : Need) → result ≡ r → Why 10 → tenOf t r ≡ true
-    ten-from (have r) q (fullEdit c U s i l f) =
-        let e : s ≡ r = result-one t w root d p v n low r c U s q i in
+    ten-from (have r) j (fullEdit c U s i l f) =
+        let e : s ≡ r = result-one q v low r c U s j i in
         subst (λ (y : ℕ). tenOf t (have y) ≡ true) e (have-ten t s (live-nonzero l) f)
-    ten-from (lack k) q (fullEdit c U s i l f) = absurd (result-dead t w root d p v n low k c U s q i l)
+    ten-from (lack k) j (fullEdit c U s i l f) = absurd (result-dead q v low k c U s j i l)
 
     ten : Decides (tenOf t result) (Why 10)
     ten = (ten-to result refl, ten-from result refl)
@@ -143,19 +148,19 @@ module _ (t : Tables) (root d : ℕ) (p : IVec3) (v : ℕ) where
     eleven : Decides (elevenOf t result) (Why 11)
     eleven = (to, from)
       where
-        is : editNo t root d p v ≡ grantNo t result
-        is = past-no t w root d p v n low
+        is : cellNo cubeKids t root d (cellAt d p) v ≡ grantNo t result
+        is = past-no q v low
 
         to : elevenOf t result ≡ true → Why 11
         to e =
-            let m = missing-some t w root d p v n low in
-            crowdedEdit (m .0) (m .1) (eleven-right t w root d p v n low (m .0) (m .1) .0 (is ∙ eleven-is t result .0 e))
+            let m = missing-some q v low (let h = q .deep in omega arith) in
+            crowdedEdit (m .0) (m .1) (eleven-right q v low (m .0) (m .1) .0 (is ∙ eleven-is t result .0 e))
 
         from : Why 11 → elevenOf t result ≡ true
-        from (crowdedEdit k m h) = eleven-is t result .1 (sym is ∙ eleven-right t w root d p v n low k m .1 h)
+        from (crowdedEdit k m h) = eleven-is t result .1 (sym is ∙ eleven-right q v low k m .1 h)
 
-  module _ (fair : Fair 8 6 t) where
-    well : (Why 1 → ⊥) → Fair 8 6 t → WellFormed 8 6 t
+  module _ (fair : Fair cubeKids deepest t) where
+    well : (Why 1 → ⊥) → Fair cubeKids deepest t → WellFormed cubeKids deepest t
     well n (inl f) = absurd (n (unsizedEdit (λ s. true≢false (sym (sized-fits t s) ∙ f))))
     well n (inr w) = w
 
@@ -176,7 +181,7 @@ module _ (t : Tables) (root d : ℕ) (p : IVec3) (v : ℕ) where
         (omega arith, (omega arith, (omega arith, (omega arith, (omega arith, (omega arith, (omega arith, tt))))))) edit-listed (
           via (not (fits t)) (unsized t) unsizedEdit why-1,
           λ a. (
-            via (not (leb d 6)) (above d 6) deepEdit why-2,
+            via (not (leb d deepest)) (above d deepest) deepEdit why-2,
             λ b. (
               via (not (within d p)) (beyond d p) beyondEdit why-3,
               λ c. (

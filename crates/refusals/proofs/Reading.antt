@@ -10,6 +10,7 @@ use lib.Dec.{leb, ltb, eqb}
 use lib.IntN.{ℤ, pos, negsuc}
 use lib.ListN.{length}
 use borrow.Author.Tests.{leb-false, ltb-false, eqb-false, lt-leb, le-ltb, eq-eqb, ne-eqb, not-true}
+use Rattle.basics.specs.Limits.{deepest, deepestCube, lastPacked}
 use Rattle.basics.specs.Pick.{pick}
 use Rattle.ids.specs.Ids.{packingNo}
 use Rattle.nodes.proofs.Sums.{cases, split}
@@ -88,7 +89,7 @@ dead t id = fails (liveOrEmpty (cap t) (W t) id)
 module _ (p : IVec3) (k d : ℕ) where
   child-ladder : childNo p k d ≡ ladder (childRungs p k d)
   unfolding childNo ladder within leveled
-  child-ladder = split (leb d 6)
+  child-ladder = split (leb d deepest)
       (λ a. split (ltb k d)
       (λ b. split (inside d (p .x))
       (λ x. split (inside d (p .y))
@@ -101,7 +102,7 @@ module _ (p : IVec3) (k d : ℕ) where
   childless : Decides (not (leveled k d)) (ChildWhy p k d 2)
   unfolding leveled
   childless = fails (leveled k d)
-      (λ e. split (leb d 6) (λ a. level (ltb-false k d (rw a at e))) (λ a. deepChild (leb-false d 6 a)))
+      (λ e. split (leb d deepest) (λ a. level (ltb-false k d (rw a at e))) (λ a. deepChild (leb-false d deepest a)))
       from
     where
       no : (b : Bool) → pick b false false ≡ false
@@ -109,8 +110,8 @@ module _ (p : IVec3) (k d : ℕ) where
       no false = refl
 
       from : ChildWhy p k d 2 → leveled k d ≡ false
-      from (deepChild h) = rw (lt-leb d 6 h)
-      from (level h) = rw (le-ltb k d h) (no (leb d 6))
+      from (deepChild h) = rw (lt-leb d deepest h)
+      from (level h) = rw (le-ltb k d h) (no (leb d deepest))
 
   out-3 : ChildWhy p k d 3 → Beyond d p
   out-3 (beyondChild b) = b
@@ -139,9 +140,9 @@ module _ (p : IVec3) (k d : ℕ) where
 module _ (g : ℕ) where
   pack-ladder : packingNo g ≡ ladder (packRungs g)
   unfolding packingNo ladder
-  pack-ladder = split (leb g 0x7FFE) (λ e. rw e) (λ e. rw e)
+  pack-ladder = split (leb g lastPacked) (λ e. rw e) (λ e. rw e)
 
-  pack-12 : PackWhy g 12 → 0x7FFE < g
+  pack-12 : PackWhy g 12 → lastPacked < g
   pack-12 (late h) = h
 
   pack-listed : Listed (PackWhy g) (order (packRungs g))
@@ -150,7 +151,7 @@ module _ (g : ℕ) where
   -- Packing: refusal 12, given exactly if it applies.
   pub pack-refusals : Exactly (PackWhy g) (packingNo g)
   pack-refusals = exactly (PackWhy g) (packRungs g) (packingNo g) pack-ladder (omega arith, tt) pack-listed
-      (via (not (leb g 0x7FFE)) (above g 0x7FFE) late pack-12, λ _. tt)
+      (via (not (leb g lastPacked)) (above g lastPacked) late pack-12, λ _. tt)
 
 module _ (code : ℕ) where
   decode-ladder : decodedOf code .no ≡ ladder (decodeRungs code)
@@ -174,7 +175,7 @@ module _ (t : Tables) (id d : ℕ) (p : IVec3) where
   pub look-ladder : lookNo t id d p ≡ ladder (lookRungs t id d p)
   unfolding lookNo ladder within
   look-ladder = split (fits t)
-      (λ f. split (leb d 6)
+      (λ f. split (leb d deepest)
       (λ a. split (inside d (p .x))
       (λ x. split (inside d (p .y))
       (λ y. split (inside d (p .z))
@@ -188,7 +189,7 @@ module _ (t : Tables) (id d : ℕ) (p : IVec3) where
   look-1 : LookWhy t id d p 1 → Sized t → ⊥
   look-1 (unsizedLook u) = u
 
-  look-2 : LookWhy t id d p 2 → 6 < d
+  look-2 : LookWhy t id d p 2 → deepest < d
   look-2 (deepLook h) = h
 
   look-3 : LookWhy t id d p 3 → Beyond d p
@@ -208,7 +209,7 @@ module _ (t : Tables) (id d : ℕ) (p : IVec3) where
       (omega arith, (omega arith, (omega arith, (omega arith, tt)))) look-listed (
         via (not (fits t)) (unsized t) unsizedLook look-1,
         λ _. (
-          via (not (leb d 6)) (above d 6) deepLook look-2,
+          via (not (leb d deepest)) (above d deepest) deepLook look-2,
           λ _. (
             via (not (within d p)) (beyond d p) beyondLook look-3,
             λ _. (via (not (liveOrEmpty (cap t) (W t) id)) (dead t id) (λ n. deadLook (n .0) (n .1)) look-4, λ _. tt),
@@ -232,7 +233,7 @@ module _ (t : Tables) (id d n : ℕ) where
   expand-ladder : expandNo t id d n ≡ ladder (expandRungs t id d n)
   unfolding expandNo ladder
   expand-ladder = split (fits t)
-      (λ f. split (leb d 6)
+      (λ f. split (leb d deepestCube)
       (λ a. split (liveOrEmpty (cap t) (W t) id)
       (λ l. split (eqb n (8 ^ d)) (λ b. rw (f, a, l, b)) (λ b. rw (f, a, l, b)))
       (λ l. rw (f, a, l)))
@@ -242,7 +243,7 @@ module _ (t : Tables) (id d n : ℕ) where
   expand-1 : ExpandWhy t id d n 1 → Sized t → ⊥
   expand-1 (unsizedExpand u) = u
 
-  expand-2 : ExpandWhy t id d n 2 → 6 < d
+  expand-2 : ExpandWhy t id d n 2 → deepestCube < d
   expand-2 (deepExpand h) = h
 
   expand-4 : ExpandWhy t id d n 4 → (id ≢ 0) × (Lives t id → ⊥)
@@ -262,7 +263,7 @@ module _ (t : Tables) (id d n : ℕ) where
       (omega arith, (omega arith, (omega arith, (omega arith, tt)))) expand-listed (
         via (not (fits t)) (unsized t) unsizedExpand expand-1,
         λ _. (
-          via (not (leb d 6)) (above d 6) deepExpand expand-2,
+          via (not (leb d deepestCube)) (above d deepestCube) deepExpand expand-2,
           λ _. (
             via (not (liveOrEmpty (cap t) (W t) id)) (dead t id) (λ n. deadExpand (n .0) (n .1)) expand-4,
             λ _. (via (not (eqb n (8 ^ d))) (fails (eqb n (8 ^ d)) (eqb-false n (8 ^ d)) (ne-eqb n (8 ^ d))) buffer expand-9, λ _. tt),

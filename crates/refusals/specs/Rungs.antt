@@ -19,7 +19,7 @@ use Rattle.edit.specs.Edit.{resultOf, cellAt}
 unfoldable pub within : ℕ → IVec3 → Bool
 within d p = pick (inside d (p .x)) (pick (inside d (p .y)) (inside d (p .z)) false) false
 
--- the depth is at most 6, and the level below it
+-- the depth is not above the deepest, and the level is below it
 unfoldable pub leveled : ℕ → ℕ → Bool
 leveled k d = pick (leb d deepest) (ltb k d) false
 

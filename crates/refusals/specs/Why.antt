@@ -2,7 +2,7 @@
 use mathlib.Core.Logic.{_≢_}
 use Prim.Native.Nat.{ℕ, _^_, _≤_, _<_}
 use lib.IntN.{ℤ, pos, negsuc}
-use Rattle.basics.specs.Limits.{deepest, deepestCube, lastPacked}
+use Rattle.basics.specs.Limits.{deepest, deepestCube, cubeKids, lastPacked}
 use Rattle.nodes.specs.Values.{heightAt}
 use Rattle.nodes.specs.Words.{Words}
 use Rattle.paths.specs.declared.IVec3.{IVec3}
@@ -10,9 +10,10 @@ use Rattle.arena.specs.Tables.{Tables, W, Sized}
 use Rattle.arena.specs.Calls.{freeSlots}
 use Rattle.ledger.specs.Fates.{Lives}
 use Rattle.ledger.specs.Refusals.{Full}
+use Rattle.edit.specs.Edit.{cellAt}
 use Rattle.edit.specs.Promises.{Imagined, Missing}
 
--- 2: depth above 6; a child number asked at a level not below the depth
+-- 2: depth above the deepest; a child number asked at a level not below the depth
 -- 3: a coordinate below 0 or at least 2^d; a path code of 2^30 or more
 -- 4: an id is neither EMPTY nor live
 -- 8: edit of a root taller than d
@@ -66,5 +67,5 @@ pub data EditWhy (t : Tables) (root d : ℕ) (p : IVec3) (v : ℕ) : ℕ → Typ
   beyondEdit : Beyond d p → EditWhy t root d p v 3
   deadEdit : root ≢ 0 → (Lives t root → ⊥) → EditWhy t root d p v 4
   tallEdit : d < heightAt (W t) root → EditWhy t root d p v 8
-  fullEdit : (c : ℕ) (W′ : Words) (r : ℕ) → Imagined t root d p v c W′ r → Lives t r → Full t r → EditWhy t root d p v 10
-  crowdedEdit : (k : ℕ) → Missing t root d p v k → freeSlots (t .arena) < k → EditWhy t root d p v 11
+  fullEdit : (c : ℕ) (W′ : Words) (r : ℕ) → Imagined cubeKids t root (cellAt d p) v c W′ r → Lives t r → Full t r → EditWhy t root d p v 10
+  crowdedEdit : (k : ℕ) → Missing cubeKids t root (cellAt d p) v k → freeSlots (t .arena) < k → EditWhy t root d p v 11
