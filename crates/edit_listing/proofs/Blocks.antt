@@ -5,6 +5,7 @@ use Prim.Native.Nat.{ℕ, suc, _+_, _*_, _/_, _^_, _≤_, _<_, min}
 use native.Mathlib.Numerals.{add-one}
 use native.Mathlib.Omega.{arith}
 use lib.ListN.{length, length-append}
+use Rattle.basics.specs.Limits.{deepest, cubeKids}
 use Rattle.paths.specs.declared.IVec3.{IVec3}
 use Rattle.nodes.specs.Words.{putsFrom}
 use Rattle.arena.specs.Tables.{tables}
@@ -19,11 +20,11 @@ use Rattle.edit_listing.proofs.Puts.{puts-append}
 -- ---- one record
 
 pub one-is : (run : Run) (k f e b o : List ℕ) (i len : ℕ) (p : IVec3) (v : ℕ) → p ≡ cellIn b i → (v ≡ valueIn b i) × (v < 65536) → (step : Step) (k₁ f₁ e₁ : List ℕ) (r : Lined) (o₁ : List ℕ)
-    → (Fair 8 6 (tables (run .arena) k f e) → Fair 8 6 (tables (step .run .arena) k₁ f₁ e₁) × (record { state = stateOf (step .run) k₁ f₁ e₁; no = step .no } ≡ steppedOf (stateOf run k f e) p v))
+    → (Fair cubeKids deepest (tables (run .arena) k f e) → Fair cubeKids deepest (tables (step .run .arena) k₁ f₁ e₁) × (record { state = stateOf (step .run) k₁ f₁ e₁; no = step .no } ≡ steppedOf (stateOf run k f e) p v))
     → r .run ≡ step .run → r .len ≡ len + length (lineOf (step .run .count) (step .no) (step .run .root .0))
     → o₁ ≡ putsFrom o len (lineOf (step .run .count) (step .no) (step .run .root .0))
-    → Fair 8 6 (tables (run .arena) k f e)
-    → Fair 8 6 (tables (r .run .arena) k₁ f₁ e₁) × (kept (stateOf (r .run) k₁ f₁ e₁) (r .len) o₁ ≡ oneOf (kept (stateOf run k f e) len o) b i)
+    → Fair cubeKids deepest (tables (run .arena) k f e)
+    → Fair cubeKids deepest (tables (r .run .arena) k₁ f₁ e₁) × (kept (stateOf (r .run) k₁ f₁ e₁) (r .len) o₁ ≡ oneOf (kept (stateOf run k f e) len o) b i)
 unfolding oneOf
 one-is run k f e b o i len p v ep ev step k₁ f₁ e₁ r o₁ once er el eo fair =
     let h = once fair in (
@@ -48,11 +49,11 @@ unfolding keptAt stateAt linesAt putsFrom
 kept-none s b o = refl
 
 module _ (run now : Run) (k₀ f₀ e₀ o₀ k f e o b : List ℕ) (i len : ℕ)
-    (inv : Fair 8 6 (tables (run .arena) k₀ f₀ e₀) → Fair 8 6 (tables (now .arena) k f e) × (kept (stateOf now k f e) len o ≡ keptAt (stateOf run k₀ f₀ e₀) b o₀ i)) where
+    (inv : Fair cubeKids deepest (tables (run .arena) k₀ f₀ e₀) → Fair cubeKids deepest (tables (now .arena) k f e) × (kept (stateOf now k f e) len o ≡ keptAt (stateOf run k₀ f₀ e₀) b o₀ i)) where
   pub kept-again : (r : Lined) (k₁ f₁ e₁ o₁ : List ℕ)
-      → (Fair 8 6 (tables (now .arena) k f e) → Fair 8 6 (tables (r .run .arena) k₁ f₁ e₁) × (kept (stateOf (r .run) k₁ f₁ e₁) (r .len) o₁ ≡ oneOf (kept (stateOf now k f e) len o) b i))
-      → Fair 8 6 (tables (run .arena) k₀ f₀ e₀)
-      → Fair 8 6 (tables (r .run .arena) k₁ f₁ e₁) × (kept (stateOf (r .run) k₁ f₁ e₁) (r .len) o₁ ≡ keptAt (stateOf run k₀ f₀ e₀) b o₀ (i + 1))
+      → (Fair cubeKids deepest (tables (now .arena) k f e) → Fair cubeKids deepest (tables (r .run .arena) k₁ f₁ e₁) × (kept (stateOf (r .run) k₁ f₁ e₁) (r .len) o₁ ≡ oneOf (kept (stateOf now k f e) len o) b i))
+      → Fair cubeKids deepest (tables (run .arena) k₀ f₀ e₀)
+      → Fair cubeKids deepest (tables (r .run .arena) k₁ f₁ e₁) × (kept (stateOf (r .run) k₁ f₁ e₁) (r .len) o₁ ≡ keptAt (stateOf run k₀ f₀ e₀) b o₀ (i + 1))
   kept-again r k₁ f₁ e₁ o₁ one fair =
       let x = inv fair in
       let y = one (x .0) in (
@@ -60,7 +61,7 @@ module _ (run now : Run) (k₀ f₀ e₀ o₀ k f e o b : List ℕ) (i len : ℕ
         y .1 ∙ ap (λ (z : Kept). oneOf z b i) (x .1) ∙ kept-more (stateOf run k₀ f₀ e₀) b o₀ i ∙ ap (keptAt (stateOf run k₀ f₀ e₀) b o₀) (sym (add-one i)),
       )
 
-  pub told-is : (n : ℕ) → i ≡ n → Fair 8 6 (tables (run .arena) k₀ f₀ e₀)
+  pub told-is : (n : ℕ) → i ≡ n → Fair cubeKids deepest (tables (run .arena) k₀ f₀ e₀)
       → _≡_ {A = Told} (record { state = stateOf now k f e; records = i; len = len; out = o }) (toldOf (stateOf run k₀ f₀ e₀) b o₀ n)
   unfolding toldOf keptAt
   told-is n q fair =

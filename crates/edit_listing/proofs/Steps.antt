@@ -10,6 +10,7 @@ use mir.Syntax.{w32}
 use mir.Val.{toZ}
 use mir.ValLaws.{toZ-ofZ}
 use borrow.Author.Tests.{eq-eqb, ne-eqb}
+use Rattle.basics.specs.Limits.{deepest, cubeKids, kidWords}
 use Rattle.paths.specs.declared.IVec3.{IVec3}
 use Rattle.arena.specs.Tables.{Tables, tables}
 use Rattle.arena.specs.Calls.{Out, Fair, fits, madeOf, answeredOf, releaseNo, releaseOf, freshOf}
@@ -17,7 +18,7 @@ use Rattle.arena.specs.declared.Made.{Made}
 use Rattle.arena.specs.declared.Answer.{Answer}
 use Rattle.arena.proofs.Releasing.{release-well}
 use Rattle.read_cell.specs.Calls.{lookNo}
-use Rattle.edit.specs.Edit.{editNo, editOf}
+use Rattle.edit.specs.Edit.{editOf}
 use Rattle.edit.proofs.Edits.{edit-well}
 use Rattle.edit_listing.specs.Listing.{State, stateOf, word, cellIn, counted, editIn, stepTo, stepOf, startOf}
 use Rattle.edit_listing.specs.Models.{Stepped, steppedOf}
@@ -26,24 +27,24 @@ use Rattle.edit_listing.specs.declared.Run.{Run}
 -- ---- tables that are not sized stay as they are
 
 edit-unsized : (t : Tables) (root d : ℕ) (p : IVec3) (v : ℕ) → fits t ≡ false → editOf t root d p v .after ≡ t
-unfolding editOf editNo lookNo
+unfolding editOf lookNo
 edit-unsized t root d p v f = rw f
 
-release-unsized : (t : Tables) (id : ℕ) → fits t ≡ false → releaseOf 6 t id .after ≡ t
+release-unsized : (t : Tables) (id : ℕ) → fits t ≡ false → releaseOf deepest t id .after ≡ t
 unfolding releaseOf releaseNo
 release-unsized t id f = rw f
 
-pub edit-fair : (t : Tables) (root d : ℕ) (p : IVec3) (v : ℕ) → v < 65536 → Fair 8 6 t → Fair 8 6 (editOf t root d p v .after)
+pub edit-fair : (t : Tables) (root d : ℕ) (p : IVec3) (v : ℕ) → v < 65536 → Fair cubeKids deepest t → Fair cubeKids deepest (editOf t root d p v .after)
 edit-fair t root d p v h (inl f) = inl (ap fits (edit-unsized t root d p v f) ∙ f)
 edit-fair t root d p v h (inr w) = inr (edit-well t w root d p v (omega arith))
 
-pub release-fair : (t : Tables) (id : ℕ) → Fair 8 6 t → Fair 8 6 (releaseOf 6 t id .after)
+pub release-fair : (t : Tables) (id : ℕ) → Fair cubeKids deepest t → Fair cubeKids deepest (releaseOf deepest t id .after)
 release-fair t id (inl f) = inl (ap fits (release-unsized t id f) ∙ f)
-release-fair t id (inr w) = inr (release-well 8 6 t id (omega arith) w)
+release-fair t id (inr w) = inr (release-well cubeKids deepest t id (omega arith) w)
 
 -- ---- accepted, and refused
 
-pub step-accepted : (s : State) (o : Out) → o .no ≡ 0 → stepTo s o ≡ record { tables = releaseOf 6 (o .after) (s .root) .after; root = o .id; count = counted (s .count) }
+pub step-accepted : (s : State) (o : Out) → o .no ≡ 0 → stepTo s o ≡ record { tables = releaseOf deepest (o .after) (s .root) .after; root = o .id; count = counted (s .count) }
 unfolding stepTo
 step-accepted s o z = rw (eq-eqb (o .no) 0 z)
 
@@ -54,7 +55,7 @@ step-refused s o z = rw (ne-eqb (o .no) 0 z)
 abbrev stepBy : State → Out → Stepped
 stepBy s o = record { state = stepTo s o; no = o .no }
 
-stepped-by : (s : State) (p : IVec3) (v : ℕ) (o : Out) → o ≡ editOf (s .tables) (s .root) 6 p v → stepBy s o ≡ steppedOf s p v
+stepped-by : (s : State) (p : IVec3) (v : ℕ) (o : Out) → o ≡ editOf (s .tables) (s .root) deepest p v → stepBy s o ≡ steppedOf s p v
 unfolding steppedOf stepOf editIn
 stepped-by s p v o e = ap (stepBy s) e
 
@@ -65,13 +66,13 @@ count-by n j e = e
 -- ---- the code's edit and release
 
 module _ (run : Run) (k f e : List ℕ) (p : IVec3) (v : ℕ) (small : v < 65536) (m : Made) (k₁ f₁ e₁ : List ℕ)
-    (edited : Fair 8 6 (tables (run .arena) k f e) → madeOf m k₁ f₁ e₁ ≡ editOf (tables (run .arena) k f e) (run .root .0) 6 p v)
+    (edited : Fair cubeKids deepest (tables (run .arena) k f e) → madeOf m k₁ f₁ e₁ ≡ editOf (tables (run .arena) k f e) (run .root .0) deepest p v)
     (j : ℕ) (more : j ≡ (run .count + 1) % 2 ^ 64) where
-  after-edit : Fair 8 6 (tables (run .arena) k f e) → Fair 8 6 (tables (m .arena) k₁ f₁ e₁)
-  after-edit fair = subst (λ (o : Out). Fair 8 6 (o .after)) (sym (edited fair)) (edit-fair (tables (run .arena) k f e) (run .root .0) 6 p v small fair)
+  after-edit : Fair cubeKids deepest (tables (run .arena) k f e) → Fair cubeKids deepest (tables (m .arena) k₁ f₁ e₁)
+  after-edit fair = subst (λ (o : Out). Fair cubeKids deepest (o .after)) (sym (edited fair)) (edit-fair (tables (run .arena) k f e) (run .root .0) deepest p v small fair)
 
-  pub once-refused : (m .no ≡ 0 → ⊥) → Fair 8 6 (tables (run .arena) k f e)
-      → Fair 8 6 (tables (m .arena) k₁ f₁ e₁)
+  pub once-refused : (m .no ≡ 0 → ⊥) → Fair cubeKids deepest (tables (run .arena) k f e)
+      → Fair cubeKids deepest (tables (m .arena) k₁ f₁ e₁)
       × (_≡_ {A = Stepped} (record { state = record { tables = tables (m .arena) k₁ f₁ e₁; root = run .root .0; count = j }; no = m .no }) (steppedOf (stateOf run k f e) p v))
   once-refused z fair = (
     after-edit fair,
@@ -81,16 +82,16 @@ module _ (run : Run) (k f e : List ℕ) (p : IVec3) (v : ℕ) (small : v < 65536
   )
 
   pub once-accepted : m .no ≡ 0 → (r : Answer) (k₂ f₂ e₂ : List ℕ)
-      → ((n tallest : ℕ) → n ≤ 8 → tallest ≤ 6 → Fair n tallest (tables (m .arena) k₁ f₁ e₁) → answeredOf r k₂ f₂ e₂ ≡ releaseOf tallest (tables (m .arena) k₁ f₁ e₁) (run .root .0))
-      → Fair 8 6 (tables (run .arena) k f e)
-      → Fair 8 6 (tables (r .arena) k₂ f₂ e₂)
+      → ((n tallest : ℕ) → n ≤ kidWords → tallest ≤ deepest → Fair n tallest (tables (m .arena) k₁ f₁ e₁) → answeredOf r k₂ f₂ e₂ ≡ releaseOf tallest (tables (m .arena) k₁ f₁ e₁) (run .root .0))
+      → Fair cubeKids deepest (tables (run .arena) k f e)
+      → Fair cubeKids deepest (tables (r .arena) k₂ f₂ e₂)
       × (_≡_ {A = Stepped} (record { state = record { tables = tables (r .arena) k₂ f₂ e₂; root = m .id .0; count = j }; no = 0 }) (steppedOf (stateOf run k f e) p v))
   once-accepted z r k₂ f₂ e₂ released fair =
       let t = tables (m .arena) k₁ f₁ e₁ in
-      let q = released 8 6 (omega arith) (omega arith) (after-edit fair) in (
-        subst (λ (o : Out). Fair 8 6 (o .after)) (sym q) (release-fair t (run .root .0) (after-edit fair)),
+      let q = released cubeKids deepest (omega arith) (omega arith) (after-edit fair) in (
+        subst (λ (o : Out). Fair cubeKids deepest (o .after)) (sym q) (release-fair t (run .root .0) (after-edit fair)),
         ap (λ (o : Out). record { state = record { tables = o .after; root = m .id .0; count = j }; no = 0 }) q
-            ∙ ap (λ (i : ℕ). record { state = record { tables = releaseOf 6 t (run .root .0) .after; root = m .id .0; count = i }; no = 0 }) (count-by (run .count) j more)
+            ∙ ap (λ (i : ℕ). record { state = record { tables = releaseOf deepest t (run .root .0) .after; root = m .id .0; count = i }; no = 0 }) (count-by (run .count) j more)
             ∙ ap (λ (s : State). record { state = s; no = 0 }) (sym (step-accepted (stateOf run k f e) (madeOf m k₁ f₁ e₁) z))
             ∙ ap (λ (i : ℕ). record { state = stepTo (stateOf run k f e) (madeOf m k₁ f₁ e₁); no = i }) (sym z)
             ∙ stepped-by (stateOf run k f e) p v (madeOf m k₁ f₁ e₁) (edited fair),

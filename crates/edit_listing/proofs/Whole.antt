@@ -8,6 +8,7 @@ use native.Mathlib.Decide.{ℕ-discrete}
 use native.Mathlib.Omega.{arith}
 use lib.ListN.{length, take, length-append, List·getD-append}
 use lib.Seq.{getD-append-add}
+use Rattle.basics.specs.Limits.{deepest, cubeKids, largestValue}
 use Rattle.ids_text.specs.Text.{textOf}
 use Rattle.nodes.proofs.Sums.{cases}
 use Rattle.nodes.specs.Words.{putsFrom}
@@ -24,27 +25,27 @@ use Rattle.edit_listing.proofs.Steps.{step-accepted, step-refused}
 
 -- ---- well formed after each record
 
-value-small : (b : List ℕ) → Bytes b → (i : ℕ) → valueIn b i ≤ 65535
+value-small : (b : List ℕ) → Bytes b → (i : ℕ) → valueIn b i ≤ largestValue
 unfolding valueIn word
 value-small b h i = omega (arith, h (8 * i + 6), h (8 * i + 6 + 1))
 
-pub step-well : (s : State) (o : Out) → WellFormed 8 6 (o .after) → WellFormed 8 6 (stepTo s o .tables)
+pub step-well : (s : State) (o : Out) → WellFormed cubeKids deepest (o .after) → WellFormed cubeKids deepest (stepTo s o .tables)
 step-well s o w = cases (ℕ-discrete (o .no) 0)
-    (λ z. subst (λ (t : State). WellFormed 8 6 (t .tables)) (sym (step-accepted s o z)) (release-well 8 6 (o .after) (s .root) (omega arith) w))
-    (λ z. subst (λ (t : State). WellFormed 8 6 (t .tables)) (sym (step-refused s o z)) w)
+    (λ z. subst (λ (t : State). WellFormed cubeKids deepest (t .tables)) (sym (step-accepted s o z)) (release-well cubeKids deepest (o .after) (s .root) (omega arith) w))
+    (λ z. subst (λ (t : State). WellFormed cubeKids deepest (t .tables)) (sym (step-refused s o z)) w)
 
 -- well-formed tables are well formed after any number of records
-pub records-well : (s : State) (b : List ℕ) → Bytes b → WellFormed 8 6 (s .tables) → (n : ℕ) → WellFormed 8 6 (stateAt s b n .tables)
+pub records-well : (s : State) (b : List ℕ) → Bytes b → WellFormed cubeKids deepest (s .tables) → (n : ℕ) → WellFormed cubeKids deepest (stateAt s b n .tables)
 unfolding stateAt stepOf editIn
 records-well s b h w zero = w
 records-well s b h w (suc n) =
     let t = stateAt s b n in
-    step-well t (editOf (t .tables) (t .root) 6 (cellIn b n) (valueIn b n)) (edit-well (t .tables) (records-well s b h w n) (t .root) 6 (cellIn b n) (valueIn b n) (value-small b h n))
+    step-well t (editOf (t .tables) (t .root) deepest (cellIn b n) (valueIn b n)) (edit-well (t .tables) (records-well s b h w n) (t .root) deepest (cellIn b n) (valueIn b n) (value-small b h n))
 
 -- so are those of a fresh arena over tables that fit
-pub start-well : (c : ℕ) (k f e : List ℕ) → fitOf c (length k) (length f) (length e) ≡ true → WellFormed 8 6 (startOf c k f e .tables)
+pub start-well : (c : ℕ) (k f e : List ℕ) → fitOf c (length k) (length f) (length e) ≡ true → WellFormed cubeKids deepest (startOf c k f e .tables)
 unfolding startOf
-start-well c k f e z = fresh-well 8 6 c k f e z
+start-well c k f e z = fresh-well cubeKids deepest c k f e z
 
 count-plain : (n : ℕ) → n + 1 < 2 ^ 64 → counted n ≡ n + 1
 unfolding counted
@@ -179,8 +180,8 @@ entered-listing {s} {t} {b} {lines} r x =
     ∙ ap₂ (λ (i k : ℕ). linesAt s (b ++ x) i ++ end k (stateAt s (b ++ x) i)) (sym d) (sym c)
 
 -- and well-formed tables are well formed at each point of it
-pub entered-well : {s t : State} {b lines : List ℕ} → Entered s b t lines → Bytes b → WellFormed 8 6 (s .tables) → WellFormed 8 6 (t .tables)
-entered-well {s} {t} {b} r h w = subst (λ (u : State). WellFormed 8 6 (u .tables)) (sym (entered-stands r .state)) (records-well s b h w (length b / 8))
+pub entered-well : {s t : State} {b lines : List ℕ} → Entered s b t lines → Bytes b → WellFormed cubeKids deepest (s .tables) → WellFormed cubeKids deepest (t .tables)
+entered-well {s} {t} {b} r h w = subst (λ (u : State). WellFormed cubeKids deepest (u .tables)) (sym (entered-stands r .state)) (records-well s b h w (length b / 8))
 
 -- ---- there is room: the bytes that a call writes are the lines
 

@@ -260,7 +260,7 @@ fn one(
 ) -> Lined
     requires { ⌜ (8 * i + 8 ≤ length (now bytes)) × (len + 84 < 2 ^ 64) ⌝ }
     ensures { λ r. ⌜ (r .len ≤ len + 84)
-        × (Fair 8 6 (before (run .arena) kids facts find)
+        × (Fair cubeKids deepest (before (run .arena) kids facts find)
         → Fair cubeKids deepest (after (r .run .arena) kids facts find)
         × (kept (stateOf (r .run) (now (kids .exit)) (now (facts .exit)) (now (find .exit))) (r .len) (now (out .exit))
         ≡ oneOf (kept (stateOf run (now (kids .entry)) (now (facts .entry)) (now (find .entry))) len (now (out .entry))) (now (bytes .entry)) i)) ⌝ }
@@ -300,7 +300,7 @@ pub fn edit_records(
     out: &mut [u8],
 ) -> Ran
     ensures { λ r. ⌜ (r .records ≡ takenOf (length (now (bytes .entry))) (length (now (out .entry))))
-        × (Fair 8 6 (before (run .arena) kids facts find)
+        × (Fair cubeKids deepest (before (run .arena) kids facts find)
         → told r (now (kids .exit)) (now (facts .exit)) (now (find .exit)) (now (out .exit)) ≡ toldOf (stateOf run (now (kids .entry)) (now (facts .entry)) (now (find .entry))) (now (bytes .entry)) (now (out .entry)) (takenOf (length (now (bytes .entry))) (length (now (out .entry))))) ⌝ }
 {
     let most = least(bytes.len() / RECORD, out.len() / WIDEST);

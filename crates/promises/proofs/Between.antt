@@ -2,6 +2,7 @@
 use mathlib.Core.Path.{_≡_, refl, _∙_, subst}
 use Prim.Native.Nat.{ℕ, _≤_}
 use native.Mathlib.Omega.{arith}
+use Rattle.basics.specs.Limits.{deepest, cubeKids, kidWords}
 use Rattle.tree.specs.Tree.{WellMade, Extends}
 use Rattle.tree.specs.Edits.{Later}
 use Rattle.tree.proofs.Grow.{extends-trans}
@@ -15,24 +16,24 @@ use Rattle.promises.proofs.Calls.{call-does}
 
 -- the tables stay well formed, of the same size, and every node that was live is live and has the same content
 pub record AllKept (t u : Tables) : Type 0 where
-  pub well : WellFormed 8 6 u
+  pub well : WellFormed cubeKids deepest u
   pub size : cap u ≡ cap t
-  pub grows : Extends 8 (cap t) (W t) (W u)
+  pub grows : Extends cubeKids (cap t) (W t) (W u)
 
-m8 : 8 ≤ 8
-m8 = omega arith
+fit : cubeKids ≤ kidWords
+fit = omega arith
 
 -- ## One call
 
 -- a call that is no release, accepted or refused, ends no node
-call-grows : (t : Tables) → WellFormed 8 6 t → (c : Call) → Handed c → NoRelease c → Extends 8 (cap t) (W t) (W (outcome t c .after))
-call-grows t w (leaf v) h n = grew-extends 8 m8 (leaf-ends-none 8 6 t m8 w v)
-call-grows t w (branch ks) h n = grew-extends 8 m8 (branch-ends-none 8 6 t m8 w ks h)
-call-grows t w (hold b) h n = grew-extends 8 m8 (hold-ends-none t b)
+call-grows : (t : Tables) → WellFormed cubeKids deepest t → (c : Call) → Handed c → NoRelease c → Extends cubeKids (cap t) (W t) (W (outcome t c .after))
+call-grows t w (leaf v) h n = grew-extends cubeKids fit (leaf-ends-none cubeKids deepest t fit w v)
+call-grows t w (branch ks) h n = grew-extends cubeKids fit (branch-ends-none cubeKids deepest t fit w ks h)
+call-grows t w (hold b) h n = grew-extends cubeKids fit (hold-ends-none t b)
 call-grows t w (release b) h n = absurd n
 call-grows t w (voxel b e p v) h n = edit-grows t w b e p v h .1
 
-call-keeps-all : (t : Tables) (c : Call) → WellFormed 8 6 t → Handed c → NoRelease c → AllKept t (outcome t c .after)
+call-keeps-all : (t : Tables) (c : Call) → WellFormed cubeKids deepest t → Handed c → NoRelease c → AllKept t (outcome t c .after)
 call-keeps-all t c w h n = let d = call-does t w c h in record { well = d .well; size = d .size; grows = call-grows t w c h n }
 
 -- ## Any number of calls
@@ -41,18 +42,18 @@ all-kept-then : (t u v : Tables) → AllKept t u → AllKept u v → AllKept t v
 all-kept-then t u v g h = record {
   well = h .well;
   size = h .size ∙ g .size;
-  grows = extends-trans (g .grows) (subst (λ (k : ℕ). Extends 8 k (W u) (W v)) (g .size) (h .grows));
+  grows = extends-trans (g .grows) (subst (λ (k : ℕ). Extends cubeKids k (W u) (W v)) (g .size) (h .grows));
 }
 
-pub unreleased-keeps-all : {t u : Tables} → WellFormed 8 6 t → Unreleased t u → AllKept t u
+pub unreleased-keeps-all : {t u : Tables} → WellFormed cubeKids deepest t → Unreleased t u → AllKept t u
 unreleased-keeps-all w none = record { well = w; size = refl; grows = λ a l. record { still = l; kids = λ i k. refl; value = refl; height = refl } }
 unreleased-keeps-all {t} {u} w (and c h n r) =
     let g = call-keeps-all t c w h n in
     all-kept-then t (outcome t c .after) u g (unreleased-keeps-all (g .well) r)
 
 -- what stands between two edits, with the capacity that the tables had at the start
-pub all-kept-later : (c₀ : ℕ) {t u : Tables} → cap t ≡ c₀ → AllKept t u → Later 8 c₀ (W t) (W u)
+pub all-kept-later : (c₀ : ℕ) {t u : Tables} → cap t ≡ c₀ → AllKept t u → Later cubeKids c₀ (W t) (W u)
 all-kept-later c₀ {t} {u} e g = record {
-  grows = subst (λ (k : ℕ). Extends 8 k (W t) (W u)) e (g .grows);
-  made = subst (λ (k : ℕ). WellMade 8 k (W u)) (g .size ∙ e) (wf-made 8 6 u (omega arith) (g .well));
+  grows = subst (λ (k : ℕ). Extends cubeKids k (W t) (W u)) e (g .grows);
+  made = subst (λ (k : ℕ). WellMade cubeKids k (W u)) (g .size ∙ e) (wf-made cubeKids deepest u (omega arith) (g .well));
 }

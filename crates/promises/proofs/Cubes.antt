@@ -1,15 +1,15 @@
 -- The plain cube: call for call, every root answers lookup, expansion and edit as an array of 8^d numbers would, at every depth no less than its height.
-use mathlib.Core.Path.{_≡_, refl, sym, ap, _∙_}
+use mathlib.Core.Path.{_≡_, refl, sym, _∙_}
 use mathlib.Core.List.{List}
 use Prim.Native.Nat.{ℕ, _+_, _/_, _^_, _≤_}
 use lib.ListN.{length}
 use lib.Pow.{shr-lt}
+use Rattle.basics.specs.Limits.{deepest, deepestCube, cubeKids, largestValue}
 use Rattle.nodes.specs.Values.{heightAt}
 use Rattle.tree.specs.Demand.{At}
 use Rattle.arena.specs.Tables.{Tables, W, WellFormed}
-use Rattle.read_cell.specs.Calls.{looked, lookOf}
-use Rattle.calls.specs.Cells.{spot, Expands}
-use Rattle.calls.proofs.Expanding.{look-at, expand-at}
+use Rattle.calls.specs.Cells.{spot, Answers, Expands}
+use Rattle.calls.proofs.Expanding.{look-at, answers-as, expand-at}
 use Rattle.edit.specs.Edit.{editNo}
 use Rattle.edit.specs.Promises.{then, gives}
 use Rattle.edit.proofs.Edits.{accepted-past}
@@ -32,11 +32,11 @@ shows (scale {d = d} {t = t} {a = a} {F = F} e i s) = scale-shows d t a F e i (s
 
 module _ {d : ℕ} {t : Tables} {a : ℕ} {F : Cube d} (s : Stands d t a F) where
   -- lookup answers every cell as the plain cube does
-  pub plain-cube : d ≤ 6 → (c : At d) → lookOf t a d (spot c) ≡ looked 0 (F c)
-  plain-cube h c = let z = shows s in look-at t (z .well) h a (z .there) c ∙ ap (looked 0) (z .cells c)
+  pub plain-cube : d ≤ deepest → (c : At d) → Answers t a c (F c)
+  plain-cube h c = let z = shows s in answers-as (look-at t (z .well) h a (z .there) c) (z .cells c)
 
   -- and expansion writes it
-  pub plain-expansion : d ≤ 6 → (l : List ℕ) → length l ≡ 8 ^ d → Expands d t a l F
+  pub plain-expansion : d ≤ deepestCube → (l : List ℕ) → length l ≡ 8 ^ d → Expands d t a l F
   plain-expansion h l e =
       let z = shows s in
       let x = expand-at t (z .well) h a (z .there) l e in
@@ -47,7 +47,7 @@ module _ {d : ℕ} {t : Tables} {a : ℕ} {F : Cube d} (s : Stands d t a F) wher
   stands-one r c = sym (shows s .cells c) ∙ shows r .cells c
 
   -- of a root that is there and no taller than the depth, in a well-formed arena
-  pub stands-well : WellFormed 8 6 t
+  pub stands-well : WellFormed cubeKids deepest t
   stands-well = shows s .well
 
   pub stands-there : There t a
@@ -56,43 +56,43 @@ module _ {d : ℕ} {t : Tables} {a : ℕ} {F : Cube d} (s : Stands d t a F) wher
   pub stands-low : heightAt (W t) a ≤ d
   stands-low = shows s .low
 
--- ## At every depth from the root's height to 6
+-- ## At every depth from the root's height to the deepest
 
 module _ {d : ℕ} {t : Tables} {a : ℕ} {F : Cube d} (s : Stands d t a F) where
   -- lookup answers as the cube, scaled to the depth, does ..
-  pub plain-cube-at : (e : ℕ) → heightAt (W t) a ≤ e → e ≤ 6 → (c : At e) → lookOf t a e (spot c) ≡ looked 0 (scaled e F c)
+  pub plain-cube-at : (e : ℕ) → heightAt (W t) a ≤ e → e ≤ deepest → (c : At e) → Answers t a c (scaled e F c)
   plain-cube-at e i h c = plain-cube (scale e i s) h c
 
   -- .. expansion writes that cube ..
-  pub plain-expansion-at : (e : ℕ) → heightAt (W t) a ≤ e → e ≤ 6 → (l : List ℕ) → length l ≡ 8 ^ e → Expands e t a l (scaled e F)
+  pub plain-expansion-at : (e : ℕ) → heightAt (W t) a ≤ e → e ≤ deepestCube → (l : List ℕ) → length l ≡ 8 ^ e → Expands e t a l (scaled e F)
   plain-expansion-at e i h l q = plain-expansion (scale e i s) h l q
 
   -- .. and an accepted edit changes one cell of it.
-  pub plain-edit-at : {e : ℕ} (c : At e) (v : ℕ) → v ≤ 65535 → editNo t a e (spot c) v ≡ 0 → Stands e (then t a c v) (gives t a c v) (changed (scaled e F) c v)
+  pub plain-edit-at : {e : ℕ} (c : At e) (v : ℕ) → v ≤ largestValue → editNo t a e (spot c) v ≡ 0 → Stands e (then t a c v) (gives t a c v) (changed (scaled e F) c v)
   plain-edit-at {e} c v h ok = edit c v h ok (scale e (accepted-past t a e (spot c) v ok .1) s)
 
 -- ## Cells and blocks
 
 module _ {d : ℕ} (k : ℕ) (c : At (d + k)) (b : At d) (m : Within k c b) {t : Tables} {a : ℕ} where
   -- At a greater depth each cell of a block answers the block's number.
-  pub plain-deeper-at : {F : Cube d} → Stands d t a F → d + k ≤ 6 → lookOf t a (d + k) (spot c) ≡ looked 0 (F b)
+  pub plain-deeper-at : {F : Cube d} → Stands d t a F → d + k ≤ deepest → Answers t a c (F b)
   plain-deeper-at s h =
       let z = shows s in
-      look-at t (z .well) h a (z .there) c ∙ ap (looked 0) (block-shown k c b m (z .well) (z .there) (z .low) ∙ z .cells b)
+      answers-as (look-at t (z .well) h a (z .there) c) (block-shown k c b m (z .well) (z .there) (z .low) ∙ z .cells b)
 
   -- A smaller depth, no less than the height, answers for a block the number that each of its cells has: all have the same.
-  pub plain-blocks : {F : Cube (d + k)} → Stands (d + k) t a F → heightAt (W t) a ≤ d → d ≤ 6 → lookOf t a d (spot b) ≡ looked 0 (F c)
+  pub plain-blocks : {F : Cube (d + k)} → Stands (d + k) t a F → heightAt (W t) a ≤ d → d ≤ deepest → Answers t a b (F c)
   plain-blocks s i h =
       let z = shows s in
-      look-at t (z .well) h a (z .there) b ∙ ap (looked 0) (sym (block-shown k c b m (z .well) (z .there) i) ∙ z .cells c)
+      answers-as (look-at t (z .well) h a (z .there) b) (sym (block-shown k c b m (z .well) (z .there) i) ∙ z .cells c)
 
 -- An edit at a smaller depth, no less than the height, fills the block and no other cell of the cube.
-module _ {d : ℕ} (k : ℕ) {t : Tables} {a : ℕ} {F : Cube (d + k)} (s : Stands (d + k) t a F) (h : d + k ≤ 6) (b : At d) (v : ℕ) (small : v ≤ 65535)
+module _ {d : ℕ} (k : ℕ) {t : Tables} {a : ℕ} {F : Cube (d + k)} (s : Stands (d + k) t a F) (h : d + k ≤ deepest) (b : At d) (v : ℕ) (small : v ≤ largestValue)
     (ok : editNo t a d (spot b) v ≡ 0) (c : At (d + k)) where
-  pub edit-fills : Within k c b → lookOf (then t a b v) (gives t a b v) (d + k) (spot c) ≡ looked 0 v
-  edit-fills m = plain-deeper-at k c b m (plain-edit-at s b v small ok) h ∙ ap (looked 0) (changed-here (scaled d F) b v)
+  pub edit-fills : Within k c b → Answers (then t a b v) (gives t a b v) c v
+  edit-fills m = answers-as (plain-deeper-at k c b m (plain-edit-at s b v small ok) h) (changed-here (scaled d F) b v)
 
-  pub edit-spares : ¬ (Within k c b) → lookOf (then t a b v) (gives t a b v) (d + k) (spot c) ≡ looked 0 (F c)
+  pub edit-spares : ¬ (Within k c b) → Answers (then t a b v) (gives t a b v) c (F c)
   edit-spares n =
       let z = shows s in
       let i = accepted-past t a d (spot b) v ok .1 in
@@ -104,8 +104,7 @@ module _ {d : ℕ} (k : ℕ) {t : Tables} {a : ℕ} {F : Cube (d + k)} (s : Stan
         in-y = shr-lt d k (c .in-y);
         in-z = shr-lt d k (c .in-z);
       } in
-      plain-deeper-at k c o (refl, refl, refl) (plain-edit-at s b v small ok) h
-      ∙ ap (looked 0)
+      answers-as (plain-deeper-at k c o (refl, refl, refl) (plain-edit-at s b v small ok) h)
       (changed-elsewhere (scaled d F) b v o n
       ∙ sym (shows (scale d i s) .cells o)
       ∙ sym (block-shown k c o (refl, refl, refl) (z .well) (z .there) i)

@@ -8,6 +8,7 @@ use native.Mathlib.Omega.{arith}
 use lib.Dec.{leb}
 use lib.ListN.{length}
 use borrow.Author.Tests.{ne-eqb, le-leb}
+use Rattle.basics.specs.Limits.{deepest, deepestCube, cubeKids}
 use Rattle.basics.specs.Pick.{pick}
 use Rattle.nodes.proofs.Sums.{split}
 use Rattle.paths.specs.declared.IVec3.{IVec3}
@@ -20,7 +21,8 @@ use Rattle.ledger.specs.Fates.{Lives}
 use Rattle.ledger.proofs.Refusals as refusals
 use Rattle.read_cell.specs.Calls.{lookNo, lookOf, expandNo, expandOf}
 use Rattle.read_cell.proofs.Laws.{there-live}
-use Rattle.edit.specs.Edit.{editNo, editOf}
+use Rattle.edit.specs.Edit.{editNo}
+use Rattle.edit.proofs.Edits.{edit-number}
 use Rattle.promises.specs.Promises.{Inside, ByFour, Refused}
 
 -- a ladder of refusals from 1 to 4
@@ -43,7 +45,7 @@ module _ (t : Tables) (y : ℕ) (some : y ≢ 0) (dead : Lives t y → ⊥) wher
   unfolding lookNo
   look-four d p = rw not-there
       (rung (fits t) _ 1
-      (rung (leb d 6) _ 2
+      (rung (leb d deepest) _ 2
       (rung (inside d (p .x)) _ 3 (rung (inside d (p .y)) _ 3 (rung (inside d (p .z)) 4 3 (omega arith, omega arith) three) three) three) (omega arith, omega arith))
       (omega arith, omega arith))
     where
@@ -53,7 +55,7 @@ module _ (t : Tables) (y : ℕ) (some : y ≢ 0) (dead : Lives t y → ⊥) wher
   expand-four : (d n : ℕ) → Four (expandNo t y d n)
   unfolding expandNo
   expand-four d n =
-      rw not-there (rung (fits t) _ 1 (rung (leb d 6) 4 2 (omega arith, omega arith) (omega arith, omega arith)) (omega arith, omega arith))
+      rw not-there (rung (fits t) _ 1 (rung (leb d deepestCube) 4 2 (omega arith, omega arith) (omega arith, omega arith)) (omega arith, omega arith))
 
   edit-looks : (d : ℕ) (p : IVec3) (v : ℕ) → editNo t y d p v ≡ lookNo t y d p
   unfolding editNo
@@ -65,13 +67,13 @@ module _ (t : Tables) (y : ℕ) (some : y ≢ 0) (dead : Lives t y → ⊥) wher
     unfolding lookNo
     dead-look d p =
         let f = look-four d p in
-        (f .0, f .1, (λ i. rw (sized-fits t sized, le-leb d 6 (i .0), i .1, i .2, i .3, not-there)))
+        (f .0, f .1, (λ i. rw (sized-fits t sized, le-leb d deepest (i .0), i .1, i .2, i .3, not-there)))
 
-    pub dead-expand : (d n : ℕ) → ByFour (expandNo t y d n) (d ≤ 6)
+    pub dead-expand : (d n : ℕ) → ByFour (expandNo t y d n) (d ≤ deepestCube)
     unfolding expandNo
     dead-expand d n =
         let f = expand-four d n in
-        (f .0, f .1, (λ i. rw (sized-fits t sized, le-leb d 6 i, not-there)))
+        (f .0, f .1, (λ i. rw (sized-fits t sized, le-leb d deepestCube i, not-there)))
 
     pub dead-edit : (d : ℕ) (p : IVec3) (v : ℕ) → ByFour (editNo t y d p v) (Inside d p)
     dead-edit d p v = rw (edit-looks d p v) (dead-look d p)
@@ -84,14 +86,10 @@ module _ (t : Tables) (y : ℕ) (some : y ≢ 0) (dead : Lives t y → ⊥) wher
     unfolding expandOf
     expanded-no d l = rw (ne-eqb (expandNo t y d (length l)) 0 (λ e. let f = expand-four d (length l) .0 in omega arith))
 
-    edited-no : (d : ℕ) (p : IVec3) (v : ℕ) → editOf t y d p v .no ≡ editNo t y d p v
-    unfolding editOf
-    edited-no d p v = rw (ne-eqb (editNo t y d p v) 0 (λ e. let f = dead-edit d p v .0 in omega arith))
-
     -- An id that is neither EMPTY nor live is refused by every call that is handed it.
     pub dead-refused : Refused t y
     dead-refused =
-        let r = refusals.dead-refused 8 6 t y sized some dead in
+        let r = refusals.dead-refused cubeKids deepest t y sized some dead in
         record {
           hold = r .0;
           release = r .1;
@@ -99,5 +97,5 @@ module _ (t : Tables) (y : ℕ) (some : y ≢ 0) (dead : Lives t y → ⊥) wher
           child = r .3;
           lookup = λ d p. rw (looked-no d p) (dead-look d p);
           expansion = λ d l. rw (expanded-no d l) (dead-expand d (length l));
-          edit = λ d p v. rw (edited-no d p v) (dead-edit d p v);
+          edit = λ d p v. rw (edit-number t y d p v) (dead-edit d p v);
         }

@@ -4,6 +4,7 @@ use mathlib.Core.Logic.{inr}
 use mathlib.Core.List.{List, _∷_}
 use Prim.Native.Nat.{ℕ, zero, suc, _%_, _^_, _≤_, _<_}
 use native.Mathlib.Omega.{arith}
+use Rattle.basics.specs.Limits.{deepest, cubeKids}
 use Rattle.nodes.specs.Values.{valueAt, heightAt, maxTo}
 use Rattle.paths.specs.Paths.{octant}
 use Rattle.paths.proofs.Bits.{bit-mod}
@@ -18,11 +19,11 @@ use Rattle.read_cell.proofs.Meaning.{wf-made}
 use Rattle.promises.specs.Promises.{Cube, inOctant, joined}
 use Rattle.promises.proofs.Shows.{Shows}
 
-pub solid-shows : (d : ℕ) (t : Tables) (a : ℕ) → WellFormed 8 6 t → Lives t a → Leaf a → Shows d t a (λ s. valueAt (W t) a)
+pub solid-shows : (d : ℕ) (t : Tables) (a : ℕ) → WellFormed cubeKids deepest t → Lives t a → Leaf a → Shows d t a (λ s. valueAt (W t) a)
 solid-shows d t a w l f = record {
   well = w;
   there = inr l;
-  low = (let e = flat-low 8 (cap t) (W t) (wf-made 8 6 t (omega arith) w) a (inr l) (inr f) in omega arith);
+  low = (let e = flat-low cubeKids (cap t) (W t) (wf-made cubeKids deepest t (omega arith) w) a (inr l) (inr f) in omega arith);
   cells = λ c. look-flat (W t) (way c) a (inr f);
 }
 
@@ -41,11 +42,11 @@ unfolding pathBy
 path-first d x y z =
     ap (λ (l : List ℕ). octant d x y z ∷ l) (path-cong (λ b. octant b x y z) (λ b. octant b (x % 2 ^ d) (y % 2 ^ d) (z % 2 ^ d)) d (octant-low d x y z))
 
-octant-lt : (d x y z : ℕ) → octant d x y z < 8
+octant-lt : (d x y z : ℕ) → octant d x y z < cubeKids
 unfolding octant
 octant-lt d x y z = omega arith
 
-pub octants-show : (d : ℕ) (t : Tables) (a : ℕ) → Lives t a → Branch a → (F : ℕ → Cube d) → ((i : ℕ) → i < 8 → Shows d t (childOf (W t) a i) (F i))
+pub octants-show : (d : ℕ) (t : Tables) (a : ℕ) → Lives t a → Branch a → (F : ℕ → Cube d) → ((i : ℕ) → i < cubeKids → Shows d t (childOf (W t) a i) (F i))
     → Shows (suc d) t a (joined F)
 octants-show d t a l b F s =
     let w = s 0 (omega arith) .well in
@@ -53,8 +54,8 @@ octants-show d t a l b F s =
       well = w;
       there = inr l;
       low =
-          (let e = wf-made 8 6 t (omega arith) w .branches a l b .tall in
-          let m = max-under 8 (λ i. heightAt (W t) (childOf (W t) a i)) d (λ i h. s i h .low) in
+          (let e = wf-made cubeKids deepest t (omega arith) w .branches a l b .tall in
+          let m = max-under cubeKids (λ i. heightAt (W t) (childOf (W t) a i)) d (λ i h. s i h .low) in
           omega arith);
       cells = λ c.
           let o = octant d (c .x) (c .y) (c .z) in

@@ -4,26 +4,27 @@ use mathlib.Core.List.{List}
 use Prim.Native.Nat.{ℕ, _^_, _≤_}
 use native.Mathlib.Omega.{arith}
 use lib.ListN.{length, set, length-set}
+use Rattle.basics.specs.Limits.{deepest, cubeKids, largestValue}
 use Rattle.tree.specs.Tree.{LiveOr0, Root, look}
 use Rattle.tree.specs.Demand.{At, way, Apart, TwoChanged}
 use Rattle.tree.proofs.Demand.{demand-3}
 use Rattle.arena.specs.Tables.{Tables, cap, W, WellFormed}
-use Rattle.read_cell.specs.Calls.{looked, expandOf}
+use Rattle.read_cell.specs.Calls.{expandOf}
 use Rattle.read_cell.proofs.Meaning.{wf-made}
 use Rattle.calls.specs.Cells.{spot, standsAt}
 use Rattle.edit.specs.Edit.{editNo}
 use Rattle.edit.specs.Promises.{then, gives}
 use Rattle.promises.specs.Promises.{Unreleased, BothOrders}
 use Rattle.edit.proofs.Edits.{edit-right}
-use Rattle.calls.proofs.Expanding.{look-at, way-one, stands-apart, one-set, expand-at, expand-list}
+use Rattle.calls.proofs.Expanding.{look-at, answers-as, answers-alike, way-one, stands-apart, one-set, expand-at, expand-list}
 use Rattle.edit.proofs.Theorems.{cell-edited}
 use Rattle.promises.proofs.Between.{unreleased-keeps-all, all-kept-later}
 
 -- In a well-formed arena take EMPTY or a live tidy root no taller than the depth, two different cells and a value for each. Make both edits from that root in
 -- one order, then from the same root in the other, all four accepted; between them come any calls that release nothing: t₁ to t₄ are what the four edits
 -- leave, u₁ to u₃ what the calls after the first three leave. Both end in the same id, whose cube is the old one with those two cells changed.
-module _ {d : ℕ} (t₀ : Tables) (w : WellFormed 8 6 t₀) (deep-enough : d ≤ 6) (root : ℕ) (tidy : Root 8 (cap t₀) d (W t₀) root) (p q : At d) (apart : Apart p q)
-    (i j : ℕ) (hi : i ≤ 65535) (hj : j ≤ 65535) (u₁ u₂ u₃ : Tables) where
+module _ {d : ℕ} (t₀ : Tables) (w : WellFormed cubeKids deepest t₀) (deep-enough : d ≤ deepest) (root : ℕ) (tidy : Root cubeKids (cap t₀) d (W t₀) root) (p q : At d) (apart : Apart p q)
+    (i j : ℕ) (hi : i ≤ largestValue) (hj : j ≤ largestValue) (u₁ u₂ u₃ : Tables) where
   abbrev pub t₁ : Tables
   t₁ = then t₀ root p i
 
@@ -71,19 +72,19 @@ module _ {d : ℕ} (t₀ : Tables) (w : WellFormed 8 6 t₀) (deep-enough : d �
       let e₃ = cell-edited (cap t₀) u₂ (k₂ .well) y₂ root q j hj ok₃ in
       let e₄ = cell-edited (cap t₀) u₃ (k₃ .well) y₃ r₃ p i hi ok₄ in
       let b : TwoChanged d (W t₀) root p i q j (W t₄) r₂ r₄ =
-      demand-3 p q (wf-made 8 6 t₀ (omega arith) w) tidy apart e₁ (all-kept-later (cap t₀) z₁ k₁) e₂ (all-kept-later (cap t₀) z₂ k₂) e₃ (all-kept-later (cap t₀) z₃ k₃) e₄ in
+      demand-3 p q (wf-made cubeKids deepest t₀ (omega arith) w) tidy apart e₁ (all-kept-later (cap t₀) z₁ k₁) e₂ (all-kept-later (cap t₀) z₂ k₂) e₃ (all-kept-later (cap t₀) z₃ k₃) e₄ in
       let there : LiveOr0 (cap t₄) (W t₄) r₄ = subst (λ (k : ℕ). LiveOr0 k (W t₄) r₄) (sym z₄) (e₄ .there) in
       record {
         one = b .one;
-        at-p = look-at t₄ (s₄ .well) deep-enough r₄ there p ∙ ap (looked 0) (b .at-p);
-        at-q = look-at t₄ (s₄ .well) deep-enough r₄ there q ∙ ap (looked 0) (b .at-q);
-        elsewhere = λ s a c. look-at t₄ (s₄ .well) deep-enough r₄ there s ∙ ap (looked 0) (b .elsewhere s a c) ∙ sym (look-at t₀ w deep-enough root (tidy .there) s);
-        cube = λ l m el em.
-            let x = expand-at t₀ w deep-enough root (tidy .there) m em in
+        at-p = answers-as (look-at t₄ (s₄ .well) deep-enough r₄ there p) (b .at-p);
+        at-q = answers-as (look-at t₄ (s₄ .well) deep-enough r₄ there q) (b .at-q);
+        elsewhere = λ s a c. answers-alike (look-at t₄ (s₄ .well) deep-enough r₄ there s) (look-at t₀ w deep-enough root (tidy .there) s) (b .elsewhere s a c);
+        cube = λ g l m el em.
+            let x = expand-at t₀ w g root (tidy .there) m em in
             let old = expandOf t₀ root d m .cube in
             let one = set old (standsAt p) i in
             let k : length one ≡ 8 ^ d = length-set old (standsAt p) i ∙ x .size in
-            expand-list t₄ (s₄ .well) deep-enough r₄ there l el (set one (standsAt q) j) (length-set one (standsAt q) j ∙ k)
+            expand-list t₄ (s₄ .well) g r₄ there l el (set one (standsAt q) j) (length-set one (standsAt q) j ∙ k)
             (λ s.
             one-set q j one k s (look (W t₄) (way s) r₄) (λ z. ap (λ (y : List ℕ). look (W t₄) y r₄) (way-one s q z) ∙ b .at-q)
             (λ n. sym

@@ -8,6 +8,7 @@ use native.Mathlib.Omega.{arith}
 use lib.ListN.{length, getD}
 use lib.Seq.{ext-getD}
 use borrow.Author.Tests.{ne-eqb}
+use Rattle.basics.specs.Limits.{deepest, cubeKids, kidWords, largestValue}
 use Rattle.basics.specs.Sums.{sumTo}
 use Rattle.nodes.specs.Values.{valueAt, heightAt}
 use Rattle.nodes.specs.Words.{Words, height, slot}
@@ -30,8 +31,8 @@ use Rattle.promises.specs.Promises.{Cube, There, joined, Stands, solid, 
 use Rattle.promises.proofs.Calls.{call-does}
 use Rattle.promises.proofs.Cubes.{stands-well}
 
-m8 : 8 ≤ 8
-m8 = omega arith
+fit : cubeKids ≤ kidWords
+fit = omega arith
 
 -- ## Which roots are there
 
@@ -39,8 +40,8 @@ m8 = omega arith
 pub held-is-there : (t : Tables) (a : ℕ) → Held t a → There t a
 held-is-there = held-there
 
-pub below-is-there : (t : Tables) → WellFormed 8 6 t → (a b : ℕ) → There t a → Below 8 (W t) a b → There t b
-below-is-there t w a b l u = below-live (wf-made 8 6 t m8 w) l u
+pub below-is-there : (t : Tables) → WellFormed cubeKids deepest t → (a b : ℕ) → There t a → Below cubeKids (W t) a b → There t b
+below-is-there t w a b l u = below-live (wf-made cubeKids deepest t fit w) l u
 
 -- ## Each of them stands for a cube
 
@@ -48,7 +49,7 @@ treeCube : Words → (d : ℕ) → ℕ → Cube d
 treeCube U zero a = λ s. valueAt U a
 treeCube U (suc d) a = elim (kind a) [ empty _ ↦ λ s. valueAt U a | leaf _ ↦ λ s. valueAt U a | branch _ ↦ joined (λ i. treeCube U d (childOf U a i)) ]
 
-module _ (t : Tables) (w : WellFormed 8 6 t) where
+module _ (t : Tables) (w : WellFormed cubeKids deepest t) where
   flat-stands : (d a : ℕ) → There t a → Flat a → Stands d t a (λ s. valueAt (W t) a)
   flat-stands d a l (inl e) =
       subst (λ (b : ℕ). Stands d t b (λ s. valueAt (W t) b)) (sym e)
@@ -64,14 +65,14 @@ module _ (t : Tables) (w : WellFormed 8 6 t) where
       go (empty e) = flat-stands (suc d) a l (inl e)
       go (leaf f) = flat-stands (suc d) a l (inr f)
       go (branch b) =
-          let m = wf-made 8 6 t m8 w in
+          let m = wf-made cubeKids deepest t fit w in
           let v : Lives t a = live l (b .0) in
           octants v b (λ i. treeCube (W t) d (childOf (W t) a i))
-          (λ i k. ih (childOf (W t) a i) (m .branches a v b .kids i k) (omega (arith, kid-lower 8 (cap t) (W t) m a i v b k)))
+          (λ i k. ih (childOf (W t) a i) (m .branches a v b .kids i k) (omega (arith, kid-lower cubeKids (cap t) (W t) m a i v b k)))
 
   tree-stands : (d a : ℕ) → There t a → heightAt (W t) a ≤ d → Stands d t a (treeCube (W t) d a)
   unfolding treeCube
-  tree-stands zero a l h = flat-stands 0 a l (low-flat 8 (cap t) (W t) (wf-made 8 6 t m8 w) a l (omega arith))
+  tree-stands zero a l h = flat-stands 0 a l (low-flat cubeKids (cap t) (W t) (wf-made cubeKids deepest t fit w) a l (omega arith))
   tree-stands (suc d) a l h = step d a l h (λ b k g. tree-stands d b k g)
 
   -- Every root that is there stands for a cube, at every depth no less than its height.
@@ -80,16 +81,16 @@ module _ (t : Tables) (w : WellFormed 8 6 t) where
 
 -- ## A node of known children
 
-empties-length : length empties ≡ 8
+empties-length : length empties ≡ kidWords
 unfolding empties
 empties-length = refl
 
 -- eight EMPTY have the value 0
-none-value : (U : Words) → valueFor 8 U empties ≡ 0
+none-value : (U : Words) → valueFor cubeKids U empties ≡ 0
 unfolding valueFor empties sumTo valueAt
 none-value U = refl
 
-module _ (u : Tables) (w : WellFormed 8 6 u) (id v : ℕ) (ks : List ℕ) (k : Has u id ks v) where
+module _ (u : Tables) (w : WellFormed cubeKids deepest u) (id v : ℕ) (ks : List ℕ) (k : Has u id ks v) where
   pub value-is : valueAt (W u) id ≡ v
   unfolding valueAt
   value-is = rw (ne-eqb id 0 (live-nonzero (k .live))) (k .worth)
@@ -98,7 +99,7 @@ module _ (u : Tables) (w : WellFormed 8 6 u) (id v : ℕ) (ks : List ℕ) (k : H
   unfolding heightAt
   height-is = rw (ne-eqb id 0 (live-nonzero (k .live)))
 
-  pub kid-is : (i : ℕ) → i < 8 → childOf (W u) id i ≡ getD ks i 0
+  pub kid-is : (i : ℕ) → i < cubeKids → childOf (W u) id i ≡ getD ks i 0
   kid-is i h = kid-word (W u) (slot id) i h ∙ ap (λ (l : List ℕ). getD l i 0) (k .kids)
 
   pub flat-is : ks ≡ empties → Flat id
@@ -108,22 +109,22 @@ module _ (u : Tables) (w : WellFormed 8 6 u) (id v : ℕ) (ks : List ℕ) (k : H
       go (empty z) = inl z
       go (leaf l) = inr l
       go (branch b) =
-          absurd (wf-made 8 6 u m8 w .branches id (k .live) b .notAllEmpty (λ i h. kid-is i h ∙ ap (λ (l : List ℕ). getD l i 0) e ∙ empties-at i h))
+          absurd (wf-made cubeKids deepest u fit w .branches id (k .live) b .notAllEmpty (λ i h. kid-is i h ∙ ap (λ (l : List ℕ). getD l i 0) e ∙ empties-at i h))
 
-  pub branch-is : length ks ≡ 8 → (U : Words) → v ≡ valueFor 8 U ks → Branch id
+  pub branch-is : length ks ≡ kidWords → (U : Words) → v ≡ valueFor cubeKids U ks → Branch id
   branch-is e U q = go (kind id)
     where
       bare : LeafNode (W u) (slot id) → ks ≡ empties
       bare n = ext-getD 0 ks empties (e ∙ sym empties-length) (λ i h.
-          let j : i < 8 = subst (λ (m : ℕ). i < m) e h in
+          let j : i < cubeKids = subst (λ (m : ℕ). i < m) e h in
           sym (kid-is i j) ∙ n .bare i j ∙ sym (empties-at i j))
 
       flat : Leaf id → Branch id
       flat l =
-          let z = wf-made 8 6 u m8 w .leaves id (k .live) l .flat in
+          let z = wf-made cubeKids deepest u fit w .leaves id (k .live) l .flat in
           let x = height-is in
           ⊎-elim
-          (λ n. absurd (omega (arith, n .some, k .worth, q, ap (valueFor 8 U) (bare n), none-value U)))
+          (λ n. absurd (omega (arith, n .some, k .worth, q, ap (valueFor cubeKids U) (bare n), none-value U)))
           (λ n. absurd (omega (arith, n .tall)))
           (w .nodes (slot id) (lives-slot u id (k .live)) .kind)
 
@@ -135,27 +136,27 @@ module _ (u : Tables) (w : WellFormed 8 6 u) (id v : ℕ) (ks : List ℕ) (k : H
 -- ## What interning answers
 
 -- A leaf stands for its value throughout, at every depth.
-pub leaf-stands : (d : ℕ) (t : Tables) → WellFormed 8 6 t → (v : ℕ) → v ≤ 65535 → internLeafOf t v .no ≡ 0
+pub leaf-stands : (d : ℕ) (t : Tables) → WellFormed cubeKids deepest t → (v : ℕ) → v ≤ largestValue → internLeafOf t v .no ≡ 0
     → Stands d (internLeafOf t v .after) (internLeafOf t v .id) (λ s. v)
 leaf-stands d t w v h ok =
     let u = internLeafOf t v .after in
     let id = internLeafOf t v .id in
-    let k = leaf-interned 8 6 t m8 w v ok .has in
-    let x = leaf-well 8 6 t v m8 h w in
+    let k = leaf-interned cubeKids deepest t fit w v ok .has in
+    let x = leaf-well cubeKids deepest t v fit h w in
     subst (λ (y : ℕ). Stands d u id (λ s. y)) (value-is u x id v empties k) (flat-stands u x d id (inr (k .live)) (flat-is u x id v empties k refl))
 
 -- A branch of children that stand for cubes stands for these as octants.
-pub branch-stands : {d : ℕ} {t : Tables} (ks : List ℕ) (F : ℕ → Cube d) → length ks ≡ 8 → ((i : ℕ) → i < 8 → Stands d t (getD ks i 0) (F i))
-    → internBranchOf 8 6 t ks .no ≡ 0 → Stands (suc d) (internBranchOf 8 6 t ks .after) (internBranchOf 8 6 t ks .id) (joined F)
+pub branch-stands : {d : ℕ} {t : Tables} (ks : List ℕ) (F : ℕ → Cube d) → length ks ≡ kidWords → ((i : ℕ) → i < cubeKids → Stands d t (getD ks i 0) (F i))
+    → internBranchOf cubeKids deepest t ks .no ≡ 0 → Stands (suc d) (internBranchOf cubeKids deepest t ks .after) (internBranchOf cubeKids deepest t ks .id) (joined F)
 branch-stands {d} {t} ks F e s ok =
-    let u = internBranchOf 8 6 t ks .after in
-    let id = internBranchOf 8 6 t ks .id in
+    let u = internBranchOf cubeKids deepest t ks .after in
+    let id = internBranchOf cubeKids deepest t ks .id in
     let w = stands-well (s 0 (omega arith)) in
     let x = call-does t w (branchCall ks) e .well in
-    let k = branch-interned 8 6 t m8 w ks e ok .has in
+    let k = branch-interned cubeKids deepest t fit w ks e ok .has in
     let b = branch-is u x id _ ks k e (W t) refl in
     octants (k .live) b F
     (λ i h.
     let q : childOf (W u) id i ≡ getD ks i 0 = kid-is u x id _ ks k i h in
-    let l : There u (getD ks i 0) = subst (λ (y : ℕ). There u y) q (wf-made 8 6 u m8 x .branches id (k .live) b .kids i h) in
+    let l : There u (getD ks i 0) = subst (λ (y : ℕ). There u y) q (wf-made cubeKids deepest u fit x .branches id (k .live) b .kids i h) in
     subst (λ (y : ℕ). Stands d u y (F i)) (sym q) (other (branchCall ks) e l (s i h)))

@@ -11,6 +11,7 @@ use native.Mathlib.Omega.{arith}
 use lib.Dec.{eqb}
 use lib.Pow.{pow-pos, pow-add}
 use borrow.Author.Tests.{eq-eqb, eqb-true}
+use Rattle.basics.specs.Limits.{deepest, cubeKids, kidWords, largestValue}
 use Rattle.nodes.specs.Values.{heightAt}
 use Rattle.basics.specs.Pick.{pick}
 use Rattle.nodes.proofs.Sums.{split, cases}
@@ -35,12 +36,12 @@ use Rattle.edit.proofs.Edits.{edit-right}
 use Rattle.promises.specs.Promises.{Cube, sameCell, changed, onto, scaled, Within, There}
 
 pub record Shows (d : ℕ) (t : Tables) (a : ℕ) (F : Cube d) : Type 0 where
-  pub well : WellFormed 8 6 t
+  pub well : WellFormed cubeKids deepest t
   pub there : LiveOr0 (cap t) (W t) a
   pub low : heightAt (W t) a ≤ d
   pub cells : (c : At d) → look (W t) (way c) a ≡ F c
 
-pub empty-shows : (d : ℕ) (t : Tables) → WellFormed 8 6 t → Shows d t 0 (λ c. 0)
+pub empty-shows : (d : ℕ) (t : Tables) → WellFormed cubeKids deepest t → Shows d t 0 (λ c. 0)
 empty-shows d t w = record {
   well = w;
   there = inl refl;
@@ -77,7 +78,7 @@ pub changed-elsewhere : {d : ℕ} (F : Cube d) (c : At d) (v : ℕ) (s : At d) �
 unfolding changed
 changed-elsewhere F c v s n = split (sameCell s c) (λ q. absurd (n (same-spot s c q))) (λ q. rw q)
 
-pub edit-shows : (d : ℕ) (t : Tables) (a : ℕ) (F : Cube d) (c : At d) (v : ℕ) → v ≤ 65535 → editNo t a d (spot c) v ≡ 0 → Shows d t a F
+pub edit-shows : (d : ℕ) (t : Tables) (a : ℕ) (F : Cube d) (c : At d) (v : ℕ) → v ≤ largestValue → editNo t a d (spot c) v ≡ 0 → Shows d t a F
     → Shows d (then t a c v) (gives t a c v) (changed F c v)
 unfolding changed whole
 edit-shows d t a F c v h ok s =
@@ -92,13 +93,13 @@ edit-shows d t a F c v h ok s =
           (λ q. rw q (e .others (way i) (cube-cell d (i .x) (i .y) (i .z)) (same-no i c q) ∙ s .cells i));
     }
 
-pub kept-shows : (d : ℕ) (t u : Tables) (a : ℕ) (F : Cube d) → Kept 8 6 t u a → Shows d t a F → Shows d u a F
+pub kept-shows : (d : ℕ) (t u : Tables) (a : ℕ) (F : Cube d) → Kept cubeKids deepest t u a → Shows d t a F → Shows d u a F
 kept-shows d t u a F k s =
     record {
       well = k .well;
-      there = kept-there t u a (s .well) (s .there) k;
-      low = rw (height-later 8 (cap t) (W t) (W u) (wf-made 8 6 t (omega arith) (s .well)) a (s .there) (k .keeps)) at (s .low);
-      cells = λ c. kept-look t u a (s .well) (s .there) k c ∙ s .cells c;
+      there = kept-there (omega arith) (s .well) (s .there) k;
+      low = rw (height-later cubeKids (cap t) (W t) (W u) (wf-made cubeKids deepest t (omega arith) (s .well)) a (s .there) (k .keeps)) at (s .low);
+      cells = λ c. kept-look (s .well) (s .there) k c ∙ s .cells c;
     }
 
 -- ## At another depth
@@ -116,7 +117,7 @@ onto-first e k x =
     let q : x * (2 ^ e * 2 ^ k) ≡ x * 2 ^ k * 2 ^ e = omega arith in
     ap (λ (i : ℕ). i / 2 ^ e) (ap (λ (i : ℕ). x * i) (pow-add 2 e k) ∙ q) ∙ mul-div-cancel (x * 2 ^ k) (pow-pos e)
 
-module _ (t : Tables) (w : WellFormed 8 6 t) (a : ℕ) (l : There t a) where
+module _ (t : Tables) (w : WellFormed cubeKids deepest t) (a : ℕ) (l : There t a) where
   shown : ℕ → ℕ → ℕ → ℕ → ℕ
   shown d x y z = look (W t) (cubePath d x y z) a
 
@@ -127,9 +128,9 @@ module _ (t : Tables) (w : WellFormed 8 6 t) (a : ℕ) (l : There t a) where
   shown-deeper : (d k x y z : ℕ) → heightAt (W t) a ≤ d → shown (d + k) x y z ≡ shown d (x / 2 ^ k) (y / 2 ^ k) (z / 2 ^ k)
   unfolding shown
   shown-deeper d k x y z h =
-      let s = well-small 8 6 t w in
+      let s = well-small cubeKids deepest t w in
       sym (cell-whole (W t) s (d + k) a x y z)
-      ∙ plain-deeper (cap t) (W t) (wf-made 8 6 t (omega arith) w) d k a x y z l h
+      ∙ plain-deeper (cap t) (W t) (wf-made cubeKids deepest t (omega arith) w) d k a x y z l h
       ∙ cell-whole (W t) s d a (x / 2 ^ k) (y / 2 ^ k) (z / 2 ^ k)
 
   shown-up : (d k x y z : ℕ) → heightAt (W t) a ≤ d
@@ -165,7 +166,7 @@ scale-shows d t a F e i s = record {
 }
 
 -- the cells of a block show its number
-pub block-shown : {d : ℕ} (k : ℕ) (c : At (d + k)) (b : At d) → Within k c b → {t : Tables} (w : WellFormed 8 6 t) {a : ℕ} (l : There t a)
+pub block-shown : {d : ℕ} (k : ℕ) (c : At (d + k)) (b : At d) → Within k c b → {t : Tables} (w : WellFormed cubeKids deepest t) {a : ℕ} (l : There t a)
     → heightAt (W t) a ≤ d → look (W t) (way c) a ≡ look (W t) (way b) a
 unfolding shown
 block-shown {d} k c b m {t} w {a} l h = shown-deeper t w a l d k (c .x) (c .y) (c .z) h ∙ shown-as t w a l d (m .0) (m .1) (m .2)

@@ -21,14 +21,14 @@ use Rattle.arena.specs.Tables.{Tables, cap, W, WellFormed}
 use Rattle.arena.specs.Calls.{Out, internLeafOf, internBranchOf, holdOf, releaseOf, countsOf}
 use Rattle.ledger.specs.Ledger.{on, ifAccepted}
 use Rattle.ledger.specs.Fates.{Lives, ended}
-use Rattle.calls.specs.Cells.{spot, standsAt}
-use Rattle.read_cell.specs.Calls.{looked, lookOf, expandOf}
+use Rattle.calls.specs.Cells.{spot, standsAt, Answers, Alike}
+use Rattle.read_cell.specs.Calls.{lookOf, expandOf}
 use Rattle.edit.specs.Edit.{editNo, editOf}
 use Rattle.edit.specs.Promises.{then, gives}
 
 -- ## Calls
 
--- The calls that change an arena. Intern a leaf of a value, intern a branch of eight ids, hold an id, release an id, and edit a root at a depth: at a
+-- The calls that change an arena. Intern a leaf of a value, intern a branch of its children's ids, hold an id, release an id, and edit a root at a depth: at a
 -- position, to a value.
 pub data Call : Type 0 where
   leaf : ℕ → Call
@@ -37,7 +37,7 @@ pub data Call : Type 0 where
   release : ℕ → Call
   voxel : ℕ → ℕ → IVec3 → ℕ → Call
 
--- what can be handed to a call: a 16-bit value, eight ids
+-- what can be handed to a call: a 16-bit value, the ids of the children
 abbrev pub Handed : Call → Type 0
 Handed (leaf v) = v ≤ largestValue
 Handed (branch ks) = length ks ≡ cubeKids
@@ -93,10 +93,10 @@ pub data Unreleased : Tables → Tables → Type 0 where
 -- Both ends are the same id, whose cube is the old one with those two cells changed, as lookup answers and as expansion writes (into lent lists l and m).
 pub record BothOrders (d : ℕ) (t₀ : Tables) (root : ℕ) (p : At d) (i : ℕ) (q : At d) (j : ℕ) (t₄ : Tables) (r₂ r₄ : ℕ) : Type 0 where
   pub one : r₂ ≡ r₄
-  pub at-p : lookOf t₄ r₄ d (spot p) ≡ looked 0 i
-  pub at-q : lookOf t₄ r₄ d (spot q) ≡ looked 0 j
-  pub elsewhere : (s : At d) → Apart s p → Apart s q → lookOf t₄ r₄ d (spot s) ≡ lookOf t₀ root d (spot s)
-  pub cube : (l m : List ℕ) → length l ≡ 8 ^ d → length m ≡ 8 ^ d
+  pub at-p : Answers t₄ r₄ p i
+  pub at-q : Answers t₄ r₄ q j
+  pub elsewhere : (s : At d) → Apart s p → Apart s q → Alike t₄ r₄ t₀ root s
+  pub cube : d ≤ deepestCube → (l m : List ℕ) → length l ≡ 8 ^ d → length m ≡ 8 ^ d
       → expandOf t₄ r₄ d l .cube ≡ set (set (expandOf t₀ root d m .cube) (standsAt p) i) (standsAt q) j
 
 -- ## Plain cubes of numbers

@@ -5,6 +5,7 @@ use mathlib.Core.Bool.{Bool, true, false}
 use mathlib.Core.List.{List}
 use Prim.Native.Nat.{ℕ}
 use native.Mathlib.Omega.{arith}
+use Rattle.basics.specs.Limits.{deepest, cubeKids}
 use Rattle.ids.specs.declared.BlockId.{BlockId}
 use Rattle.arena.specs.declared.Answer.{Answer}
 use Rattle.arena.specs.declared.Counted.{Counted}
@@ -72,9 +73,9 @@ pub determined : (q : Asked) → Speaks q → (a b : Said q) → Meets q a → M
 determined (fresh c k f e) s = answered-one
 determined (hold t c) s = held-one (t .nodes .kids) (t .find)
 determined (counts t c) s = counted-one
-determined (leaf t v) s = λ a b p q. made-one a b (p 8 6 (omega arith) s) (q 8 6 (omega arith) s)
+determined (leaf t v) s = λ a b p q. made-one a b (p cubeKids deepest (omega arith) s) (q cubeKids deepest (omega arith) s)
 determined (branch t ks) s = λ a b p q. made-one a b (p s) (q s)
-determined (release t c) s = λ a b p q. answered-one a b (p 8 6 (omega arith) (omega arith) s) (q 8 6 (omega arith) (omega arith) s)
+determined (release t c) s = λ a b p q. answered-one a b (p cubeKids deepest (omega arith) (omega arith) s) (q cubeKids deepest (omega arith) (omega arith) s)
 determined (look t c d p) s = same
 determined (expand t c d l) s = expanded-one
 determined (edit t c d p v) s = λ a b p q. made-one a b (p s) (q s)

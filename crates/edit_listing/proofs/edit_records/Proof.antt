@@ -3,6 +3,7 @@ use mathlib.Core.Path.{_≡_}
 use Prim.Native.Nat.{_*_, _-_, _^_, _≤_, _<_}
 use native.Mathlib.Omega.{arith}
 use lib.ListN.{length}
+use Rattle.basics.specs.Limits.{deepest, cubeKids}
 use Rattle.arena.specs.Tables.{tables}
 use Rattle.arena.specs.Calls.{Fair}
 use Rattle.edit_listing.specs.Listing.{stateOf, takenOf}
@@ -15,8 +16,8 @@ abbrev Inv-loop : tie.InvT-loop
 Inv-loop kids₀ facts₀ find₀ bytes out₀ most now₀ i₀ len₀ kids facts find out now i len =
     (i ≤ most) × (len ≤ 84 * i) × (most ≡ takenOf (length bytes) (length out₀)) × (length out₀ < 2 ^ 64)
     × (length kids ≡ length kids₀) × (length facts ≡ length facts₀) × (length find ≡ length find₀) × (length out ≡ length out₀)
-    × (Fair 8 6 (tables (now₀ .arena) kids₀ facts₀ find₀)
-    → Fair 8 6 (tables (now .arena) kids facts find)
+    × (Fair cubeKids deepest (tables (now₀ .arena) kids₀ facts₀ find₀)
+    → Fair cubeKids deepest (tables (now .arena) kids facts find)
     × (kept (stateOf now kids facts find) len out ≡ keptAt (stateOf now₀ kids₀ facts₀ find₀) bytes out₀ i))
 
 abbrev μ-loop : tie.MeasureT-loop
