@@ -20,13 +20,12 @@ use Rattle.arena.specs.Tables.{Tables, cap, W, LiveSlot, Sized, WellFormed}
 use Rattle.check_arena.proofs.Slots.{GoodSlot}
 use Rattle.check_freed.proofs.Searching.{alike, alike-self, alike-words, seat, seat-probe, Seated, seated-reach}
 
-pub record Checked (n tallest : ℕ) (t : Tables) : Type 0 where
+-- all but the tally
+pub record Sound (n tallest : ℕ) (t : Tables) : Type 0 where
   pub sized : Sized t
   pub some : 1 ≤ t .arena .next
   pub fits : t .arena .next ≤ cap t
   pub slots : (s : ℕ) → s < cap t → GoodSlot n tallest (cap t) (t .arena .next) (W t) s
-  -- counted in one pass over all child places
-  pub tallied : (s : ℕ) → s < cap t → floor ≤ W t s own → W t s places ≡ tally 8 (cap t) (W t) (W t s own)
   pub lives : t .arena .live ≡ liveCount (cap t) (W t)
   -- the chain of the freed: as many steps as there are slots given out and not live, then 0
   pub room : t .arena .live < t .arena .next
@@ -34,6 +33,10 @@ pub record Checked (n tallest : ℕ) (t : Tables) : Type 0 where
   -- the finding table: each cell where the search for its slot ends, each live slot found by its content
   pub seated : Seated (t .find) (cap t) (W t)
   pub found : (s : ℕ) → s < cap t → floor ≤ W t s own → cell (t .find) (seat (t .find) (cap t) (W t) s) ≡ s
+
+-- the tally, counted in one pass over all child places
+abbrev pub Tallied : Tables → Type 0
+Tallied t = (s : ℕ) → s < cap t → floor ≤ W t s own → W t s places ≡ tally 8 (cap t) (W t) (W t s own)
 
 -- ---- well formed tables pass
 
@@ -61,8 +64,8 @@ module _ (n tallest : ℕ) (t : Tables) (w : WellFormed n tallest t) where
       (λ z. absurd (let q : W t s own ≡ 0 = subst (λ (k : ℕ). W t k own ≡ 0) (sym z) (w .chain .ground) in omega (arith, floor-pos)))
       (λ z. omega arith)
 
-  pub well-checked : Checked n tallest t
-  well-checked = record {
+  pub well-sound : Sound n tallest t
+  well-sound = record {
     sized = w .sized;
     some = w .chain .some;
     fits = w .chain .fits;
@@ -75,7 +78,6 @@ module _ (n tallest : ℕ) (t : Tables) (w : WellFormed n tallest t) where
       spared = w .spared s l;
       gens = w .gens s l;
     };
-    tallied = λ s l h. w .tallied s (l, h);
     lives = w .lives;
     room = (let p = freed-length (w .chain) in let q = w .lives in omega arith);
     walk =
@@ -83,7 +85,7 @@ module _ (n tallest : ℕ) (t : Tables) (w : WellFormed n tallest t) where
         let q = w .lives in
         let e : length (w .freed) ≡ t .arena .next - 1 - t .arena .live = omega arith in
         subst (λ (k : ℕ). Walk (W t) (t .arena .next) k (t .arena .top)) e (freed-walk (w .chain));
-    seated = λ p a. let v = named-live p a in (v .0, v .1, well-seated (cell (t .find) p) p a v refl);
+    seated = λ p a. let v = named-live p a in (v, well-seated (cell (t .find) p) p a v refl);
     found = λ s l h.
         let a = live-pos s h in
         let m = w .finds .names s a .1 (l, h) in
@@ -96,7 +98,7 @@ kids-alike : (X : Words) (s b : ℕ) → ((i : ℕ) → i < 8 → X s i ≡ X b 
 unfolding kidsOf
 kids-alike X s b e = tabFrom-ext 8 0 (X s) (X b) (λ j p q. e j (omega arith))
 
-module _ (n tallest : ℕ) (t : Tables) (c : Checked n tallest t) where
+module _ (n tallest : ℕ) (t : Tables) (c : Sound n tallest t) (tallied : Tallied t) where
   ground : W t 0 own ≡ 0
   ground = c .slots 0 (let p = c .sized .least in omega arith) .blank (inl refl) .0
 
@@ -113,19 +115,19 @@ module _ (n tallest : ℕ) (t : Tables) (c : Checked n tallest t) where
   alike-same : (s b : ℕ) → ((i : ℕ) → i < 8 → W t s i ≡ W t b i) → W t s value ≡ W t b value → seat (t .find) (cap t) (W t) s ≡ seat (t .find) (cap t) (W t) b
   alike-same s b e f = ap₂ (λ (ks : List ℕ) (v : ℕ). cellOf (t .find) (cap t) (W t) ks v) (kids-alike (W t) s b e) f
 
-  pub checked-well : WellFormed n tallest t
-  checked-well = record {
+  pub sound-well : WellFormed n tallest t
+  sound-well = record {
     sized = c .sized;
     freed = trail (W t) (t .arena .next - 1 - t .arena .live) (t .arena .top);
     chain = walk-freed (t .arena .next - 1 - t .arena .live) (c .some) (c .fits) ground unused (c .walk) (let p = c .room in let q = c .lives in omega arith);
     nodes = λ s l. c .slots s (l .0) .node (l .1);
     distinct = λ s b l k e f. sym (c .found s (l .0) (l .1)) ∙ ap (cell (t .find)) (alike-same s b e f) ∙ c .found b (k .0) (k .1);
-    tallied = λ s l. c .tallied s (l .0) (l .1);
+    tallied = λ s l. tallied s (l .0) (l .1);
     used = λ s l. c .slots s (l .0) .used (l .1);
     finds = record {
       reach = seated-reach (t .find) (cap t) (W t) (c .seated);
       names = λ x a. (
-        (λ p. subst (λ (y : ℕ). LiveSlot t y) (p .1) (let r = c .seated (p .0) (let q = p .1 in omega arith) in (r .0, r .1))),
+        (λ p. subst (λ (y : ℕ). LiveSlot t y) (p .1) (c .seated (p .0) (let q = p .1 in omega arith) .0)),
         (λ l. (seat (t .find) (cap t) (W t) x, c .found x (l .0) (l .1))),
       );
     };

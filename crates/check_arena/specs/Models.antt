@@ -1,29 +1,22 @@
 -- What the functions here answer, of any tables: mirrors of the code. No reader has to believe them: the public contract of the arena check cites
--- `WellFormed`. `k`, `f` and `e` are the lists of the tables kids, facts and find, c is the capacity.
+-- `WellFormed`. `k`, `f` and `e` are the lists of the tables kids, facts and find, c is the capacity, ks are the children of slot s.
 use mathlib.Core.Bool.{Bool, true, false}
 use mathlib.Core.List.{List}
-use Prim.Native.Nat.{ℕ, _+_, _-_, _*_, _/_, _%_, _^_}
-use lib.Dec.{eqb, leb, ltb}
+use Prim.Native.Nat.{ℕ, _+_, _-_, _%_, _^_}
+use lib.Dec.{eqb, leb}
 use lib.ListN.{length}
-use Rattle.basics.specs.Limits.{kidWords, factWords, slotCells, leastSlots, mostSlots, largestValue, mostHolds, lastGeneration}
+use Rattle.basics.specs.Limits.{deepest, cubeKids, kidWords, largestValue, mostHolds, lastGeneration}
 use Rattle.basics.specs.Pick.{pick}
-use Rattle.basics.specs.Sums.{sumTo}
 use Rattle.ids.specs.Ids.{generationOf, newLeaf, newBranch}
-use Rattle.nodes.specs.Words.{own, value, height, holds, places, link, spare, kidOf, factOf, slot, floor}
+use Rattle.nodes.specs.Words.{own, value, height, holds, places, link, spare, kidOf, factOf, floor}
 use Rattle.nodes.specs.Tally.{kidsOf}
 use Rattle.arena.specs.declared.Arena.{Arena}
+use Rattle.arena.specs.Calls.{fitOf, noneOf, allLive}
+use Rattle.arena.specs.Models.{valueBy, topFor}
 use Rattle.arena.specs.Node.{kidMask, kidTypes}
-use Rattle.nodes.specs.Values.{maxTo}
-use Rattle.check_freed.specs.Models.{choose, allIn, isGiven, stateFine, findFine, countTo, agreeAt}
+use Rattle.check_freed.specs.Models.{allIn, isGiven, stateFine, findFine, countTo, agreeAt}
 
 -- ## A slot that is not live
-
-unfoldable pub kidEmpty : List ℕ → ℕ → ℕ → Bool
-kidEmpty k s i = eqb (kidOf k s i) 0
-
--- the children of slot s from i on are EMPTY
-unfoldable pub bareFrom : List ℕ → ℕ → ℕ → Bool
-bareFrom k s i = allIn i kidWords (kidEmpty k s)
 
 unfoldable pub factZero : List ℕ → ℕ → ℕ → Bool
 factZero f s g = eqb (factOf f s g) 0
@@ -33,89 +26,66 @@ unfoldable pub blankAt : List ℕ → ℕ → Bool
 blankAt f s = allIn value link (factZero f s)
 
 unfoldable pub deadFine : List ℕ → List ℕ → ℕ → Bool
-deadFine k f s = choose (eqb (factOf f s own % 2 ^ 32) 0) (choose (bareFrom k s 0) (blankAt f s) false) false
+deadFine k f s = pick (eqb (factOf f s own % 2 ^ 32) 0) (pick (noneOf (kidsOf kidWords (kidOf k) s)) (blankAt f s) false) false
 
 -- ## A live slot
 
--- the value and both counts of a live slot, and no link
+-- both counts, and no link
 unfoldable pub countsFine : List ℕ → ℕ → Bool
 countsFine f s =
-    choose (leb (factOf f s value) largestValue)
-    (choose (leb (factOf f s holds) mostHolds) (choose (leb 1 (factOf f s holds + factOf f s places)) (eqb (factOf f s link) 0) false) false) false
+    pick (leb (factOf f s holds) mostHolds) (pick (leb 1 (factOf f s holds + factOf f s places)) (eqb (factOf f s link) 0) false) false
 
 unfoldable pub leafNamed : List ℕ → ℕ → Bool
 leafNamed f s = eqb (factOf f s own) (newLeaf (s % 2 ^ 32) (generationOf (factOf f s own)))
 
-unfoldable pub leafFine : List ℕ → List ℕ → ℕ → Bool
-leafFine k f s =
-    choose (leafNamed f s)
-    (choose (eqb (factOf f s value) 0) false (choose (eqb (factOf f s height) 0) (bareFrom k s 0) false)) false
+unfoldable pub leafFine : List ℕ → ℕ → Bool
+leafFine f s = pick (leafNamed f s) (pick (eqb (factOf f s value) 0) false (eqb (factOf f s height) 0)) false
 
 unfoldable pub branchNamed : List ℕ → List ℕ → ℕ → Bool
-branchNamed k f s =
-    let ks = kidsOf kidWords (kidOf k) s in
-    eqb (factOf f s own) (newBranch (s % 2 ^ 32) (generationOf (factOf f s own)) (kidTypes ks) (kidMask ks))
+branchNamed f ks s = eqb (factOf f s own) (newBranch (s % 2 ^ 32) (generationOf (factOf f s own)) (kidTypes ks) (kidMask ks))
 
-unfoldable pub liveId : List ℕ → ℕ → ℕ → Bool
-liveId f c y = choose (ltb (slot y) c) (choose (leb floor y) (eqb (factOf f (slot y) own) y) false) false
+-- one more than `top`, at most the tallest allowed
+unfoldable pub tallAt : List ℕ → ℕ → ℕ → Bool
+tallAt f top s = pick (eqb (factOf f s height) 0) false (pick (leb (factOf f s height) deepest) (eqb (factOf f s height - 1) top) false)
 
--- EMPTY or live
-unfoldable pub kidFine : List ℕ → List ℕ → ℕ → ℕ → ℕ → Bool
-kidFine k f c s i = choose (eqb (kidOf k s i) 0) true (liveId f c (kidOf k s i))
+unfoldable pub branchFine : List ℕ → ℕ → List ℕ → ℕ → Bool
+branchFine f c ks s =
+    pick (branchNamed f ks s)
+    (pick (allLive c (factOf f) ks)
+    (pick (eqb (factOf f s value) (valueBy cubeKids (factOf f) ks)) (tallAt f (topFor (factOf f) ks cubeKids) s) false) false) false
 
--- the stored value and the height of child i, of EMPTY 0
-unfoldable pub kidValue : List ℕ → List ℕ → ℕ → ℕ → ℕ
-kidValue k f s i = pick (eqb (kidOf k s i) 0) 0 (factOf f (slot (kidOf k s i)) value % 65536)
+unfoldable pub kindFine : List ℕ → ℕ → List ℕ → ℕ → Bool
+kindFine f c ks s = pick (noneOf ks) (leafFine f s) (branchFine f c ks s)
 
-unfoldable pub kidHeight : List ℕ → List ℕ → ℕ → ℕ → ℕ
-kidHeight k f s i = pick (eqb (kidOf k s i) 0) 0 (factOf f (slot (kidOf k s i)) height)
-
-unfoldable pub averageAt : List ℕ → List ℕ → ℕ → ℕ → Bool
-averageAt k f n s = eqb (factOf f s value) (sumTo n (kidValue k f s) / n)
-
-unfoldable pub tallAt : List ℕ → List ℕ → ℕ → ℕ → ℕ → Bool
-tallAt k f n tallest s =
-    choose (eqb (factOf f s height) 0) false
-    (choose (leb (factOf f s height) tallest) (eqb (factOf f s height - 1) (maxTo n (kidHeight k f s))) false)
-
-unfoldable pub branchFine : List ℕ → List ℕ → ℕ → ℕ → ℕ → ℕ → Bool
-branchFine k f c n tallest s =
-    choose (branchNamed k f s)
-    (choose (allIn 0 n (kidFine k f c s))
-    (choose (bareFrom k s n) (choose (bareFrom k s 0) false (choose (averageAt k f n s) (tallAt k f n tallest s) false)) false) false) false
-
-unfoldable pub liveFine : List ℕ → List ℕ → ℕ → ℕ → ℕ → ℕ → Bool
-liveFine k f c n tallest s = choose (countsFine f s) (choose (leafFine k f s) true (branchFine k f c n tallest s)) false
+unfoldable pub liveFine : List ℕ → List ℕ → ℕ → ℕ → Bool
+liveFine k f c s = pick (countsFine f s) (kindFine f c (kidsOf kidWords (kidOf k) s) s) false
 
 -- ## Every slot
 
 -- given out, or its generation 0 and no link
 unfoldable pub restsAt : List ℕ → ℕ → ℕ → Bool
-restsAt f next s = choose (isGiven next s) true (choose (eqb (factOf f s own) 0) (eqb (factOf f s link) 0) false)
+restsAt f next s = pick (isGiven next s) true (pick (eqb (factOf f s own) 0) (eqb (factOf f s link) 0) false)
 
 unfoldable pub plainAt : List ℕ → ℕ → Bool
-plainAt f s = choose (eqb (factOf f s spare) 0) (leb (generationOf (factOf f s own)) lastGeneration) false
+plainAt f s =
+    pick (eqb (factOf f s spare) 0) (pick (leb (factOf f s value) largestValue) (leb (generationOf (factOf f s own)) lastGeneration) false) false
 
-unfoldable pub slotFine : List ℕ → List ℕ → ℕ → ℕ → ℕ → ℕ → ℕ → Bool
-slotFine k f c next n tallest s =
-    choose (plainAt f s)
-    (choose (restsAt f next s) (choose (leb floor (factOf f s own)) (liveFine k f c n tallest s) (deadFine k f s)) false) false
+unfoldable pub slotFine : List ℕ → List ℕ → ℕ → ℕ → ℕ → Bool
+slotFine k f c next s =
+    pick (plainAt f s) (pick (restsAt f next s) (pick (leb floor (factOf f s own)) (liveFine k f c s) (deadFine k f s)) false) false
 
 -- ## All of it
 
-unfoldable pub sizedBy : ℕ → ℕ → ℕ → ℕ → Bool
-sizedBy c x y z = choose (leb leastSlots c) (choose (leb c mostSlots) (choose (eqb x (kidWords * c)) (choose (eqb y (factWords * c)) (eqb z (slotCells * c)) false) false) false) false
-
 unfoldable pub rangedBy : ℕ → ℕ → Bool
-rangedBy next c = choose (leb 1 next) (leb next c) false
+rangedBy next c = pick (leb 1 next) (leb next c) false
 
 -- all but the tally
-unfoldable pub soundBy : ℕ → ℕ → Arena → List ℕ → List ℕ → List ℕ → Bool
-soundBy n tallest a k f e =
-    choose (sizedBy (a .capacity) (length k) (length f) (length e))
-    (choose (rangedBy (a .next) (a .capacity))
-    (choose (allIn 0 (a .capacity) (slotFine k f (a .capacity) (a .next) n tallest)) (choose (stateFine a f) (findFine a k f e) false) false) false) false
+unfoldable pub soundBy : Arena → List ℕ → List ℕ → List ℕ → Bool
+soundBy a k f e =
+    pick (fitOf (a .capacity) (length k) (length f) (length e))
+    (pick (rangedBy (a .next) (a .capacity))
+    (pick (allIn 0 (a .capacity) (slotFine k f (a .capacity) (a .next))) (pick (stateFine a f) (findFine a k f e) false) false) false) false
 
 -- and the tally
-unfoldable pub checkBy : ℕ → ℕ → Arena → List ℕ → List ℕ → List ℕ → Bool
-checkBy n tallest a k f e = choose (soundBy n tallest a k f e) (allIn 0 (a .capacity) (agreeAt (countTo k f (a .capacity)))) false
+unfoldable pub checkBy : Arena → List ℕ → List ℕ → List ℕ → Bool
+checkBy a k f e = pick (soundBy a k f e) (allIn 0 (a .capacity) (agreeAt (countTo k f (a .capacity)))) false

@@ -1,14 +1,14 @@
 // The arena check: yes exactly if the lent tables are well formed, on any tables whatever they hold. Each pass takes time linear in the
 // capacity, and the first that says no ends the check. See specs/Models.antt.
 use arena::Arena;
-use arena::slot_of;
-use basics::FACT_WORDS;
+use arena::fit;
+use arena::is_live;
 use basics::KID_WORDS;
+use basics::Kids;
 use basics::LARGEST_VALUE;
 use basics::LAST_GENERATION;
 use basics::MOST_HOLDS;
-use basics::MOST_SLOTS;
-use basics::SLOT_CELLS;
+use basics::TALLEST;
 use check_find::find_fine;
 use check_freed::FLOOR;
 use check_freed::is_given;
@@ -17,6 +17,7 @@ use check_places::tallies;
 use ids::BlockId;
 use new_id::branch_id;
 use new_slot::leaf_id;
+use new_value::sums_of;
 use nodes::HEIGHT;
 use nodes::HOLDS;
 use nodes::LINK;
@@ -26,42 +27,35 @@ use nodes::SPARE;
 use nodes::VALUE;
 use nodes::children;
 use nodes::fact;
-use nodes::kid;
 ghost use mathlib.Core.Path.{_≡_};
 ghost use mathlib.Core.Logic.{_↔_};
 ghost use mathlib.Core.Bool.{true};
-ghost use Prim.Native.Nat.{_+_, _%_, _^_, _<_, _≤_, max};
+ghost use Prim.Native.Nat.{_+_};
 ghost use lib.Dec.{leb};
 ghost use Rattle.basics.specs.Limits.{deepest, cubeKids, kidWords};
-ghost use Rattle.basics.specs.Sums.{sumTo};
-ghost use Rattle.nodes.specs.Words.{factOf, holds, places};
-ghost use Rattle.nodes.specs.Values.{maxTo};
+ghost use Rattle.nodes.specs.Words.{kidOf, factOf, holds, places};
+ghost use Rattle.nodes.specs.Tally.{kidsOf};
+ghost use Rattle.arena.specs.Calls.{noneOf, liveOrEmpty, allLive};
 ghost use Rattle.arena.specs.Tables.{WellFormed};
 ghost use Rattle.arena.specs.Lent.{before};
 ghost use Rattle.check_freed.specs.Models.{allIn};
-ghost use Rattle.check_arena.specs.Models.{bareFrom, blankAt, deadFine, countsFine, leafNamed, leafFine, branchNamed, liveId, kidFine, kidValue, kidHeight, averageAt, tallAt, branchFine, liveFine, restsAt, plainAt, slotFine, sizedBy, rangedBy, soundBy};
+ghost use Rattle.check_arena.specs.Models.{blankAt, deadFine, countsFine, leafNamed, leafFine, branchNamed, tallAt, branchFine, kindFine, liveFine, restsAt, plainAt, slotFine, rangedBy, soundBy};
 
-// No generation is above this.
-
-// Values are 0 to 65,535.
-
-// Caller's holds on one node.
-
-// ---- a slot that is not live
-
-// Are the children of slot s from number `from` on EMPTY?
-fn bare(kids: &[u64], s: usize, from: usize) -> bool
-    ensures { λ r. ⌜ r ≡ bareFrom (now (kids .entry)) s from ⌝ }
+// Are the eight ids EMPTY?
+fn all_empty(ks: Kids) -> bool
+    ensures { λ r. ⌜ r ≡ noneOf ks ⌝ }
 {
-    let mut i = from;
+    let mut i: usize = 0;
     while i < KID_WORDS {
-        if kid(kids, s, i) != 0 {
+        if !BlockId(ks[i]).is_empty() {
             return false;
         }
         i += 1;
     }
     true
 }
+
+// ---- a slot that is not live
 
 // Are the value, the height and both counts of slot s 0?
 fn blank(facts: &[u64], s: usize) -> bool
@@ -77,6 +71,13 @@ fn blank(facts: &[u64], s: usize) -> bool
     true
 }
 
+// Are the children of slot s EMPTY?
+fn bare(kids: &[u64], s: usize) -> bool
+    ensures { λ r. ⌜ r ≡ noneOf (kidsOf kidWords (kidOf (now (kids .entry))) s) ⌝ }
+{
+    all_empty(children(kids, s))
+}
+
 // Is slot s cleared: value 0, children EMPTY, both counts 0? Its own word is a generation alone.
 fn dead_fine(kids: &[u64], facts: &[u64], s: usize) -> bool
     ensures { λ r. ⌜ r ≡ deadFine (now (kids .entry)) (now (facts .entry)) s ⌝ }
@@ -85,7 +86,7 @@ fn dead_fine(kids: &[u64], facts: &[u64], s: usize) -> bool
     if own % 0x1_0000_0000 != 0 {
         return false;
     }
-    if !bare(kids, s, 0) {
+    if !bare(kids, s) {
         return false;
     }
     blank(facts, s)
@@ -103,13 +104,10 @@ fn is_used(facts: &[u64], s: usize) -> bool
     1 <= fact(facts, s, PLACES)
 }
 
-// Value at most 65,535, at most 1,000,000 holds, holds plus places at least 1, and no link.
+// At most 1,000,000 holds, holds plus places at least 1, and no link.
 fn counts_fine(facts: &[u64], s: usize) -> bool
     ensures { λ r. ⌜ r ≡ countsFine (now (facts .entry)) s ⌝ }
 {
-    if fact(facts, s, VALUE) > LARGEST_VALUE {
-        return false;
-    }
     if fact(facts, s, HOLDS) > MOST_HOLDS {
         return false;
     }
@@ -127,9 +125,9 @@ fn leaf_named(facts: &[u64], s: usize) -> bool
     own == leaf_id(s, own)
 }
 
-// A leaf has a value other than 0 and no children; its height is 0.
-fn leaf_fine(kids: &[u64], facts: &[u64], s: usize) -> bool
-    ensures { λ r. ⌜ r ≡ leafFine (now (kids .entry)) (now (facts .entry)) s ⌝ }
+// A leaf has a value other than 0; its height is 0.
+fn leaf_fine(facts: &[u64], s: usize) -> bool
+    ensures { λ r. ⌜ r ≡ leafFine (now (facts .entry)) s ⌝ }
 {
     if !leaf_named(facts, s) {
         return false;
@@ -137,52 +135,34 @@ fn leaf_fine(kids: &[u64], facts: &[u64], s: usize) -> bool
     if fact(facts, s, VALUE) == 0 {
         return false;
     }
-    if fact(facts, s, HEIGHT) != 0 {
-        return false;
-    }
-    bare(kids, s, 0)
+    fact(facts, s, HEIGHT) == 0
 }
 
-// Is the own word of slot s the id of a branch there with its children?
-fn branch_named(kids: &[u64], facts: &[u64], s: usize) -> bool
-    ensures { λ r. ⌜ r ≡ branchNamed (now (kids .entry)) (now (facts .entry)) s ⌝ }
+// Is the own word of slot s the id of a branch there with the children ks?
+fn branch_named(facts: &[u64], ks: Kids, s: usize) -> bool
+    ensures { λ r. ⌜ r ≡ branchNamed (now (facts .entry)) ks s ⌝ }
 {
     let own = fact(facts, s, OWN);
-    own == branch_id(children(kids, s), s, own)
+    own == branch_id(ks, s, own)
 }
 
-// Is the id y live: in all its bits the id of the node in its slot?
-fn is_live(facts: &[u64], capacity: usize, y: u64) -> bool
-    ensures { λ r. ⌜ r ≡ liveId (now (facts .entry)) capacity y ⌝ }
+// Is the id EMPTY or live?
+fn live_or_empty(capacity: usize, facts: &[u64], k: u64) -> bool
+    ensures { λ r. ⌜ r ≡ liveOrEmpty capacity (factOf (now (facts .entry))) k ⌝ }
 {
-    let s = slot_of(y);
-    if capacity <= s {
-        return false;
-    }
-    if y < FLOOR {
-        return false;
-    }
-    fact(facts, s, OWN) == y
-}
-
-// Child i of slot s is live or EMPTY.
-fn kid_fine(kids: &[u64], facts: &[u64], capacity: usize, s: usize, i: usize) -> bool
-    ensures { λ r. ⌜ r ≡ kidFine (now (kids .entry)) (now (facts .entry)) capacity s i ⌝ }
-{
-    let y = kid(kids, s, i);
-    if y == 0 {
+    if k == 0 {
         return true;
     }
-    is_live(facts, capacity, y)
+    is_live(capacity, facts, k)
 }
 
-// The n children of slot s are live or EMPTY.
-fn kids_fine(kids: &[u64], facts: &[u64], capacity: usize, n: usize, s: usize) -> bool
-    ensures { λ r. ⌜ r ≡ allIn 0 n (kidFine (now (kids .entry)) (now (facts .entry)) capacity s) ⌝ }
+// Is each of the eight ids EMPTY or live?
+fn each_live(capacity: usize, facts: &[u64], ks: Kids) -> bool
+    ensures { λ r. ⌜ r ≡ allLive capacity (factOf (now (facts .entry))) ks ⌝ }
 {
     let mut i: usize = 0;
-    while i < n {
-        if !kid_fine(kids, facts, capacity, s, i) {
+    while i < KID_WORDS {
+        if !live_or_empty(capacity, facts, ks[i]) {
             return false;
         }
         i += 1;
@@ -190,126 +170,55 @@ fn kids_fine(kids: &[u64], facts: &[u64], capacity: usize, n: usize, s: usize) -
     true
 }
 
-// The stored value of child i of slot s, EMPTY counting 0.
-fn kid_value(kids: &[u64], facts: &[u64], s: usize, i: usize) -> u64
-    ensures { λ r. ⌜ (r ≡ kidValue (now (kids .entry)) (now (facts .entry)) s i) × (r < 65536) ⌝ }
-{
-    let y = kid(kids, s, i);
-    if y == 0 {
-        return 0;
-    }
-    fact(facts, slot_of(y), VALUE) % 65536
-}
-
-// The sum of the stored values of the n children of slot s.
-fn kid_sum(kids: &[u64], facts: &[u64], n: usize, s: usize) -> u64
-    requires { ⌜ n ≤ kidWords ⌝ }
-    ensures { λ r. ⌜ r ≡ sumTo n (kidValue (now (kids .entry)) (now (facts .entry)) s) ⌝ }
-{
-    let mut sum: u64 = 0;
-    let mut i: usize = 0;
-    while i < n {
-        sum += kid_value(kids, facts, s, i);
-        i += 1;
-    }
-    sum
-}
-
-// The stored value of slot s is the sum of the children's stored values divided by n, rounded down.
-fn is_average(kids: &[u64], facts: &[u64], n: usize, s: usize) -> bool
-    requires { ⌜ (1 ≤ n) × (n ≤ kidWords) ⌝ }
-    ensures { λ r. ⌜ r ≡ averageAt (now (kids .entry)) (now (facts .entry)) n s ⌝ }
-{
-    fact(facts, s, VALUE) == kid_sum(kids, facts, n, s) / (n as u64)
-}
-
-// The height of child i of slot s, of EMPTY 0.
-fn kid_height(kids: &[u64], facts: &[u64], s: usize, i: usize) -> u64
-    ensures { λ r. ⌜ r ≡ kidHeight (now (kids .entry)) (now (facts .entry)) s i ⌝ }
-{
-    let y = kid(kids, s, i);
-    if y == 0 {
-        return 0;
-    }
-    fact(facts, slot_of(y), HEIGHT)
-}
-
-// The larger of two heights.
-fn larger(x: u64, y: u64) -> u64
-    ensures { λ r. ⌜ r ≡ max x y ⌝ }
-{
-    if x < y { y } else { x }
-}
-
-// The height of the tallest of the n children of slot s.
-fn kid_top(kids: &[u64], facts: &[u64], n: usize, s: usize) -> u64
-    ensures { λ r. ⌜ r ≡ maxTo n (kidHeight (now (kids .entry)) (now (facts .entry)) s) ⌝ }
-{
-    let mut top: u64 = 0;
-    let mut i: usize = 0;
-    while i < n {
-        top = larger(top, kid_height(kids, facts, s, i));
-        i += 1;
-    }
-    top
-}
-
-// The height of slot s is one more than its tallest child's, at most the tallest allowed.
-fn is_tall(kids: &[u64], facts: &[u64], n: usize, tallest: u64, s: usize) -> bool
-    ensures { λ r. ⌜ r ≡ tallAt (now (kids .entry)) (now (facts .entry)) n tallest s ⌝ }
+// The height of slot s is one more than `top`, at most the tallest allowed.
+fn is_tall(facts: &[u64], top: u64, s: usize) -> bool
+    ensures { λ r. ⌜ r ≡ tallAt (now (facts .entry)) top s ⌝ }
 {
     let height = fact(facts, s, HEIGHT);
     if height == 0 {
         return false;
     }
-    if height > tallest {
+    if height > TALLEST {
         return false;
     }
-    height - 1 == kid_top(kids, facts, n, s)
+    height - 1 == top
 }
 
-// A branch has n child ids, live or EMPTY and not all EMPTY, with the stored value and the height that follow from them.
-fn branch_fine(
-    kids: &[u64],
-    facts: &[u64],
-    capacity: usize,
-    n: usize,
-    tallest: u64,
-    s: usize,
-) -> bool
-    requires { ⌜ (1 ≤ n) × (n ≤ kidWords) ⌝ }
-    ensures { λ r. ⌜ r ≡ branchFine (now (kids .entry)) (now (facts .entry)) capacity n tallest s ⌝ }
+// A branch with the children ks: they are live or EMPTY, and its id, its stored value and its height follow from them.
+fn branch_fine(facts: &[u64], capacity: usize, ks: Kids, s: usize) -> bool
+    ensures { λ r. ⌜ r ≡ branchFine (now (facts .entry)) capacity ks s ⌝ }
 {
-    if !branch_named(kids, facts, s) {
+    if !branch_named(facts, ks, s) {
         return false;
     }
-    if !kids_fine(kids, facts, capacity, n, s) {
+    if !each_live(capacity, facts, ks) {
         return false;
     }
-    if !bare(kids, s, n) {
+    let sums = sums_of(facts, ks);
+    if fact(facts, s, VALUE) != sums.value {
         return false;
     }
-    if bare(kids, s, 0) {
-        return false;
+    is_tall(facts, sums.top, s)
+}
+
+// Without children the node in slot s is a leaf, else a branch.
+fn kind_fine(facts: &[u64], capacity: usize, ks: Kids, s: usize) -> bool
+    ensures { λ r. ⌜ r ≡ kindFine (now (facts .entry)) capacity ks s ⌝ }
+{
+    if all_empty(ks) {
+        return leaf_fine(facts, s);
     }
-    if !is_average(kids, facts, n, s) {
-        return false;
-    }
-    is_tall(kids, facts, n, tallest, s)
+    branch_fine(facts, capacity, ks, s)
 }
 
 // A live node meets the rules on content, stored value, height and id, with at most 1,000,000 holds.
-fn live_fine(kids: &[u64], facts: &[u64], capacity: usize, n: usize, tallest: u64, s: usize) -> bool
-    requires { ⌜ (1 ≤ n) × (n ≤ kidWords) ⌝ }
-    ensures { λ r. ⌜ r ≡ liveFine (now (kids .entry)) (now (facts .entry)) capacity n tallest s ⌝ }
+fn live_fine(kids: &[u64], facts: &[u64], capacity: usize, s: usize) -> bool
+    ensures { λ r. ⌜ r ≡ liveFine (now (kids .entry)) (now (facts .entry)) capacity s ⌝ }
 {
     if !counts_fine(facts, s) {
         return false;
     }
-    if leaf_fine(kids, facts, s) {
-        return true;
-    }
-    branch_fine(kids, facts, capacity, n, tallest, s)
+    kind_fine(facts, capacity, children(kids, s), s)
 }
 
 // ---- every slot
@@ -327,20 +236,22 @@ fn rests(facts: &[u64], next: usize, s: usize) -> bool
     fact(facts, s, LINK) == 0
 }
 
-// The spare word of slot s is 0, and its generation is not above 0x7FFD.
+// The spare word of slot s is 0, its value at most 65,535, and its generation not above 0x7FFD.
 fn is_plain(facts: &[u64], s: usize) -> bool
     ensures { λ r. ⌜ r ≡ plainAt (now (facts .entry)) s ⌝ }
 {
     if fact(facts, s, SPARE) != 0 {
         return false;
     }
+    if fact(facts, s, VALUE) > LARGEST_VALUE {
+        return false;
+    }
     BlockId(fact(facts, s, OWN)).generation() <= LAST_GENERATION
 }
 
 // Slot s has a live node that meets the rules, or is cleared.
-fn slot_fine(kids: &[u64], facts: &[u64], arena: Arena, n: usize, tallest: u64, s: usize) -> bool
-    requires { ⌜ (1 ≤ n) × (n ≤ kidWords) ⌝ }
-    ensures { λ r. ⌜ r ≡ slotFine (now (kids .entry)) (now (facts .entry)) (arena .capacity) (arena .next) n tallest s ⌝ }
+fn slot_fine(kids: &[u64], facts: &[u64], arena: Arena, s: usize) -> bool
+    ensures { λ r. ⌜ r ≡ slotFine (now (kids .entry)) (now (facts .entry)) (arena .capacity) (arena .next) s ⌝ }
 {
     if !is_plain(facts, s) {
         return false;
@@ -349,19 +260,18 @@ fn slot_fine(kids: &[u64], facts: &[u64], arena: Arena, n: usize, tallest: u64, 
         return false;
     }
     if FLOOR <= fact(facts, s, OWN) {
-        return live_fine(kids, facts, arena.capacity, n, tallest, s);
+        return live_fine(kids, facts, arena.capacity, s);
     }
     dead_fine(kids, facts, s)
 }
 
 // Every slot is as it must be by itself and by its children.
-fn slots_fine(kids: &[u64], facts: &[u64], arena: Arena, n: usize, tallest: u64) -> bool
-    requires { ⌜ (1 ≤ n) × (n ≤ kidWords) ⌝ }
-    ensures { λ r. ⌜ r ≡ allIn 0 (arena .capacity) (slotFine (now (kids .entry)) (now (facts .entry)) (arena .capacity) (arena .next) n tallest) ⌝ }
+fn slots_fine(kids: &[u64], facts: &[u64], arena: Arena) -> bool
+    ensures { λ r. ⌜ r ≡ allIn 0 (arena .capacity) (slotFine (now (kids .entry)) (now (facts .entry)) (arena .capacity) (arena .next)) ⌝ }
 {
     let mut s: usize = 0;
     while s < arena.capacity {
-        if !slot_fine(kids, facts, arena, n, tallest, s) {
+        if !slot_fine(kids, facts, arena, s) {
             return false;
         }
         s += 1;
@@ -370,25 +280,6 @@ fn slots_fine(kids: &[u64], facts: &[u64], arena: Arena, n: usize, tallest: u64)
 }
 
 // ---- the check
-
-// Not refusal 1: capacity 2 to 65,536, and the lengths of the tables 8, 7 and 3 times it.
-fn is_sized(capacity: usize, kids: usize, facts: usize, find: usize) -> bool
-    ensures { λ r. ⌜ r ≡ sizedBy capacity kids facts find ⌝ }
-{
-    if capacity < 2 {
-        return false;
-    }
-    if capacity > MOST_SLOTS {
-        return false;
-    }
-    if kids != KID_WORDS * capacity {
-        return false;
-    }
-    if facts != FACT_WORDS * capacity {
-        return false;
-    }
-    find == SLOT_CELLS * capacity
-}
 
 // The lowest slot never given out is one of 1 to the capacity.
 fn is_ranged(next: usize, capacity: usize) -> bool
@@ -401,17 +292,16 @@ fn is_ranged(next: usize, capacity: usize) -> bool
 }
 
 // All of it but the tally, which wants these to be right.
-fn is_sound(kids: &[u64], facts: &[u64], find: &[u16], arena: Arena, n: usize, tallest: u64) -> bool
-    requires { ⌜ (1 ≤ n) × (n ≤ kidWords) ⌝ }
-    ensures { λ r. ⌜ r ≡ soundBy n tallest arena (now (kids .entry)) (now (facts .entry)) (now (find .entry)) ⌝ }
+fn is_sound(kids: &[u64], facts: &[u64], find: &[u16], arena: Arena) -> bool
+    ensures { λ r. ⌜ r ≡ soundBy arena (now (kids .entry)) (now (facts .entry)) (now (find .entry)) ⌝ }
 {
-    if !is_sized(arena.capacity, kids.len(), facts.len(), find.len()) {
+    if !fit(arena.capacity, kids.len(), facts.len(), find.len()) {
         return false;
     }
     if !is_ranged(arena.next, arena.capacity) {
         return false;
     }
-    if !slots_fine(kids, facts, arena, n, tallest) {
+    if !slots_fine(kids, facts, arena) {
         return false;
     }
     if !state_fine(facts, arena) {
@@ -420,27 +310,12 @@ fn is_sound(kids: &[u64], facts: &[u64], find: &[u16], arena: Arena, n: usize, t
     find_fine(kids, facts, find, arena)
 }
 
-// Are the tables well formed, with n children to a branch and branches no taller than `tallest`? The tables are as before.
-fn check_any(
-    arena: Arena,
-    kids: &[u64],
-    facts: &mut [u64],
-    find: &[u16],
-    n: usize,
-    tallest: u64,
-) -> bool
-    requires { ⌜ (1 ≤ n) × (n ≤ kidWords) ⌝ }
-    ensures { λ r. ⌜ ((r ≡ true) ↔ WellFormed n tallest (before arena kids facts find)) × (now (facts .exit) ≡ now (facts .entry)) ⌝ }
-{
-    if !is_sound(kids, facts, find, arena, n, tallest) {
-        return false;
-    }
-    tallies(kids, facts, arena.capacity)
-}
-
 // The arena check: yes exactly if the tables are well formed, on any tables; with refusal 1 it says no. The tables are as before.
 pub fn check_arena(arena: Arena, kids: &[u64], facts: &mut [u64], find: &[u16]) -> bool
     ensures { λ r. ⌜ ((r ≡ true) ↔ WellFormed cubeKids deepest (before arena kids facts find)) × (now (facts .exit) ≡ now (facts .entry)) ⌝ }
 {
-    check_any(arena, kids, facts, find, 8, 6)
+    if !is_sound(kids, facts, find, arena) {
+        return false;
+    }
+    tallies(kids, facts, arena.capacity)
 }

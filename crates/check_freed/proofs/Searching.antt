@@ -3,24 +3,26 @@ use mathlib.Core.Path.{_≡_, refl, sym, ap, ap₂, _∙_, subst}
 use mathlib.Core.Logic.{_≢_}
 use mathlib.Core.Bool.{Bool, true, false, true≢false}
 use mathlib.Core.List.{List}
-use Prim.Native.Nat.{ℕ, zero, suc, _+_, _≤_, _<_}
+use Prim.Native.Nat.{ℕ, zero, suc, _+_, _-_, _≤_, _<_}
 use native.Mathlib.Decide.{ℕ-discrete, decLt}
 use native.Mathlib.Omega.{arith}
 use lib.Dec.{eqb, leb, ltb}
 use lib.ListN.{length, getD, List·getD-eq-default}
 use borrow.Author.Tests.{eq-eqb, ne-eqb, eqb-true, eqb-false, le-leb, leb-true, lt-ltb, ltb-true}
 use Rattle.nodes.specs.Words.{Words, own, value, link, nodes, factOf, wordOf, floor}
-use Rattle.nodes.specs.Tally.{kidsOf, tabFrom, Free}
+use Rattle.nodes.specs.Tally.{kidsOf, tabFrom, Free, liveCount}
 use Rattle.nodes.proofs.Access.{word-fact, kids-word}
+use Rattle.nodes.proofs.Freeing.{live-keep}
 use Rattle.nodes.proofs.Sums.{cases, tabFrom-length}
 use Rattle.nodes.proofs.Walking.{Walk}
 use Rattle.find.specs.Cells.{cell, probe, cellOf, Reach}
 use Rattle.find.specs.Content.{contentIs, homeAt}
 use Rattle.find.proofs.Contents.{content-true, content-words}
 use Rattle.find.proofs.Probing.{Ended, ended}
-use Rattle.check_freed.specs.Models.{choose, allIn, isGiven, isFree, walkBy, cellFor, liveAt, namedAt, cellFine, foundAt}
-use Rattle.check_freed.proofs.Ladders.{both, both-yes, choose-if, choose-yes, choose-no, split}
-use Rattle.check_freed.proofs.Passes.{pass-true, true-pass}
+use Rattle.arena.specs.declared.Arena.{Arena}
+use Rattle.check_freed.specs.Models.{allIn, isGiven, isFree, walkBy, stateFine, cellFor, liveAt, namedAt, cellFine, foundAt, findFine}
+use Rattle.check_freed.proofs.Ladders.{Tells, tells-eq, tells-le, tells-lt, tells-map, tells-and, tells-then, tells-else, tells-not}
+use Rattle.check_freed.proofs.Passes.{tells-all}
 
 -- ---- a slot's content is its own
 
@@ -35,11 +37,11 @@ module _ (W : Words) (s : ℕ) where
   abbrev pub alike : ℕ → Bool
   alike x = contentIs W (kidsOf 8 W s) (W s value) x
 
-  kids-length : length (kidsOf 8 W s) ≡ 8
+  pub kids-length : length (kidsOf 8 W s) ≡ 8
   unfolding kidsOf
   kids-length = tabFrom-length 8 0 (W s)
 
-  kids-at : (i : ℕ) → i < 8 → W s i ≡ getD (kidsOf 8 W s) i 0
+  pub kids-at : (i : ℕ) → i < 8 → W s i ≡ getD (kidsOf 8 W s) i 0
   unfolding kidsOf
   kids-at i l = let e : 0 + i ≡ i = omega arith in ap (W s) (sym e) ∙ tab-at 8 0 (W s) i l
 
@@ -64,18 +66,18 @@ module _ (e : List ℕ) (c : ℕ) (W : Words) where
 
   -- each cell that is not empty names a live slot, and is where the search for it ends
   abbrev pub Seated : Type 0
-  Seated = (p : ℕ) → 0 < cell e p → (cell e p < c) × (floor ≤ W (cell e p) own) × (seat (cell e p) ≡ p)
+  Seated = (p : ℕ) → 0 < cell e p → ((cell e p < c) × (floor ≤ W (cell e p) own)) × (seat (cell e p) ≡ p)
 
   pub seated-reach : Seated → Reach (homeAt c W) (cell e)
   seated-reach h =
       record {
         above = λ p a. rw (sits p a) at (E p .from);
         filled = λ p q a b d. cases (ℕ-discrete q p) (λ (z : q ≡ p). rw z a) (λ z. E p .passed q b (rw (sits p a) (omega arith)) .0);
-        once = λ p q a b. sym (h p a .2) ∙ ap seat b ∙ h q (omega arith) .2;
+        once = λ p q a b. sym (h p a .1) ∙ ap seat b ∙ h q (omega arith) .1;
       }
     where
       sits : (p : ℕ) → 0 < cell e p → probe (alike W (cell e p)) e (homeAt c W (cell e p)) ≡ p
-      sits p a = sym (seat-probe (cell e p)) ∙ h p a .2
+      sits p a = sym (seat-probe (cell e p)) ∙ h p a .1
 
       E : (p : ℕ) → Ended (alike W (cell e p)) (cell e) (homeAt c W (cell e p)) (probe (alike W (cell e p)) e (homeAt c W (cell e p)))
       E p = ended (alike W (cell e p)) e (homeAt c W (cell e p))
@@ -88,91 +90,68 @@ module _ (k f e : List ℕ) (c : ℕ) where
   unfolding cellFor
   cell-for s = ap₂ (λ (ks : List ℕ) (v : ℕ). cellOf e c U ks v) (kids-word 8 (nodes k f) s (omega arith)) (sym (word-fact (nodes k f) s value (omega arith)))
 
-  live-is : (s : ℕ) → liveAt f c s ≡ true → (s < c) × (floor ≤ U s own)
+  live-tells : (s : ℕ) → Tells (liveAt f c s) ((s < c) × (floor ≤ U s own))
   unfolding liveAt wordOf
-  live-is s q = let p = both (ltb s c) (leb floor (factOf f s own)) q in (ltb-true s c (p .0), leb-true floor (factOf f s own) (p .1))
+  live-tells s = tells-and (tells-lt s c) (λ l. tells-le floor (factOf f s own))
 
-  is-live : (s : ℕ) → s < c → floor ≤ U s own → liveAt f c s ≡ true
-  unfolding liveAt wordOf
-  is-live s l h = both-yes (ltb s c) (leb floor (factOf f s own)) (lt-ltb s c l) (le-leb floor (factOf f s own) h)
+  named-tells : (s p : ℕ) → Tells (namedAt k f e c s p) (((s < c) × (floor ≤ U s own)) × (seat e c U s ≡ p))
+  unfolding namedAt
+  named-tells s p = tells-and (live-tells s) (λ l. rw (cell-for s) (tells-eq (seat e c U s) p))
 
-  pub cells-seated : allIn 0 (length e) (cellFine k f e c) ≡ true → Seated e c U
-  unfolding cellFine namedAt
-  cells-seated q p a = cases (decLt p (length e))
-      (λ l. choose-if (eqb (cell e p) 0) true (namedAt k f e c (cell e p) p) (pass-true (cellFine k f e c) 0 (length e) q p (omega arith) l)
-      (λ y z. absurd (let w = eqb-true (cell e p) 0 y in omega arith))
-      (λ y z.
-      let r = both (liveAt f c (cell e p)) (eqb (cellFor k f e c (cell e p)) p) z in
-      let v = live-is (cell e p) (r .0) in
-      (v .0, v .1, sym (cell-for (cell e p)) ∙ eqb-true (cellFor k f e c (cell e p)) p (r .1))))
-      (λ l. absurd (let m : length e ≤ p = omega arith in let w : cell e p ≡ 0 = List·getD-eq-default e 0 m in omega arith))
+  cell-tells : (p : ℕ) → Tells (cellFine k f e c p) (0 < cell e p → ((cell e p < c) × (floor ≤ U (cell e p) own)) × (seat e c U (cell e p) ≡ p))
+  unfolding cellFine
+  cell-tells p = tells-map (λ r a. r (λ z. omega arith)) (λ r n. r (omega arith)) (tells-else (tells-eq (cell e p) 0) (λ n. named-tells (cell e p) p))
 
-  pub seated-cells : Seated e c U → allIn 0 (length e) (cellFine k f e c) ≡ true
-  unfolding cellFine namedAt
-  seated-cells h = true-pass (cellFine k f e c) 0 (length e) (λ p a l. cases (ℕ-discrete (cell e p) 0)
-      (λ z. choose-yes (eqb (cell e p) 0) true (namedAt k f e c (cell e p) p) (eq-eqb (cell e p) 0 z))
-      (λ z.
-      let r = h p (omega arith) in
-      choose-no (eqb (cell e p) 0) true (namedAt k f e c (cell e p) p) (ne-eqb (cell e p) 0 z)
-      ∙ both-yes (liveAt f c (cell e p)) (eqb (cellFor k f e c (cell e p)) p) (is-live (cell e p) (r .0) (r .1))
-      (eq-eqb (cellFor k f e c (cell e p)) p (cell-for (cell e p) ∙ r .2))))
-
-  pub pass-found : allIn 0 c (foundAt k f e c) ≡ true → (s : ℕ) → s < c → floor ≤ U s own → cell e (seat e c U s) ≡ s
+  found-tells : (s : ℕ) → s < c → Tells (foundAt k f e c s) (floor ≤ U s own → cell e (seat e c U s) ≡ s)
   unfolding foundAt
-  pass-found q s l h =
-      ap (cell e) (sym (cell-for s))
-      ∙ eqb-true (cell e (cellFor k f e c s)) s
-      (sym (choose-yes (liveAt f c s) (eqb (cell e (cellFor k f e c s)) s) true (is-live s l h)) ∙ pass-true (foundAt k f e c) 0 c q s (omega arith) l)
+  found-tells s l =
+      tells-map (λ r h. r (l, h)) (λ r v. r (v .1))
+      (tells-then (live-tells s) (λ v. rw (cell-for s) (tells-eq (cell e (seat e c U s)) s)))
 
-  pub found-pass : ((s : ℕ) → s < c → floor ≤ U s own → cell e (seat e c U s) ≡ s) → allIn 0 c (foundAt k f e c) ≡ true
-  unfolding foundAt
-  found-pass h = true-pass (foundAt k f e c) 0 c (λ s a l. split (liveAt f c s)
-      (λ y.
-      choose-yes (liveAt f c s) (eqb (cell e (cellFor k f e c s)) s) true y
-      ∙ eq-eqb (cell e (cellFor k f e c s)) s (ap (cell e) (cell-for s) ∙ h s l (live-is s y .1)))
-      (λ y. choose-no (liveAt f c s) (eqb (cell e (cellFor k f e c s)) s) true y))
+  cells-tell : Tells (allIn 0 (length e) (cellFine k f e c)) (Seated e c U)
+  cells-tell =
+      tells-map
+      (λ q p h. cases (decLt p (length e)) (λ l. q p (omega arith) l h)
+      (λ l. absurd (let m : length e ≤ p = omega arith in let w : cell e p ≡ 0 = List·getD-eq-default e 0 m in omega arith)))
+      (λ q p h l. q p)
+      (tells-all (cellFine k f e c) (λ p. 0 < cell e p → ((cell e p < c) × (floor ≤ U (cell e p) own)) × (seat e c U (cell e p) ≡ p)) 0 (length e) (λ p h l. cell-tells p))
+
+  all-found : Tells (allIn 0 c (foundAt k f e c)) ((s : ℕ) → s < c → floor ≤ U s own → cell e (seat e c U s) ≡ s)
+  all-found =
+      tells-map (λ q s l. q s (omega arith) l) (λ q s h l. q s l)
+      (tells-all (foundAt k f e c) (λ s. floor ≤ U s own → cell e (seat e c U s) ≡ s) 0 c (λ s h l. found-tells s l))
+
+pub find-tells : (a : Arena) (k f e : List ℕ) → Tells (findFine a k f e)
+    (Seated e (a .capacity) (wordOf (nodes k f))
+    × ((s : ℕ) → s < a .capacity → floor ≤ wordOf (nodes k f) s own → cell e (seat e (a .capacity) (wordOf (nodes k f)) s) ≡ s))
+unfolding findFine
+find-tells a k f e = tells-and (cells-tell k f e (a .capacity)) (λ v. all-found k f e (a .capacity))
 
 -- ---- the freed slots
 
-module _ (next s : ℕ) where
-  pub given-is : isGiven next s ≡ true → (s ≢ 0) × (s < next)
-  unfolding isGiven
-  given-is e = choose-if (eqb s 0) false (ltb s next) e (λ y z. absurd (true≢false (sym z))) (λ y z. (eqb-false s 0 y, ltb-true s next z))
-
-  pub is-given : s ≢ 0 → s < next → isGiven next s ≡ true
-  unfolding isGiven
-  is-given d l = choose-no (eqb s 0) false (ltb s next) (ne-eqb s 0 d) ∙ lt-ltb s next l
+pub given-tells : (next s : ℕ) → Tells (isGiven next s) ((s ≢ 0) × (s < next))
+unfolding isGiven
+given-tells next s = tells-not (tells-eq s 0) (tells-lt s next)
 
 module _ (k f : List ℕ) (next : ℕ) where
-  free-is : (s : ℕ) → isFree f next s ≡ true → Free (wordOf (nodes k f)) next s
+  free-tells : (s : ℕ) → Tells (isFree f next s) (Free (wordOf (nodes k f)) next s)
   unfolding isFree wordOf
-  free-is s e =
-      let p = both (isGiven next s) (ltb (factOf f s own) floor) e in
-      let g = given-is next s (p .0) in
-      record {
-        given = cases (ℕ-discrete s 0) (λ z. absurd (g .0 z)) (λ z. omega arith);
-        below = g .1;
-        dead = ltb-true (factOf f s own) floor (p .1);
-      }
+  free-tells s =
+      tells-map (λ r. let d = r .0 .0 in record { given = cases (ℕ-discrete s 0) (λ z. absurd (d z)) (λ z. omega arith); below = r .0 .1; dead = r .1 })
+      (λ r. (((λ z. let g = r .given in omega arith), r .below), r .dead))
+      (tells-and (given-tells next s) (λ g. tells-lt (factOf f s own) floor))
 
-  is-free : (s : ℕ) → Free (wordOf (nodes k f)) next s → isFree f next s ≡ true
-  unfolding isFree wordOf
-  is-free s r =
-      let g = r .given in
-      both-yes (isGiven next s) (ltb (factOf f s own) floor) (is-given next s (λ z. omega arith) (r .below)) (lt-ltb (factOf f s own) floor (r .dead))
+  walk-tells : (m at : ℕ) → Tells (walkBy f next m at) (Walk (wordOf (nodes k f)) next m at)
+  unfolding walkBy wordOf
+  walk-tells zero at = tells-eq at 0
+  walk-tells (suc m) at = tells-and (free-tells at) (λ r. walk-tells m (factOf f at link))
 
-  pub walked : (m at : ℕ) → walkBy f next m at ≡ true → Walk (wordOf (nodes k f)) next m at
-  unfolding walkBy choose
-  walked zero at e = eqb-true at 0 e
-  walked (suc m) at e =
-      let w : wordOf (nodes k f) at link ≡ factOf f at link = word-fact (nodes k f) at link (omega arith) in
-      let p = both (isFree f next at) (walkBy f next m (factOf f at link)) e in
-      (free-is at (p .0), subst (λ (x : ℕ). Walk (wordOf (nodes k f)) next m x) (sym w) (walked m (factOf f at link) (p .1)))
-
-  pub walk-by : (m at : ℕ) → Walk (wordOf (nodes k f)) next m at → walkBy f next m at ≡ true
-  unfolding walkBy choose
-  walk-by zero at w = eq-eqb at 0 w
-  walk-by (suc m) at w =
-      let q : wordOf (nodes k f) at link ≡ factOf f at link = word-fact (nodes k f) at link (omega arith) in
-      both-yes (isFree f next at) (walkBy f next m (factOf f at link)) (is-free at (w .0))
-      (walk-by m (factOf f at link) (subst (λ (x : ℕ). Walk (wordOf (nodes k f)) next m x) q (w .1)))
+-- the live slots are counted right, and the chain of the freed is as long as it must be, and ends
+pub state-tells : (a : Arena) (k f : List ℕ) → Tells (stateFine a f)
+    ((a .live ≡ liveCount (a .capacity) (wordOf (nodes k f)))
+    × ((a .live < a .next) × Walk (wordOf (nodes k f)) (a .next) (a .next - 1 - a .live) (a .top)))
+unfolding stateFine
+state-tells a k f =
+    let e : liveCount (a .capacity) (wordOf (nodes k f)) ≡ liveCount (a .capacity) (factOf f) = live-keep (a .capacity) (factOf f) (wordOf (nodes k f)) (λ b. word-fact (nodes k f) b own (omega arith)) in
+    tells-and (tells-map (λ q. sym (e ∙ q)) (λ q. sym e ∙ sym q) (tells-eq (liveCount (a .capacity) (factOf f)) (a .live)))
+    (λ l. tells-and (tells-lt (a .live) (a .next)) (λ r. walk-tells k f (a .next) (a .next - 1 - a .live) (a .top)))

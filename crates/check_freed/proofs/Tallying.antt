@@ -18,8 +18,8 @@ use Rattle.nodes.proofs.Counts.{floor-pos, live-inj, live-same}
 use Rattle.nodes.proofs.Sums.{cases, occ-nil, occ-cons, occ-here, occ-there, occ-length, sumTo-ext, tabFrom-length}
 use Rattle.find_hash.specs.Hash.{wrap}
 use Rattle.check_freed.specs.Models.{allIn, bumped, bumps, countTo, cleared, clearTo, agreeAt}
-use Rattle.check_freed.proofs.Ladders.{choose-yes, choose-no}
-use Rattle.check_freed.proofs.Passes.{pass-true, true-pass}
+use Rattle.check_freed.proofs.Ladders.{Tells, tells-eq, tells-le, tells-map, tells-then}
+use Rattle.check_freed.proofs.Passes.{tells-all}
 
 wrap-less : (x : ℕ) → x < 2 ^ 64 - 1 → wrap (x + 1) ≡ x + 1
 unfolding wrap
@@ -249,17 +249,9 @@ module _ (k : List ℕ) where
 
   -- ---- what the comparison says
 
-  agree-words : (f : List ℕ) (s : ℕ) → agreeAt f s ≡ true → floor ≤ U f s own → U f s places ≡ U f s link
+  agree-tells : (f : List ℕ) (s : ℕ) → Tells (agreeAt f s) (floor ≤ U f s own → U f s places ≡ U f s link)
   unfolding agreeAt wordOf
-  agree-words f s e h =
-      eqb-true (factOf f s places) (factOf f s link) (sym (choose-yes (leb floor (factOf f s own)) (eqb (factOf f s places) (factOf f s link)) true (le-leb floor (factOf f s own) h)) ∙ e)
-
-  words-agree : (f : List ℕ) (s : ℕ) → (floor ≤ U f s own → U f s places ≡ U f s link) → agreeAt f s ≡ true
-  unfolding agreeAt wordOf
-  words-agree f s h = cases (decLt (factOf f s own) floor)
-      (λ d. choose-no (leb floor (factOf f s own)) (eqb (factOf f s places) (factOf f s link)) true (lt-leb floor (factOf f s own) d))
-      (λ d. choose-yes (leb floor (factOf f s own)) (eqb (factOf f s places) (factOf f s link)) true (le-leb floor (factOf f s own) (omega arith))
-      ∙ eq-eqb (factOf f s places) (factOf f s link) (h (omega arith)))
+  agree-tells f s = tells-then (tells-le floor (factOf f s own)) (λ l. tells-eq (factOf f s places) (factOf f s link))
 
   module _ (c : ℕ) (f : List ℕ) (eight : length k ≡ 8 * c) (seven : length f ≡ 7 * c) (small : c ≤ 65536)
       (h : (b : ℕ) → b < c → Alive c (U f) (kidsOf 8 (kidOf k) b))
@@ -290,14 +282,11 @@ module _ (k : List ℕ) where
         (count-tally c f eight seven small h (U f s own) x (ap (λ (b : ℕ). U f b link) e ∙ plain s m j .0))
 
     -- the code's answer: the places of every live node are its tally
-    pub tallies-law : (allIn 0 c (agreeAt (countTo k f c)) ≡ true) ↔ ((s : ℕ) → s < c → floor ≤ U f s own → U f s places ≡ tally 8 c (U f) (U f s own))
-    tallies-law = (
-      (λ e s m j.
-          let w = scratch .words s own (omega arith) in
-          sym (scratch .words s places (omega arith)) ∙ agree-words (countTo k f c) s (pass-true (agreeAt (countTo k f c)) 0 c e s (omega arith) m) (omega arith) ∙ counted s m j),
-      (λ g. true-pass (agreeAt (countTo k f c)) 0 c
-          (λ s a m. words-agree (countTo k f c) s
-          (λ j.
-          let w = scratch .words s own (omega arith) in
-          scratch .words s places (omega arith) ∙ g s m (omega arith) ∙ sym (counted s m (omega arith))))),
-    )
+    pub tallies-law : Tells (allIn 0 c (agreeAt (countTo k f c))) ((s : ℕ) → s < c → floor ≤ U f s own → U f s places ≡ tally 8 c (U f) (U f s own))
+    tallies-law =
+        tells-map (λ q s m. q s (omega arith) m) (λ q s a m. q s m)
+        (tells-all (agreeAt (countTo k f c)) (λ s. floor ≤ U f s own → U f s places ≡ tally 8 c (U f) (U f s own)) 0 c
+        (λ s a m.
+        let w = scratch .words s own (omega arith) in
+        let p = scratch .words s places (omega arith) in
+        tells-map (λ r j. sym p ∙ r (omega arith) ∙ counted s m j) (λ r j. p ∙ r (omega arith) ∙ sym (counted s m (omega arith))) (agree-tells (countTo k f c) s)))

@@ -8,46 +8,37 @@ use lib.ListN.{length}
 use Rattle.basics.specs.Limits.{kidWords}
 use Rattle.basics.specs.Pick.{pick}
 use Rattle.nodes.specs.Words.{own, value, places, link, nodes, kidOf, factOf, factPut, wordOf, slot, floor}
-use Rattle.nodes.specs.Tally.{kidsOf, liveCount}
+use Rattle.nodes.specs.Tally.{tabFrom, kidsOf, liveCount}
 use Rattle.find_hash.specs.Hash.{wrap}
 use Rattle.find.specs.Cells.{cell, cellOf}
+use Rattle.arena.specs.Calls.{allOf}
 use Rattle.arena.specs.declared.Arena.{Arena}
 
--- ## Tests and passes
+-- ## Passes
 
--- x if b, else y
-unfoldable pub choose : Bool → Bool → Bool → Bool
-choose true x y = x
-choose false x y = y
-
--- is p true of each of the m numbers from i on?
-unfoldable pub allN : ℕ → ℕ → (ℕ → Bool) → Bool
-allN zero i p = true
-allN (suc m) i p = let rest = allN m (suc i) p in choose (p i) rest false
-
--- of each number from i to the one before m?
+-- is p true of each number from i to the one before m?
 unfoldable pub allIn : ℕ → ℕ → (ℕ → Bool) → Bool
-allIn i m p = allN (m - i) i p
+allIn i m p = allOf p (tabFrom (m - i) i (λ j. j))
 
 -- ## The freed slots
 
 -- slot s was given out
 unfoldable pub isGiven : ℕ → ℕ → Bool
-isGiven next s = choose (eqb s 0) false (ltb s next)
+isGiven next s = pick (eqb s 0) false (ltb s next)
 
 unfoldable pub isFree : List ℕ → ℕ → ℕ → Bool
-isFree f next s = choose (isGiven next s) (ltb (factOf f s own) floor) false
+isFree f next s = pick (isGiven next s) (ltb (factOf f s own) floor) false
 
 -- m steps from `at`, each at a freed slot, end
 unfoldable pub walkBy : List ℕ → ℕ → ℕ → ℕ → Bool
 walkBy f next zero at = eqb at 0
-walkBy f next (suc m) at = let rest = walkBy f next m (factOf f at link) in choose (isFree f next at) rest false
+walkBy f next (suc m) at = let rest = walkBy f next m (factOf f at link) in pick (isFree f next at) rest false
 
 -- the number of live slots is right, and the chain of the freed has as many steps as there are slots given out and not live
 unfoldable pub stateFine : Arena → List ℕ → Bool
 stateFine a f =
-    choose (eqb (liveCount (a .capacity) (factOf f)) (a .live))
-    (choose (ltb (a .live) (a .next)) (walkBy f (a .next) (a .next - 1 - a .live) (a .top)) false) false
+    pick (eqb (liveCount (a .capacity) (factOf f)) (a .live))
+    (pick (ltb (a .live) (a .next)) (walkBy f (a .next) (a .next - 1 - a .live) (a .top)) false) false
 
 -- ## The finding table
 
@@ -56,22 +47,22 @@ unfoldable pub cellFor : List ℕ → List ℕ → List ℕ → ℕ → ℕ → 
 cellFor k f e c s = cellOf e c (wordOf (nodes k f)) (kidsOf kidWords (kidOf k) s) (factOf f s value)
 
 unfoldable pub liveAt : List ℕ → ℕ → ℕ → Bool
-liveAt f c s = choose (ltb s c) (leb floor (factOf f s own)) false
+liveAt f c s = pick (ltb s c) (leb floor (factOf f s own)) false
 
 -- slot s is live, and the search for its content ends at cell p
 unfoldable pub namedAt : List ℕ → List ℕ → List ℕ → ℕ → ℕ → ℕ → Bool
-namedAt k f e c s p = choose (liveAt f c s) (eqb (cellFor k f e c s) p) false
+namedAt k f e c s p = pick (liveAt f c s) (eqb (cellFor k f e c s) p) false
 
 -- cell p is empty, or where the search for the live slot that it names ends
 unfoldable pub cellFine : List ℕ → List ℕ → List ℕ → ℕ → ℕ → Bool
-cellFine k f e c p = choose (eqb (cell e p) 0) true (namedAt k f e c (cell e p) p)
+cellFine k f e c p = pick (eqb (cell e p) 0) true (namedAt k f e c (cell e p) p)
 
 -- slot s is not live, or the search for its content ends at it
 unfoldable pub foundAt : List ℕ → List ℕ → List ℕ → ℕ → ℕ → Bool
-foundAt k f e c s = choose (liveAt f c s) (eqb (cell e (cellFor k f e c s)) s) true
+foundAt k f e c s = pick (liveAt f c s) (eqb (cell e (cellFor k f e c s)) s) true
 
 unfoldable pub findFine : Arena → List ℕ → List ℕ → List ℕ → Bool
-findFine a k f e = choose (allIn 0 (length e) (cellFine k f e (a .capacity))) (allIn 0 (a .capacity) (foundAt k f e (a .capacity))) false
+findFine a k f e = pick (allIn 0 (length e) (cellFine k f e (a .capacity))) (allIn 0 (a .capacity) (foundAt k f e (a .capacity))) false
 
 -- ## The tally of all nodes in one pass: a counter in the link word of live slots
 
@@ -98,4 +89,4 @@ clearTo f (suc b) = cleared (clearTo f b) b
 
 -- slot s is not live, or its counter equals its places
 unfoldable pub agreeAt : List ℕ → ℕ → Bool
-agreeAt f s = choose (leb floor (factOf f s own)) (eqb (factOf f s places) (factOf f s link)) true
+agreeAt f s = pick (leb floor (factOf f s own)) (eqb (factOf f s places) (factOf f s link)) true

@@ -7,4 +7,4 @@ pub branch-named-spec : {M : Type 1} → statement M
 unfolding branchNamed
 branch-named-spec =
     tie.close
-    (tie.spec (λ c κs. search needs) (λ c κs. search needs) (λ c κs. search needs) (λ c. cc))
+    (tie.spec (λ c κs. search needs) (λ c κs. search needs) (λ c. cc))

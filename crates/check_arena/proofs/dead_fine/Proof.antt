@@ -5,16 +5,16 @@ use Prim.Native.Nat.{ℕ, _%_, _^_}
 use mathlib.Core.Path.{_≡_, refl, ap}
 use mathlib.Core.Bool.{Bool, false}
 use lib.Dec.{eqb}
-use Rattle.check_freed.specs.Models.{choose}
+use Rattle.basics.specs.Pick.{pick}
 use Rattle.check_freed.proofs.Ladders.{eq-yes, ne-left}
 use Rattle.check_arena.proofs.dead_fine.Statement.{statement}
 use Rattle.check_arena.proofs.dead_fine.Tie as tie
 
 module _ (x z : Bool) (a w : ℕ) (e : w ≡ a) where
-  sealed : w % 2 ^ 32 ≡ 0 → z ≡ x → z ≡ choose (eqb (a % 2 ^ 32) 0) x false
+  sealed : w % 2 ^ 32 ≡ 0 → z ≡ x → z ≡ pick (eqb (a % 2 ^ 32) 0) x false
   sealed h k = eq-yes x false z (a % 2 ^ 32) 0 (w % 2 ^ 32) 0 (ap (λ (y : ℕ). y % 2 ^ 32) e) refl h k
 
-  unsealed : (w % 2 ^ 32 ≡ 0 → ⊥) → z ≡ false → z ≡ choose (eqb (a % 2 ^ 32) 0) x false
+  unsealed : (w % 2 ^ 32 ≡ 0 → ⊥) → z ≡ false → z ≡ pick (eqb (a % 2 ^ 32) 0) x false
   unsealed h k = ne-left x false z (a % 2 ^ 32) 0 (w % 2 ^ 32) (ap (λ (y : ℕ). y % 2 ^ 32) e) h k
 
 ruleset mine = (ladder, sealed, unsealed)

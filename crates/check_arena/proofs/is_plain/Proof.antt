@@ -17,5 +17,5 @@ pub is-plain-spec : {M : Type 1} → statement M
 unfolding plainAt
 is-plain-spec =
     tie.close
-    (tie.spec (λ c κs. search needs) (λ c. search mine depth 12) (λ c κs. search needs) (λ c κs. search needs)
-    (λ c. search mine depth 12))
+    (tie.spec (λ c κs. search needs) (λ c. search mine depth 12) (λ c κs. search needs) (λ c. search mine depth 12) (λ c κs. search needs)
+    (λ c κs. search needs) (λ c. search mine depth 12))

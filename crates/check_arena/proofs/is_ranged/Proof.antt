@@ -1,4 +1,4 @@
-use Rattle.check_freed.proofs.Ladders.{plain}
+use Rattle.basics.proofs.Rungs.{rungs}
 use Rattle.check_arena.specs.Models.{rangedBy}
 use Rattle.check_arena.proofs.is_ranged.Statement.{statement}
 use Rattle.check_arena.proofs.is_ranged.Tie as tie
@@ -7,4 +7,4 @@ pub is-ranged-spec : {M : Type 1} → statement M
 unfolding rangedBy
 is-ranged-spec =
     tie.close
-    (tie.spec (λ c. search plain depth 16) (λ c. search plain depth 16))
+    (tie.spec (λ c. search rungs) (λ c. search rungs))

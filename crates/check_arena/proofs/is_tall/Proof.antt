@@ -7,8 +7,8 @@ use lib.Dec.{eqb}
 use Rattle.check_arena.proofs.is_tall.Statement.{statement}
 use Rattle.check_arena.proofs.is_tall.Tie as tie
 
-same-less : (a b w v : ℕ) → w ≡ a → v ≡ b → eqb (w - 1) v ≡ eqb (a - 1) b
-same-less a b w v e d = rw (e, d)
+same-less : (a b w : ℕ) → w ≡ a → eqb (w - 1) b ≡ eqb (a - 1) b
+same-less a b w e = rw e
 
 ruleset mine = (ladder, same-less)
 
@@ -17,4 +17,4 @@ unfolding tallAt
 is-tall-spec =
     tie.close
     (tie.spec (λ c κs. search needs) (λ c. search mine depth 12) (λ c. search mine depth 12) (λ c. search needs)
-    (λ c κs. search needs) (λ c. search mine depth 12))
+    (λ c. search mine depth 12))

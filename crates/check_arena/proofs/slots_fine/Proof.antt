@@ -8,10 +8,10 @@ use Rattle.check_arena.proofs.slots_fine.Statement.{statement}
 use Rattle.check_arena.proofs.slots_fine.Tie as tie
 
 abbrev Inv-loop : tie.InvT-loop
-Inv-loop kids facts arena n tallest s₀ s = allIn 0 (arena .capacity) (slotFine kids facts (arena .capacity) (arena .next) n tallest) ≡ allIn s (arena .capacity) (slotFine kids facts (arena .capacity) (arena .next) n tallest)
+Inv-loop kids facts arena s₀ s = allIn 0 (arena .capacity) (slotFine kids facts (arena .capacity) (arena .next)) ≡ allIn s (arena .capacity) (slotFine kids facts (arena .capacity) (arena .next))
 
 abbrev μ-loop : tie.MeasureT-loop
-μ-loop kids facts arena n tallest s₀ s = (arena .capacity) - s
+μ-loop kids facts arena s₀ s = (arena .capacity) - s
 
 pub slots-fine-spec : {M : Type 1} → statement M
 slots-fine-spec =

@@ -6,24 +6,23 @@ use mathlib.Core.Bool.{Bool, true, false, not}
 use lib.Dec.{eqb}
 use borrow.Author.Tests.{not-true, not-false}
 use native.Mathlib.Omega.{arith}
+use Rattle.basics.specs.Pick.{pick}
 use Rattle.nodes.specs.Words.{link, factOf}
-use Rattle.check_freed.specs.Models.{choose, isFree, walkBy}
+use Rattle.check_freed.specs.Models.{isFree, walkBy}
 use Rattle.check_freed.proofs.walks.Statement.{statement}
 use Rattle.check_freed.proofs.walks.Tie as tie
 
 module _ (f : List ℕ) (next : ℕ) where
-  walk-on : (m at : ℕ) → 0 < m → walkBy f next m at ≡ choose (isFree f next at) (walkBy f next (m - 1) (factOf f at link)) false
-  unfolding walkBy choose
+  walk-on : (m at : ℕ) → 0 < m → walkBy f next m at ≡ pick (isFree f next at) (walkBy f next (m - 1) (factOf f at link)) false
+  unfolding walkBy
   walk-on zero at h = absurd (omega arith)
   walk-on (suc m) at h = let e : suc m - 1 ≡ m = omega arith in rw e
 
   module _ (steps top m at : ℕ) (e : walkBy f next steps top ≡ walkBy f next m at) where
     step : (t : Bool) (w : ℕ) → 0 < m → t ≡ isFree f next at → not t ≡ false → w ≡ factOf f at link → walkBy f next steps top ≡ walkBy f next (m - 1) w
-    unfolding choose
     step t w h d y q = e ∙ walk-on m at h ∙ rw (sym d ∙ not-false t y, q)
 
     stop : (t : Bool) → 0 < m → t ≡ isFree f next at → not t ≡ true → false ≡ walkBy f next steps top
-    unfolding choose
     stop t h d y = sym (e ∙ walk-on m at h ∙ rw (sym d ∙ not-true t y))
 
     last : m ≤ 0 → eqb at 0 ≡ walkBy f next steps top
