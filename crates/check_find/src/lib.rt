@@ -10,7 +10,8 @@ use nodes::children;
 use nodes::fact;
 ghost use mathlib.Core.Path.{_≡_};
 ghost use lib.ListN.{length, getD};
-ghost use Rattle.check_freed.specs.Models.{allIn, cellFor, liveAt, namedAt, cellFine, foundAt, findFine};
+ghost use Rattle.nodes.specs.Lent.{wordsIn};
+ghost use Rattle.check_freed.specs.Models.{allIn, seat, liveAt, namedAt, cellFine, foundAt, findFine};
 
 // Slot s has a live node.
 fn lives(facts: &[u64], capacity: usize, s: usize) -> bool
@@ -24,7 +25,7 @@ fn lives(facts: &[u64], capacity: usize, s: usize) -> bool
 
 // Searches for the content of slot s.
 fn search_for(kids: &[u64], facts: &[u64], find: &[u16], capacity: usize, s: usize) -> Found
-    ensures { λ r. ⌜ (r .cell ≡ cellFor (now (kids .entry)) (now (facts .entry)) (now (find .entry)) capacity s) × (r .slot ≡ getD (now (find .entry)) (cellFor (now (kids .entry)) (now (facts .entry)) (now (find .entry)) capacity s) 0) ⌝ }
+    ensures { λ r. ⌜ (r .cell ≡ seat (now (find .entry)) capacity (wordsIn kids facts) s) × (r .slot ≡ getD (now (find .entry)) (seat (now (find .entry)) capacity (wordsIn kids facts) s) 0) ⌝ }
 {
     search(
         find,

@@ -9,7 +9,7 @@ use native.Mathlib.Omega.{arith}
 use lib.Dec.{eqb, leb, ltb}
 use lib.ListN.{length, getD, List·getD-eq-default}
 use borrow.Author.Tests.{eq-eqb, ne-eqb, eqb-true, eqb-false, le-leb, leb-true, lt-ltb, ltb-true}
-use Rattle.nodes.specs.Words.{Words, own, value, link, nodes, factOf, wordOf, floor}
+use Rattle.nodes.specs.Words.{Words, own, value, link, nodes, kidOf, factOf, wordOf, floor}
 use Rattle.nodes.specs.Tally.{kidsOf, tabFrom, Free, liveCount}
 use Rattle.nodes.proofs.Access.{word-fact, kids-word}
 use Rattle.nodes.proofs.Freeing.{live-keep}
@@ -20,7 +20,7 @@ use Rattle.find.specs.Content.{contentIs, homeAt}
 use Rattle.find.proofs.Contents.{content-true, content-words}
 use Rattle.find.proofs.Probing.{Ended, ended}
 use Rattle.arena.specs.declared.Arena.{Arena}
-use Rattle.check_freed.specs.Models.{allIn, isGiven, isFree, walkBy, stateFine, cellFor, liveAt, namedAt, cellFine, foundAt, findFine}
+use Rattle.check_freed.specs.Models.{allIn, isGiven, isFree, walkBy, stateFine, seat, liveAt, namedAt, cellFine, foundAt, findFine}
 use Rattle.check_freed.proofs.Ladders.{Tells, tells-eq, tells-le, tells-lt, tells-map, tells-and, tells-then, tells-else, tells-not}
 use Rattle.check_freed.proofs.Passes.{tells-all}
 
@@ -56,24 +56,20 @@ module _ (W : Words) (s : ℕ) where
 -- ---- the finding table
 
 module _ (e : List ℕ) (c : ℕ) (W : Words) where
-  -- where the search for the content of slot s ends
-  abbrev pub seat : ℕ → ℕ
-  seat s = cellOf e c W (kidsOf 8 W s) (W s value)
-
-  pub seat-probe : (s : ℕ) → seat s ≡ probe (alike W s) e (homeAt c W s)
+  pub seat-probe : (s : ℕ) → seat e c W s ≡ probe (alike W s) e (homeAt c W s)
   unfolding cellOf homeAt
   seat-probe s = refl
 
   -- each cell that is not empty names a live slot, and is where the search for it ends
   abbrev pub Seated : Type 0
-  Seated = (p : ℕ) → 0 < cell e p → ((cell e p < c) × (floor ≤ W (cell e p) own)) × (seat (cell e p) ≡ p)
+  Seated = (p : ℕ) → 0 < cell e p → ((cell e p < c) × (floor ≤ W (cell e p) own)) × (seat e c W (cell e p) ≡ p)
 
   pub seated-reach : Seated → Reach (homeAt c W) (cell e)
   seated-reach h =
       record {
         above = λ p a. rw (sits p a) at (E p .from);
         filled = λ p q a b d. cases (ℕ-discrete q p) (λ (z : q ≡ p). rw z a) (λ z. E p .passed q b (rw (sits p a) (omega arith)) .0);
-        once = λ p q a b. sym (h p a .1) ∙ ap seat b ∙ h q (omega arith) .1;
+        once = λ p q a b. sym (h p a .1) ∙ ap (seat e c W) b ∙ h q (omega arith) .1;
       }
     where
       sits : (p : ℕ) → 0 < cell e p → probe (alike W (cell e p)) e (homeAt c W (cell e p)) ≡ p
@@ -86,9 +82,10 @@ module _ (k f e : List ℕ) (c : ℕ) where
   abbrev U : Words
   U = wordOf (nodes k f)
 
-  cell-for : (s : ℕ) → cellFor k f e c s ≡ seat e c U s
-  unfolding cellFor
-  cell-for s = ap₂ (λ (ks : List ℕ) (v : ℕ). cellOf e c U ks v) (kids-word 8 (nodes k f) s (omega arith)) (sym (word-fact (nodes k f) s value (omega arith)))
+  -- as the code has the children and the value of slot s
+  pub seat-at : (s : ℕ) (ks : List ℕ) (v p : ℕ) → ks ≡ kidsOf 8 (kidOf k) s → v ≡ factOf f s value → p ≡ cellOf e c U ks v → p ≡ seat e c U s
+  seat-at s ks v p q d h =
+      h ∙ ap₂ (λ (x : List ℕ) (y : ℕ). cellOf e c U x y) (q ∙ kids-word 8 (nodes k f) s (omega arith)) (d ∙ sym (word-fact (nodes k f) s value (omega arith)))
 
   live-tells : (s : ℕ) → Tells (liveAt f c s) ((s < c) × (floor ≤ U s own))
   unfolding liveAt wordOf
@@ -96,7 +93,7 @@ module _ (k f e : List ℕ) (c : ℕ) where
 
   named-tells : (s p : ℕ) → Tells (namedAt k f e c s p) (((s < c) × (floor ≤ U s own)) × (seat e c U s ≡ p))
   unfolding namedAt
-  named-tells s p = tells-and (live-tells s) (λ l. rw (cell-for s) (tells-eq (seat e c U s) p))
+  named-tells s p = tells-and (live-tells s) (λ l. tells-eq (seat e c U s) p)
 
   cell-tells : (p : ℕ) → Tells (cellFine k f e c p) (0 < cell e p → ((cell e p < c) × (floor ≤ U (cell e p) own)) × (seat e c U (cell e p) ≡ p))
   unfolding cellFine
@@ -106,7 +103,7 @@ module _ (k f e : List ℕ) (c : ℕ) where
   unfolding foundAt
   found-tells s l =
       tells-map (λ r h. r (l, h)) (λ r v. r (v .1))
-      (tells-then (live-tells s) (λ v. rw (cell-for s) (tells-eq (cell e (seat e c U s)) s)))
+      (tells-then (live-tells s) (λ v. tells-eq (cell e (seat e c U s)) s))
 
   cells-tell : Tells (allIn 0 (length e) (cellFine k f e c)) (Seated e c U)
   cells-tell =

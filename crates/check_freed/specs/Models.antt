@@ -1,17 +1,17 @@
 -- What the functions here answer, of any tables: mirrors of the code. No reader has to believe them: the public contract of the arena check cites
 -- `WellFormed`. `k`, `f` and `e` are the lists of the tables kids, facts and find, c is the capacity.
 use mathlib.Core.Bool.{Bool, true, false}
-use mathlib.Core.List.{List, [], _∷_}
+use mathlib.Core.List.{List}
 use Prim.Native.Nat.{ℕ, zero, suc, _+_, _-_}
 use lib.Dec.{eqb, leb, ltb}
 use lib.ListN.{length}
 use Rattle.basics.specs.Limits.{kidWords}
 use Rattle.basics.specs.Pick.{pick}
-use Rattle.nodes.specs.Words.{own, value, places, link, nodes, kidOf, factOf, factPut, wordOf, slot, floor}
+use Rattle.nodes.specs.Words.{Words, own, value, places, link, nodes, kidOf, factOf, factPut, wordOf, slot, floor}
 use Rattle.nodes.specs.Tally.{tabFrom, kidsOf, liveCount}
 use Rattle.find_hash.specs.Hash.{wrap}
 use Rattle.find.specs.Cells.{cell, cellOf}
-use Rattle.arena.specs.Calls.{allOf}
+use Rattle.arena.specs.Calls.{allOf, each}
 use Rattle.arena.specs.declared.Arena.{Arena}
 
 -- ## Passes
@@ -19,6 +19,11 @@ use Rattle.arena.specs.declared.Arena.{Arena}
 -- is p true of each number from i to the one before m?
 unfoldable pub allIn : ℕ → ℕ → (ℕ → Bool) → Bool
 allIn i m p = allOf p (tabFrom (m - i) i (λ j. j))
+
+-- g once for each number below b, in order
+unfoldable pub upTo : {A : Type 0} → (A → ℕ → A) → A → ℕ → A
+upTo g x zero = x
+upTo g x (suc b) = g (upTo g x b) b
 
 -- ## The freed slots
 
@@ -43,15 +48,15 @@ stateFine a f =
 -- ## The finding table
 
 -- where the search for the content of slot s ends
-unfoldable pub cellFor : List ℕ → List ℕ → List ℕ → ℕ → ℕ → ℕ
-cellFor k f e c s = cellOf e c (wordOf (nodes k f)) (kidsOf kidWords (kidOf k) s) (factOf f s value)
+abbrev pub seat : List ℕ → ℕ → Words → ℕ → ℕ
+seat e c W s = cellOf e c W (kidsOf kidWords W s) (W s value)
 
 unfoldable pub liveAt : List ℕ → ℕ → ℕ → Bool
 liveAt f c s = pick (ltb s c) (leb floor (factOf f s own)) false
 
 -- slot s is live, and the search for its content ends at cell p
 unfoldable pub namedAt : List ℕ → List ℕ → List ℕ → ℕ → ℕ → ℕ → Bool
-namedAt k f e c s p = pick (liveAt f c s) (eqb (cellFor k f e c s) p) false
+namedAt k f e c s p = pick (liveAt f c s) (eqb (seat e c (wordOf (nodes k f)) s) p) false
 
 -- cell p is empty, or where the search for the live slot that it names ends
 unfoldable pub cellFine : List ℕ → List ℕ → List ℕ → ℕ → ℕ → Bool
@@ -59,7 +64,7 @@ cellFine k f e c p = pick (eqb (cell e p) 0) true (namedAt k f e c (cell e p) p)
 
 -- slot s is not live, or the search for its content ends at it
 unfoldable pub foundAt : List ℕ → List ℕ → List ℕ → ℕ → ℕ → Bool
-foundAt k f e c s = pick (liveAt f c s) (eqb (cell e (cellFor k f e c s)) s) true
+foundAt k f e c s = pick (liveAt f c s) (eqb (cell e (seat e c (wordOf (nodes k f)) s)) s) true
 
 unfoldable pub findFine : Arena → List ℕ → List ℕ → List ℕ → Bool
 findFine a k f e = pick (allIn 0 (length e) (cellFine k f e (a .capacity))) (allIn 0 (a .capacity) (foundAt k f e (a .capacity))) false
@@ -70,22 +75,21 @@ findFine a k f e = pick (allIn 0 (length e) (cellFine k f e (a .capacity))) (all
 unfoldable pub bumped : List ℕ → ℕ → List ℕ
 bumped f y = pick (eqb y 0) f (factPut f (slot y) link (wrap (factOf f (slot y) link + 1)))
 
-unfoldable pub bumps : List ℕ → List ℕ → List ℕ
-bumps f [] = f
-bumps f (y ∷ ys) = bumps (bumped f y) ys
+-- the children of slot b counted
+unfoldable pub kidsBumped : List ℕ → List ℕ → ℕ → List ℕ
+kidsBumped k f b = each bumped f (kidsOf kidWords (kidOf k) b)
 
--- the children of the slots below b counted
-unfoldable pub countTo : List ℕ → List ℕ → ℕ → List ℕ
-countTo k f zero = f
-countTo k f (suc b) = bumps (countTo k f b) (kidsOf kidWords (kidOf k) b)
+-- those of the slots below b
+abbrev pub countTo : List ℕ → List ℕ → ℕ → List ℕ
+countTo k f b = upTo (kidsBumped k) f b
 
 -- the counter of slot s set to 0 again, if it is live
-unfoldable pub cleared : List ℕ → ℕ → List ℕ
-cleared f s = pick (leb floor (factOf f s own)) (factPut f s link 0) f
+unfoldable pub unlinked : List ℕ → ℕ → List ℕ
+unlinked f s = pick (leb floor (factOf f s own)) (factPut f s link 0) f
 
-unfoldable pub clearTo : List ℕ → ℕ → List ℕ
-clearTo f zero = f
-clearTo f (suc b) = cleared (clearTo f b) b
+-- those of the slots below b
+abbrev pub clearTo : List ℕ → ℕ → List ℕ
+clearTo f b = upTo unlinked f b
 
 -- slot s is not live, or its counter equals its places
 unfoldable pub agreeAt : List ℕ → ℕ → Bool

@@ -14,7 +14,8 @@ use std::num::wrapping_add_u64;
 ghost use mathlib.Core.Path.{_≡_};
 ghost use Prim.Native.Nat.{_+_};
 ghost use Rattle.find_hash.specs.Hash.{wrap};
-ghost use Rattle.check_freed.specs.Models.{allIn, bumped, bumps, countTo, cleared, clearTo, agreeAt};
+ghost use Rattle.arena.specs.Calls.{each};
+ghost use Rattle.check_freed.specs.Models.{allIn, bumped, countTo, unlinked, clearTo, agreeAt};
 
 // One more. (A counter never comes near 2^64.)
 fn more(x: u64) -> u64
@@ -36,7 +37,7 @@ fn bump(facts: &mut [u64], y: u64)
 
 // The eight child places of a slot.
 fn bump_all(facts: &mut [u64], ks: Kids)
-    ensures { λ _. ⌜ now (facts .exit) ≡ bumps (now (facts .entry)) ks ⌝ }
+    ensures { λ _. ⌜ now (facts .exit) ≡ each bumped (now (facts .entry)) ks ⌝ }
 {
     let mut i: usize = 0;
     while i < KID_WORDS {
@@ -58,7 +59,7 @@ fn count_all(kids: &[u64], facts: &mut [u64], c: usize)
 
 // Sets the counter of slot s to 0 again, if it is live.
 fn clear_link(facts: &mut [u64], s: usize)
-    ensures { λ _. ⌜ now (facts .exit) ≡ cleared (now (facts .entry)) s ⌝ }
+    ensures { λ _. ⌜ now (facts .exit) ≡ unlinked (now (facts .entry)) s ⌝ }
 {
     if FLOOR <= fact(facts, s, OWN) {
         put_fact(facts, s, LINK, 0);

@@ -1,4 +1,3 @@
--- The loop: what is left of the eight answers for all of them.
 use borrow.Author.Needs.{needs}
 use Prim.Native.Nat.{ℕ, _-_, _≤_}
 use mathlib.Core.Path.{_≡_, refl}
@@ -13,6 +12,7 @@ use Rattle.check_arena.proofs.all_empty.Tie as tie
 abbrev none : ℕ → Bool
 none k = eqb k 0
 
+-- invariant: the eight pass if those from number i on do
 abbrev Inv-loop : tie.InvT-loop
 Inv-loop ks i₀ i = (i ≤ 8) × (length ks ≡ 8) × (allOf none ks ≡ allOf none (drop i ks))
 

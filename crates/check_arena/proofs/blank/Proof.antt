@@ -7,12 +7,12 @@ use borrow.Author.Tests.{eq-eqb, ne-eqb}
 use Rattle.nodes.specs.Words.{value, link, factOf}
 use Rattle.check_freed.specs.Models.{allIn}
 use Rattle.check_arena.specs.Models.{factZero, blankAt}
-use Rattle.check_freed.proofs.Passes.{pass-next, pass-halt, pass-end}
+use Rattle.check_freed.proofs.Passes.{Passed, pass-next, pass-halt, pass-end}
 use Rattle.check_arena.proofs.blank.Statement.{statement}
 use Rattle.check_arena.proofs.blank.Tie as tie
 
-module _ (f : List ℕ) (s i w : ℕ) (e : allIn value link (factZero f s) ≡ allIn i link (factZero f s)) (d : w ≡ factOf f s i) where
-  next : w ≡ 0 → i < link → allIn value link (factZero f s) ≡ allIn (i + 1) link (factZero f s)
+module _ (f : List ℕ) (s i w : ℕ) (e : Passed (factZero f s) value i link) (d : w ≡ factOf f s i) where
+  next : w ≡ 0 → i < link → Passed (factZero f s) value (i + 1) link
   unfolding factZero
   next z l = pass-next (factZero f s) value i link e (eq-eqb (factOf f s i) 0 (sym d ∙ z)) l
 
@@ -20,8 +20,9 @@ module _ (f : List ℕ) (s i w : ℕ) (e : allIn value link (factZero f s) ≡ a
   unfolding factZero
   halt z l = pass-halt (factZero f s) value i link e (ne-eqb (factOf f s i) 0 (λ q. z (d ∙ q))) l
 
+-- invariant: the words from `value` to before `link` are 0 if those from f on are
 abbrev Inv-loop : tie.InvT-loop
-Inv-loop facts s f₀ f = allIn value link (factZero facts s) ≡ allIn f link (factZero facts s)
+Inv-loop facts s f₀ f = Passed (factZero facts s) value f link
 
 abbrev μ-loop : tie.MeasureT-loop
 μ-loop facts s f₀ f = link - f

@@ -1,4 +1,3 @@
--- The loop: what is left of the eight answers for all of them.
 use borrow.Author.Needs.{needs}
 use Prim.Native.Nat.{_-_, _≤_}
 use mathlib.Core.Path.{_≡_, refl}
@@ -9,6 +8,7 @@ use Rattle.arena.proofs.Eight.{all-step, all-stop, all-last}
 use Rattle.check_arena.proofs.each_live.Statement.{statement}
 use Rattle.check_arena.proofs.each_live.Tie as tie
 
+-- invariant: the eight pass if those from number i on do
 abbrev Inv-loop : tie.InvT-loop
 Inv-loop capacity facts ks i₀ i =
     (i ≤ 8) × (length ks ≡ 8) × (allLive capacity (factOf facts) ks ≡ allLive capacity (factOf facts) (drop i ks))

@@ -1,14 +1,14 @@
 use borrow.Author.Needs.{needs}
 use Prim.Native.Nat.{_-_}
-use mathlib.Core.Path.{_≡_, refl}
-use Rattle.check_freed.specs.Models.{allIn}
+use mathlib.Core.Path.{refl}
 use Rattle.check_arena.specs.Models.{slotFine}
-use Rattle.check_freed.proofs.Passes.{pass-on, pass-stop, pass-end}
+use Rattle.check_freed.proofs.Passes.{Passed, pass-on, pass-stop, pass-end}
 use Rattle.check_arena.proofs.slots_fine.Statement.{statement}
 use Rattle.check_arena.proofs.slots_fine.Tie as tie
 
+-- invariant: every slot is fine if those from s on are
 abbrev Inv-loop : tie.InvT-loop
-Inv-loop kids facts arena s₀ s = allIn 0 (arena .capacity) (slotFine kids facts (arena .capacity) (arena .next)) ≡ allIn s (arena .capacity) (slotFine kids facts (arena .capacity) (arena .next))
+Inv-loop kids facts arena s₀ s = Passed (slotFine kids facts (arena .capacity) (arena .next)) 0 s (arena .capacity)
 
 abbrev μ-loop : tie.MeasureT-loop
 μ-loop kids facts arena s₀ s = (arena .capacity) - s

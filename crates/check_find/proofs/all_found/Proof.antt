@@ -1,13 +1,14 @@
 use borrow.Author.Needs.{needs}
 use Prim.Native.Nat.{_-_}
-use mathlib.Core.Path.{_≡_, refl}
-use Rattle.check_freed.specs.Models.{allIn, foundAt}
-use Rattle.check_freed.proofs.Passes.{pass-on, pass-stop, pass-end}
+use mathlib.Core.Path.{refl}
+use Rattle.check_freed.specs.Models.{foundAt}
+use Rattle.check_freed.proofs.Passes.{Passed, pass-on, pass-stop, pass-end}
 use Rattle.check_find.proofs.all_found.Statement.{statement}
 use Rattle.check_find.proofs.all_found.Tie as tie
 
+-- invariant: every live slot is found if those from s on are
 abbrev Inv-loop : tie.InvT-loop
-Inv-loop kids facts find capacity s₀ s = allIn 0 capacity (foundAt kids facts find capacity) ≡ allIn s capacity (foundAt kids facts find capacity)
+Inv-loop kids facts find capacity s₀ s = Passed (foundAt kids facts find capacity) 0 s capacity
 
 abbrev μ-loop : tie.MeasureT-loop
 μ-loop kids facts find capacity s₀ s = capacity - s

@@ -22,6 +22,7 @@ module _ (f : List ℕ) where
   last : (n s c : ℕ) → n ≡ liveCount s (factOf f) → s ≤ c → c ≤ s → n ≡ liveCount c (factOf f)
   last n s c e a b = let q : s ≡ c = omega arith in rw q at e
 
+-- invariant: `live` of the slots below s live
 abbrev Inv-loop : tie.InvT-loop
 Inv-loop facts c live₀ s₀ live s = (s ≤ c) × (live ≤ s) × (live ≡ liveCount s (factOf facts))
 

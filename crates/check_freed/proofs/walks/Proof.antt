@@ -29,6 +29,7 @@ module _ (f : List ℕ) (next : ℕ) where
     unfolding walkBy
     last h = let z : m ≡ 0 = omega arith in sym (e ∙ rw z)
 
+-- invariant: the whole walk ends as it must if the `left` steps from `at` on do
 abbrev Inv-loop : tie.InvT-loop
 Inv-loop facts next steps top at₀ left₀ at left = walkBy facts next steps top ≡ walkBy facts next left at
 

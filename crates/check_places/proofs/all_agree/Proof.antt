@@ -1,13 +1,14 @@
 use borrow.Author.Needs.{needs}
 use Prim.Native.Nat.{_-_}
-use mathlib.Core.Path.{_≡_, refl}
-use Rattle.check_freed.specs.Models.{allIn, agreeAt}
-use Rattle.check_freed.proofs.Passes.{pass-on, pass-stop, pass-end}
+use mathlib.Core.Path.{refl}
+use Rattle.check_freed.specs.Models.{agreeAt}
+use Rattle.check_freed.proofs.Passes.{Passed, pass-on, pass-stop, pass-end}
 use Rattle.check_places.proofs.all_agree.Statement.{statement}
 use Rattle.check_places.proofs.all_agree.Tie as tie
 
+-- invariant: every slot agrees if those from s on do
 abbrev Inv-loop : tie.InvT-loop
-Inv-loop facts c s₀ s = allIn 0 c (agreeAt facts) ≡ allIn s c (agreeAt facts)
+Inv-loop facts c s₀ s = Passed (agreeAt facts) 0 s c
 
 abbrev μ-loop : tie.MeasureT-loop
 μ-loop facts c s₀ s = c - s

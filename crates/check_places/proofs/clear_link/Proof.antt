@@ -5,16 +5,16 @@ use mathlib.Core.Path.{_≡_}
 use mathlib.Core.List.{List}
 use borrow.Author.Tests.{le-leb, lt-leb}
 use Rattle.nodes.specs.Words.{own, link, factOf, factPut, floor}
-use Rattle.check_freed.specs.Models.{cleared}
+use Rattle.check_freed.specs.Models.{unlinked}
 use Rattle.check_places.proofs.clear_link.Statement.{statement}
 use Rattle.check_places.proofs.clear_link.Tie as tie
 
-live : (f m : List ℕ) (s w : ℕ) → w ≡ factOf f s own → 2 ^ 47 ≤ w → m ≡ factPut f s link 0 → m ≡ cleared f s
-unfolding floor cleared
+live : (f m : List ℕ) (s w : ℕ) → w ≡ factOf f s own → 2 ^ 47 ≤ w → m ≡ factPut f s link 0 → m ≡ unlinked f s
+unfolding floor unlinked
 live f m s w e h d = rw (le-leb (2 ^ 47) (factOf f s own) (omega arith)) d
 
-dead : (f : List ℕ) (s w : ℕ) → w ≡ factOf f s own → w < 2 ^ 47 → f ≡ cleared f s
-unfolding floor cleared
+dead : (f : List ℕ) (s w : ℕ) → w ≡ factOf f s own → w < 2 ^ 47 → f ≡ unlinked f s
+unfolding floor unlinked
 dead f s w e h = rw (lt-leb (2 ^ 47) (factOf f s own) (omega arith))
 
 ruleset mine = (live, dead)
