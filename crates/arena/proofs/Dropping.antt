@@ -1,18 +1,19 @@
 -- Recycling, and the recursive release over places that are owed: the invariant goes through, with a frame.
 use mathlib.Core.Path.{_≡_, refl, sym, ap, _∙_, subst}
 use mathlib.Core.Logic.{_≢_, _⊎_, inr, ⊎-elim}
+use mathlib.Core.Bool.{true}
 use mathlib.Core.List.{List, [], _∷_, _++_}
 use Prim.Native.Nat.{ℕ, zero, suc, _+_, _-_, _*_, _%_, _^_, _≤_, _<_}
 use native.Mathlib.Decide.{ℕ-discrete, decLt}
 use native.Mathlib.Omega.{arith}
 use lib.ListN.{length, getD}
-use borrow.Author.Tests.{eq-eqb, ne-eqb, le-leb, lt-leb}
+use borrow.Author.Tests.{eq-eqb, ne-eqb, lt-ltb, le-ltb}
 use Rattle.ids.specs.Ids.{generationOf}
 use Rattle.nodes.specs.Tally.{kidsOf, Live, Freed, occ, same}
 use Rattle.nodes.specs.Words.{own, height, holds, places, link, spare, Nodes, nodes, slot, floor, wordOf, putOf}
-use Rattle.nodes.proofs.Access.{Within, put-size, written-size, written-others, written-kid, written-fact, put-same, put-slot, put-field}
+use Rattle.nodes.proofs.Access.{Within, put-size, written-size, written-others, written-kid, written-fact, put-same, put-slot, put-field, put-keeps}
 use Rattle.nodes.proofs.Counts.{floor-pos, Others, recycle-counts, total-append, total-cons}
-use Rattle.nodes.proofs.Frame.{Frame, frame-refl, frame-trans}
+use Rattle.nodes.proofs.Frame.{Frame, frame-refl, frame-trans, frame-low}
 use Rattle.nodes.proofs.Freeing.{push, live-upd, live-one, live-zero}
 use Rattle.nodes.proofs.Sums.{cases, same-refl, occ-cons, occ-here, occ-there}
 use Rattle.find.specs.Cells.{remove, Finds}
@@ -21,35 +22,35 @@ use Rattle.find.proofs.Contents.{home-same}
 use Rattle.find.proofs.Finding.{finds-as, finds-remove}
 use Rattle.find.proofs.Steps.{remove-length}
 use Rattle.arena.specs.Calls.{deadFacts, empties, recycled, each}
-use Rattle.arena.specs.Models.{unplaced, Step, stepOf, step, dropOne, dropPlace}
+use Rattle.arena.specs.Models.{unplaced, staysOf, goneBy, dropOne, dropPlace}
 use Rattle.arena.specs.Node.{nextGeneration}
 use Rattle.arena.specs.Tables.{Tables, cap, W, LiveSlot, Cleared}
 use Rattle.arena.proofs.Ids.{nextGen-le, dead-low, dead-seal, dead-gen}
 use Rattle.arena.proofs.Inv.{sized-within, Clean, Inv, Recounted, move-inv, inv-empty}
 use Rattle.arena.proofs.Rows.{dead-length, dead-own, dead-link, dead-zero, empties-length, empties-at}
 
--- ---- the cases of a step
+-- ---- the cases of a drop
 
-module _ (t : Tables) (x : ℕ) where
-  pub step-empty : x ≡ 0 → step t x ≡ stepOf t []
-  unfolding step
-  step-empty e = rw (eq-eqb x 0 e)
-
-  pub step-held : x ≢ 0 → W t (slot x) holds ≢ 0 → step t x ≡ stepOf (unplaced t (slot x)) []
-  unfolding step
-  step-held d h = rw (ne-eqb x 0 d, ne-eqb (W t (slot x) holds) 0 h)
-
-  pub step-more : x ≢ 0 → W t (slot x) holds ≡ 0 → 1 < W t (slot x) places → step t x ≡ stepOf (unplaced t (slot x)) []
-  unfolding step
-  step-more d h m = rw (ne-eqb x 0 d, eq-eqb (W t (slot x) holds) 0 h, lt-leb (W t (slot x) places) 1 m)
-
-  pub step-last : x ≢ 0 → W t (slot x) holds ≡ 0 → W t (slot x) places ≤ 1 → step t x ≡ stepOf (recycled t (slot x)) (kidsOf 8 (W t) (slot x))
-  unfolding step
-  step-last d h m = rw (ne-eqb x 0 d, eq-eqb (W t (slot x) holds) 0 h, le-leb (W t (slot x) places) 1 m)
-
-  pub one-step : (rec : Tables → ℕ → Tables) (r : Step) → step t x ≡ r → dropOne rec t x ≡ each rec (r .after) (r .owed)
+module _ (rec : Tables → ℕ → Tables) (t : Tables) (x : ℕ) where
+  pub one-empty : x ≡ 0 → dropOne rec t x ≡ t
   unfolding dropOne
-  one-step rec r e = ap (λ (q : Step). each rec (q .after) (q .owed)) e
+  one-empty e = rw (eq-eqb x 0 e)
+
+  one-stays : x ≢ 0 → staysOf (W t) (slot x) ≡ true → dropOne rec t x ≡ unplaced t (slot x)
+  unfolding dropOne
+  one-stays d e = rw (ne-eqb x 0 d, e)
+
+  pub one-held : x ≢ 0 → W t (slot x) holds ≢ 0 → dropOne rec t x ≡ unplaced t (slot x)
+  unfolding staysOf
+  one-held d h = one-stays d (rw (ne-eqb (W t (slot x) holds) 0 h))
+
+  pub one-more : x ≢ 0 → W t (slot x) holds ≡ 0 → 1 < W t (slot x) places → dropOne rec t x ≡ unplaced t (slot x)
+  unfolding staysOf
+  one-more d h m = one-stays d (rw (eq-eqb (W t (slot x) holds) 0 h, lt-ltb 1 (W t (slot x) places) m))
+
+  pub one-last : x ≢ 0 → W t (slot x) holds ≡ 0 → W t (slot x) places ≤ 1 → dropOne rec t x ≡ each rec (recycled t (slot x)) (kidsOf 8 (W t) (slot x))
+  unfolding dropOne staysOf goneBy
+  one-last d h m = rw (ne-eqb x 0 d, eq-eqb (W t (slot x) holds) 0 h, le-ltb 1 (W t (slot x) places) m)
 
 -- ---- one count word is written
 
@@ -93,15 +94,9 @@ module _ (t : Tables) (x : ℕ) (debt : List ℕ) (v : Inv t (x ∷ debt)) (d : 
 
   pub unplaced-frame : Frame (cap t) (W t) (W (unplaced t (slot x)))
   unfolding unplaced
-  unplaced-frame = record {
-    kept = λ b l h f m q. same-word b f q m;
-    held = λ b l h k. let e = same-word b own (omega arith) (omega arith) in omega arith;
-  }
-    where
-      same-word : (b f : ℕ) → f ≢ places → f ≤ spare → wordOf (putOf (t .nodes) (slot x) places (W t (slot x) places - 1)) b f ≡ W t b f
-      same-word b f q m = cases (ℕ-discrete b (slot x))
-          (λ (e : b ≡ slot x). rw e (put-field (t .nodes) (slot x) places (W t (slot x) places - 1) f q))
-          (λ e. put-slot (t .nodes) (slot x) places (W t (slot x) places - 1) b f e)
+  unplaced-frame =
+      let same = put-keeps (t .nodes) (slot x) places (W t (slot x) places - 1) in
+      record { kept = λ b l h f m q. same b f q; held = λ b l h k. let e = same b own (omega arith) in omega arith }
 
   abbrev row : List ℕ
   row = deadFacts (W t (slot x) own) (t .arena .top)
@@ -109,7 +104,7 @@ module _ (t : Tables) (x : ℕ) (debt : List ℕ) (v : Inv t (x ∷ debt)) (d : 
   seven : length row ≡ 7
   seven = dead-length (W t (slot x) own) (t .arena .top)
 
-  recycle-others : Others (slot x) (W t) (W (recycled t (slot x)))
+  pub recycle-others : Others (slot x) (W t) (W (recycled t (slot x)))
   unfolding recycled
   recycle-others = written-others (t .nodes) (slot x) empties row empties-length seven
 
@@ -121,7 +116,7 @@ module _ (t : Tables) (x : ℕ) (debt : List ℕ) (v : Inv t (x ∷ debt)) (d : 
   unfolding recycled
   recycle-fact = written-fact (t .nodes) (slot x) empties row empties-length seven within
 
-  recycle-own : W (recycled t (slot x)) (slot x) own ≡ nextGeneration (generationOf (W t (slot x) own)) * 2 ^ 32
+  pub recycle-own : W (recycled t (slot x)) (slot x) own ≡ nextGeneration (generationOf (W t (slot x) own)) * 2 ^ 32
   recycle-own = recycle-fact 0 (omega arith) ∙ dead-own (W t (slot x) own) (t .arena .top)
 
   recycle-dead : W (recycled t (slot x)) (slot x) own < floor
@@ -249,14 +244,6 @@ dropped-refl t d v = record { inv = v; frame = frame-refl (cap t) (W t); size = 
 abbrev Good : (Tables → ℕ → Tables) → (Tables → ℕ → Tables) → ℕ → Type 0
 Good rec more k = (t : Tables) (x : ℕ) (debt : List ℕ) → Inv t (x ∷ debt) → (x ≢ 0 → W t (slot x) height < k) → Dropped t (rec t x) debt × (more t x ≡ rec t x)
 
--- a height goes through
-low-after : (t t′ : Tables) (debt : List ℕ) (k z : ℕ) → Dropped t t′ debt → Live (cap t) (W t′) z → W t (slot z) height < k → W t′ (slot z) height < k
-low-after t t′ debt k z p w h =
-    let wi = w .is in
-    let wh = w .high in
-    let e = p .frame .kept (slot z) (w .low) (omega arith) height (omega arith) (omega arith) in
-    omega arith
-
 each-good : (rec more : Tables → ℕ → Tables) (k : ℕ) → Good rec more k → (ys : List ℕ) (t : Tables) (debt : List ℕ) → Inv t (ys ++ debt)
     → ((y : ℕ) → y ≢ 0 → 1 ≤ occ y ys → W t (slot y) height < k)
     → Dropped t (each rec t ys) debt × (each more t ys ≡ each rec t ys)
@@ -268,7 +255,7 @@ each-good rec more k g (y ∷ ys) t debt v h =
     let rest = each-good rec more k g ys (rec t y) debt (r .inv)
     (λ z d m.
     let w : Live (cap (rec t y)) (W (rec t y)) z = r .inv .counts .named z d (omega (arith, total-append 8 (cap (rec t y)) (W (rec t y)) z ys debt)) in
-    low-after t (rec t y) (ys ++ debt) k z r (subst (λ (c : ℕ). Live c (W (rec t y)) z) (r .size) w) (h z d (omega (arith, occ-cons z y ys)))) in
+    frame-low (cap t) (W t) (W (rec t y)) k z (r .frame) (subst (λ (c : ℕ). Live c (W (rec t y)) z) (r .size) w) (h z d (omega (arith, occ-cons z y ys)))) in
     (dropped-trans r (rest .0), ap (λ (u : Tables). each more u ys) (first .1) ∙ rest .1)
 
 recycled-dropped : (t : Tables) (x : ℕ) (debt : List ℕ) (v : Inv t (x ∷ debt)) (d : x ≢ 0) → W t (slot x) holds ≡ 0 → W t (slot x) places ≤ 1
@@ -286,16 +273,15 @@ unfolding unplaced
 unplaced-dropped t x debt v d two = record { inv = unplaced-inv t x debt v d two; frame = unplaced-frame t x debt v d; size = refl; next = refl }
 
 one-good : (rec more : Tables → ℕ → Tables) (k : ℕ) → Good rec more k → Good (dropOne rec) (dropOne more) (suc k)
-unfolding each
 one-good rec more k g t x debt v h = cases (ℕ-discrete x 0)
     (λ (e : x ≡ 0).
-    both _ (step-empty t x e) (dropped-refl t debt (inv-empty t debt (subst (λ (z : ℕ). Inv t (z ∷ debt)) e v)), refl))
+    both (one-empty rec t x e) (one-empty more t x e) (dropped-refl t debt (inv-empty t debt (subst (λ (z : ℕ). Inv t (z ∷ debt)) e v))) refl)
     (λ d.
     let live = debtor t x debt v d in
     let alive = v .counts .alive x live in
     cases (ℕ-discrete (W t (slot x) holds) 0)
     (λ u. cases (decLt 1 (W t (slot x) places))
-    (λ m. both _ (step-more t x d u m) (unplaced-dropped t x debt v d (omega arith), refl))
+    (λ m. both (one-more rec t x d u m) (one-more more t x d u m) (unplaced-dropped t x debt v d (omega arith)) refl)
     (λ m.
     let one : W t (slot x) places ≤ 1 = omega arith in
     let i = recycled-dropped t x debt v d u one in
@@ -305,22 +291,21 @@ one-good rec more k g t x debt v h = cases (ℕ-discrete x 0)
     i .inv .counts .named y z (omega (arith, total-append 8 (cap (recycled t (slot x))) (W (recycled t (slot x))) y (kidsOf 8 (W t) (slot x)) debt)) in
     let p = v .counts .tall (slot x) y (live .low) z m in
     let q = h d in
-    low-after t (recycled t (slot x)) (kidsOf 8 (W t) (slot x) ++ debt) k y i (subst (λ (c : ℕ). Live c (W (recycled t (slot x))) y) (i .size) w) (omega arith)) in
-    both _ (step-last t x d u one) (dropped-trans i (r .0), r .1)))
+    frame-low (cap t) (W t) (W (recycled t (slot x))) k y (i .frame) (subst (λ (c : ℕ). Live c (W (recycled t (slot x))) y) (i .size) w) (omega arith)) in
+    both (one-last rec t x d u one) (one-last more t x d u one) (dropped-trans i (r .0)) (r .1)))
     (λ u.
     let p = v .counts .placed x live in
     let two : 2 ≤ W t (slot x) holds + W t (slot x) places = omega (arith, total-cons 8 (cap t) (W t) x x debt, same-refl x) in
-    both _ (step-held t x d u) (unplaced-dropped t x debt v d two, refl)))
+    both (one-held rec t x d u) (one-held more t x d u) (unplaced-dropped t x debt v d two) refl))
   where
-    both : (r : Step) → step t x ≡ r → Dropped t (each rec (r .after) (r .owed)) debt × (each more (r .after) (r .owed) ≡ each rec (r .after) (r .owed))
-        → Dropped t (dropOne rec t x) debt × (dropOne more t x ≡ dropOne rec t x)
-    both r e p = rw (one-step t x rec r e, one-step t x more r e) p
+    both : {a b : Tables} → dropOne rec t x ≡ a → dropOne more t x ≡ b → Dropped t a debt → b ≡ a → Dropped t (dropOne rec t x) debt × (dropOne more t x ≡ dropOne rec t x)
+    both p q r e = (subst (λ (u : Tables). Dropped t u debt) (sym p) r, q ∙ e ∙ sym p)
 
 -- EMPTY owes nothing
 pub drop-empty : (k : ℕ) (t : Tables) (x : ℕ) → x ≡ 0 → dropPlace k t x ≡ t
-unfolding dropPlace each
+unfolding dropPlace
 drop-empty zero t x e = refl
-drop-empty (suc k) t x e = one-step t x (dropPlace k) _ (step-empty t x e)
+drop-empty (suc k) t x e = one-empty (dropPlace k) t x e
 
 -- k levels are enough for a node below k, and so are more
 drop-goods : (k j : ℕ) → k ≤ j → Good (dropPlace k) (dropPlace j) k

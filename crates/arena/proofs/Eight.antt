@@ -12,7 +12,7 @@ use borrow.Author.Tests.{not-true, not-false}
 use Rattle.ids.specs.declared.BlockId.{BlockId}
 use Rattle.nodes.specs.Tally.{oneIf, occ}
 use Rattle.nodes.specs.Words.{Nodes, nodes}
-use Rattle.nodes.proofs.Sums.{occ-nil, occ-there, cases}
+use Rattle.nodes.proofs.Sums.{occ-nil, occ-cons, occ-here, occ-there, cases}
 use Rattle.arena.specs.Calls.{rawIds, each, allOf}
 use Rattle.arena.specs.Node.{bitsOf}
 use Rattle.arena.proofs.Fits.{both}
@@ -26,6 +26,12 @@ all-at p (k ∷ ks) y e o =
     cases (ℕ-discrete y k)
     (λ (q : y ≡ k). rw q (b .0))
     (λ q. all-at p ks y (b .1) (omega (arith, occ-there y k ks q)))
+
+-- what changes nothing by any of them changes nothing by all
+pub each-idle : {A : Type 0} (g : A → ℕ → A) (t : A) (ks : List ℕ) → ((y : ℕ) → 1 ≤ occ y ks → g t y ≡ t) → each g t ks ≡ t
+unfolding each
+each-idle g t [] h = refl
+each-idle {A} g t (k ∷ ks) h = ap (λ (u : A). each g u ks) (h k (omega (arith, occ-here k ks))) ∙ each-idle g t ks (λ y o. h y (omega (arith, occ-cons y k ks)))
 
 module _ (ks : List ℕ) (i : ℕ) (eight : length ks ≡ 8) where
   pub drop-at : i < 8 → drop i ks ≡ getD ks i 0 ∷ drop (i + 1) ks
@@ -48,18 +54,26 @@ module _ (p : ℕ → Bool) (ks : List ℕ) (i : ℕ) (eight : length ks ≡ 8) 
   unfolding allOf
   all-last l = sym (e ∙ ap (allOf p) (drop-none ks i eight l))
 
--- the same for a change of one table of the two, whatever the other holds
+-- the same for a change by each in turn
+module _ {A : Type 0} (g : A → ℕ → A) (x₀ x : A) (ks : List ℕ) (i : ℕ) (eight : length ks ≡ 8) (e : each g x₀ ks ≡ each g x (drop i ks)) where
+  pub each-on : (x′ : A) → i < 8 → x′ ≡ g x (getD ks i 0) → each g x₀ ks ≡ each g x′ (drop (i + 1) ks)
+  unfolding each
+  each-on x′ l d = e ∙ ap (each g x) (drop-at ks i eight l) ∙ ap (λ (y : A). each g y (drop (i + 1) ks)) (sym d)
+
+  pub each-end : 8 ≤ i → x ≡ each g x₀ ks
+  unfolding each
+  each-end l = sym (e ∙ ap (each g x) (drop-none ks i eight l))
+
+-- and of one table of the two, whatever the other holds
 -- (the lengths show `search` the table)
 module _ (g : Nodes → ℕ → Nodes) (f₀ f ks : List ℕ) (i : ℕ) (eight : length ks ≡ 8) (size : length f ≡ length f₀)
     (e : (j : List ℕ) → each g (nodes j f₀) ks ≡ each g (nodes j f) (drop i ks)) where
   pub each-step : (f′ : List ℕ) → i < 8 → ((j : List ℕ) → nodes j f′ ≡ g (nodes j f) (getD ks i 0))
       → (j : List ℕ) → each g (nodes j f₀) ks ≡ each g (nodes j f′) (drop (i + 1) ks)
-  unfolding each
-  each-step f′ l d j = e j ∙ ap (each g (nodes j f)) (drop-at ks i eight l) ∙ ap (λ (x : Nodes). each g x (drop (i + 1) ks)) (sym (d j))
+  each-step f′ l d j = each-on g (nodes j f₀) (nodes j f) ks i eight (e j) (nodes j f′) l (d j)
 
   pub each-last : 8 ≤ i → (j : List ℕ) → nodes j f ≡ each g (nodes j f₀) ks
-  unfolding each
-  each-last l j = sym (e j ∙ ap (each g (nodes j f)) (drop-none ks i eight l))
+  each-last l j = each-end g (nodes j f₀) (nodes j f) ks i eight (e j) l
 
 -- the byte of eight bits
 eight-bits : (p : ℕ → Bool) (ks : List ℕ) → length ks ≡ 8

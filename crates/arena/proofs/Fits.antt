@@ -1,17 +1,18 @@
 -- What the tests of the refusals say.
 use Prim.Native.Nat.{ℕ, _+_, _-_, _*_, _≤_, _<_}
 use native.Mathlib.Omega.{arith}
-use mathlib.Core.Path.{_≡_, refl, sym}
+use mathlib.Core.Path.{_≡_, refl, sym, _∙_}
 use mathlib.Core.Bool.{Bool, true, false, true≢false}
 use lib.Dec.{eqb, leb, ltb}
 use lib.ListN.{length}
 use borrow.Author.Tests.{leb-true, eqb-true, le-leb, eq-eqb, ltb-true, ne-eqb, eqb-false}
 use mathlib.Core.List.{List}
 use Rattle.basics.specs.Pick.{pick}
+use Rattle.basics.proofs.Rungs.{pick-no, past-no, past-yes}
 use Rattle.nodes.specs.Tally.{Live}
 use Rattle.nodes.specs.Words.{own, holds, nodes, slot, floor}
 use Rattle.nodes.proofs.Sums.{split}
-use Rattle.arena.specs.Calls.{fitOf, fits, roomOf, liveOf, fullOf, holdNo, releaseNo, allLive, enough, noneOf}
+use Rattle.arena.specs.Calls.{fitOf, fits, roomOf, liveOf, ofId, thereNo, fullOf, holdNo, releaseNo, allLive, enough, noneOf}
 use Rattle.arena.specs.Models.{kidsNo}
 use Rattle.arena.specs.Tables.{Tables, cap, Sized, W}
 use Rattle.arena.specs.declared.Arena.{Arena}
@@ -59,46 +60,43 @@ live-is t id e =
     let q = both (leb floor id) (eqb (W t (slot id) own) id) (p .1) in
     record { low = ltb-true (slot id) (cap t) (p .0); is = eqb-true (W t (slot id) own) id (q .1); high = leb-true floor id (q .0) }
 
+-- a call that is handed an id: the refusals 1 and 4 come first
+pub there-law : {A : Type 0} (t : Tables) (id : ℕ) (refuse : ℕ → A) (live : A)
+    → ofId t id refuse live ≡ pick (eqb (thereNo t id) 0) (pick (eqb id 0) (refuse 0) live) (refuse (thereNo t id))
+unfolding thereNo
+there-law t id refuse live =
+    split (fits t)
+    (λ f. split (eqb id 0) (λ z. rw (f, z)) (λ z. split (liveOf (cap t) (W t) id) (λ l. rw (f, z, l)) (λ l. rw (f, z, l))))
+    (λ f. rw f)
+
 -- the number 0
 module _ (t : Tables) (id : ℕ) where
-  hold-fits : holdNo t id ≡ 0 → fits t ≡ true
-  unfolding holdNo
-  hold-fits e = split (fits t) (λ f. f) (λ f. absurd (let z : _≡_ {A = ℕ} 1 0 = (rw f at e) in omega arith))
+  fine-live : (x : ℕ) → ofId t id (λ k. k) x ≡ 0 → (id ≡ 0 → ⊥) → (liveOf (cap t) (W t) id ≡ true) × (x ≡ 0)
+  fine-live x e d =
+      let f = past-yes (fits t) _ 1 0 (λ z. omega arith) e .1 in
+      past-yes (liveOf (cap t) (W t) id) x 4 0 (λ z. omega arith) (sym (pick-no (eqb id 0) 0 _ (ne-eqb id 0 d)) ∙ f)
 
   pub hold-live : holdNo t id ≡ 0 → (id ≡ 0 → ⊥) → (liveOf (cap t) (W t) id ≡ true) × (fullOf (W t) (slot id) ≡ false)
   unfolding holdNo
   hold-live e d =
-      split (liveOf (cap t) (W t) id)
-      (λ l. split (fullOf (W t) (slot id))
-      (λ u. absurd (let z : _≡_ {A = ℕ} 10 0 = (rw (hold-fits e, ne-eqb id 0 d, l, u) at e) in omega arith))
-      (λ u. (l, u)))
-      (λ l. absurd (let z : _≡_ {A = ℕ} 4 0 = (rw (hold-fits e, ne-eqb id 0 d, l) at e) in omega arith))
-
-  release-fits : releaseNo t id ≡ 0 → fits t ≡ true
-  unfolding releaseNo
-  release-fits e = split (fits t) (λ f. f) (λ f. absurd (let z : _≡_ {A = ℕ} 1 0 = (rw f at e) in omega arith))
+      let p = fine-live (pick (fullOf (W t) (slot id)) 10 0) e d in
+      (p .0, past-no (fullOf (W t) (slot id)) 10 0 0 (λ z. omega arith) (p .1) .0)
 
   pub release-live : releaseNo t id ≡ 0 → (id ≡ 0 → ⊥) → (liveOf (cap t) (W t) id ≡ true) × (1 ≤ W t (slot id) holds)
   unfolding releaseNo
   release-live e d =
-      split (liveOf (cap t) (W t) id)
-      (λ l. split (eqb (W t (slot id) holds) 0)
-      (λ u. absurd (let z : _≡_ {A = ℕ} 5 0 = (rw (release-fits e, ne-eqb id 0 d, l, u) at e) in omega arith))
-      (λ u. (l, (let z = eqb-false (W t (slot id) holds) 0 u in omega arith))))
-      (λ l. absurd (let z : _≡_ {A = ℕ} 4 0 = (rw (release-fits e, ne-eqb id 0 d, l) at e) in omega arith))
+      let p = fine-live (pick (eqb (W t (slot id) holds) 0) 5 0) e d in
+      let z = eqb-false (W t (slot id) holds) 0 (past-no (eqb (W t (slot id) holds) 0) 5 0 0 (λ z. omega arith) (p .1) .0) in
+      (p .0, omega arith)
 
 pub kids-fits : (t : Tables) (ks : List ℕ) → kidsNo t ks ≡ 0 → fits t ≡ true
 unfolding kidsNo
-kids-fits t ks e = split (fits t) (λ f. f) (λ f. absurd (let z : _≡_ {A = ℕ} 1 0 = (rw f at e) in omega arith))
+kids-fits t ks e = past-yes (fits t) _ 1 0 (λ z. omega arith) e .0
 
 pub kids-fine : (t : Tables) (ks : List ℕ) → kidsNo t ks ≡ 0 → (allLive (cap t) (W t) ks ≡ true) × (enough (W t) ks ≡ true) × (noneOf ks ≡ false)
 unfolding kidsNo
 kids-fine t ks e =
-    let f = kids-fits t ks e in
-    split (allLive (cap t) (W t) ks)
-    (λ a. split (enough (W t) ks)
-    (λ b. split (noneOf ks)
-    (λ c. absurd (let z : _≡_ {A = ℕ} 7 0 = (rw (f, a, b, c) at e) in omega arith))
-    (λ c. (a, b, c)))
-    (λ b. absurd (let z : _≡_ {A = ℕ} 5 0 = (rw (f, a, b) at e) in omega arith)))
-    (λ a. absurd (let z : _≡_ {A = ℕ} 4 0 = (rw (f, a) at e) in omega arith))
+    let f = past-yes (fits t) _ 1 0 (λ z. omega arith) e in
+    let a = past-yes (allLive (cap t) (W t) ks) _ 4 0 (λ z. omega arith) (f .1) in
+    let b = past-yes (enough (W t) ks) _ 5 0 (λ z. omega arith) (a .1) in
+    (a .0, b .0, past-no (noneOf ks) 7 0 0 (λ z. omega arith) (b .1) .0)

@@ -11,7 +11,7 @@ use lib.ListN.{length}
 use borrow.Author.Tests.{eq-eqb, ne-eqb}
 use Rattle.nodes.specs.Tally.{kidsOf, Live, occ, same}
 use Rattle.nodes.specs.Words.{own, height, holds, places, spare, Nodes, nodes, written, slot, floor, Words, wordOf, putOf}
-use Rattle.nodes.proofs.Access.{Within, put-size, size-trans, within-size, written-over, put-same, put-slot, put-field, put-put, put-word, put-less}
+use Rattle.nodes.proofs.Access.{Within, put-size, size-trans, within-size, written-over, put-same, put-slot, put-field, put-keeps, put-put, put-word, put-less}
 use Rattle.nodes.proofs.Counts.{floor-pos, kids-same, Counts, live-same, total-bound}
 use Rattle.nodes.proofs.Frame.{Frame, Under, lives-iff, here, down}
 use Rattle.nodes.proofs.Sums.{cases, occ-nil, occ-here, occ-there}
@@ -22,7 +22,7 @@ use Rattle.arena.specs.Calls.{deadFacts, empties, Out, did, fits, Fair, 
 use Rattle.arena.specs.Models.{settledN, unplaced, dropOne, dropPlace, moreOf, settled, releaseBy, releaseAny}
 use Rattle.arena.specs.Tables.{tablesOf, Tables, cap, W, WellFormed}
 use Rattle.arena.specs.declared.Arena.{Arena}
-use Rattle.arena.proofs.Dropping.{step-empty, step-held, step-more, step-last, one-step, Dropped, drop-good, drop-enough}
+use Rattle.arena.proofs.Dropping.{one-empty, one-held, one-more, one-last, Dropped, drop-good, drop-enough}
 use Rattle.arena.proofs.Fits.{live-is, release-live}
 use Rattle.arena.proofs.Ids.{node-low}
 use Rattle.arena.proofs.Inv.{sized-within, Inv, Content, Recounted, recounted-word, move-inv, wf-inv, wf-content, inv-wf, content-recount, content-frame}
@@ -38,9 +38,6 @@ recycled-same a l m f s mine e over =
     let row : written m s empties (deadFacts (wordOf m s own) (a .top)) ≡ written l s empties (deadFacts (wordOf l s own) (a .top)) =
     ap (λ (x : ℕ). written m s empties (deadFacts x (a .top))) mine ∙ over (deadFacts (wordOf l s own) (a .top)) (dead-length (wordOf l s own) (a .top)) in
     λ i. tablesOf (record { capacity = a .capacity; next = a .next; top = s; live = a .live - 1 }) (row i) (remove (home i) f s)
-
-put-keeps : (l : Nodes) (s f v b g : ℕ) → g ≢ f → wordOf (putOf l s f v) b g ≡ wordOf l b g
-put-keeps l s f v b g d = cases (ℕ-discrete b s) (λ (e : b ≡ s). rw e (put-field l s f v g d)) (λ e. put-slot l s f v b g e)
 
 put-over : (l : Nodes) (s f v : ℕ) (row : List ℕ) → length row ≡ 7 → written (putOf l s f v) s empties row ≡ written l s empties row
 put-over l s f v row e = written-over l s empties row empties-length e f v
@@ -95,14 +92,10 @@ unplaced-less : (t : Tables) (id : ℕ) → unplaced t (slot id) ≡ lessOf plac
 unfolding unplaced lessOf
 unplaced-less t id = refl
 
-each-nil : (rec : Tables → ℕ → Tables) (t : Tables) → each rec t [] ≡ t
-unfolding each
-each-nil rec t = refl
-
 -- taking a place is the code's drop, on any tables
 takes-drop-step : (k : ℕ) → ((t : Tables) (x : ℕ) → takes k places t x ≡ dropPlace k t x) → (t : Tables) (x : ℕ) → takes (suc k) places t x ≡ dropOne (dropPlace k) t x
 takes-drop-step k ih t x = cases (ℕ-discrete x 0)
-    (λ e. takes-empty k places t x e ∙ sym (one-step t x (dropPlace k) _ (step-empty t x e) ∙ each-nil (dropPlace k) t))
+    (λ e. takes-empty k places t x e ∙ sym (one-empty (dropPlace k) t x e))
     (λ d.
     let h = less-word places t x (slot x) holds (omega arith) in
     let p = less-at places t x (omega arith) (omega arith) in
@@ -110,15 +103,15 @@ takes-drop-step k ih t x = cases (ℕ-discrete x 0)
     (λ z. cases (decLt 1 (W t (slot x) places))
     (λ m.
     takes-left k places t x d (used-place (lessOf places t x) x (h ∙ z) (omega arith))
-    ∙ sym (one-step t x (dropPlace k) _ (step-more t x d z m) ∙ each-nil (dropPlace k) (unplaced t (slot x)) ∙ unplaced-less t x))
+    ∙ sym (one-more (dropPlace k) t x d z m ∙ unplaced-less t x))
     (λ m.
     takes-gone k places t x d (unused-both (lessOf places t x) x (h ∙ z) (omega arith))
     ∙ ap₂ (λ (u : Tables) (l : List ℕ). each (takes k places) u l) (less-recycled places t x (omega arith)) (less-kids places t x (omega arith))
     ∙ ap (λ (r : Tables → ℕ → Tables). each r (recycled t (slot x)) (kidsOf 8 (W t) (slot x))) (λ i u y. ih u y i)
-    ∙ sym (one-step t x (dropPlace k) _ (step-last t x d z (omega arith)))))
+    ∙ sym (one-last (dropPlace k) t x d z (omega arith))))
     (λ z.
     takes-left k places t x d (used-hold (lessOf places t x) x (λ y. z (sym h ∙ y)))
-    ∙ sym (one-step t x (dropPlace k) _ (step-held t x d z) ∙ each-nil (dropPlace k) (unplaced t (slot x)) ∙ unplaced-less t x)))
+    ∙ sym (one-held (dropPlace k) t x d z ∙ unplaced-less t x)))
 
 takes-zero : (f : ℕ) (t : Tables) (x : ℕ) → takes 0 f t x ≡ t
 unfolding takes
@@ -194,17 +187,15 @@ module _ (t : Tables) (id : ℕ) (d : id ≢ 0) (within : Within (t .nodes) (slo
       cases (ℕ-discrete (W t s holds - 1) 0)
       (λ z. cases (ℕ-discrete (W t s places) 0)
       (λ y.
-      one-step (settled t s) id (dropPlace k) _ (step-last (settled t s) id d (u11 ∙ z) (omega arith))
+      one-last (dropPlace k) (settled t s) id d (u11 ∙ z) (omega arith)
       ∙ ap₂ (λ (u : Tables) (l : List ℕ). each (dropPlace k) u l) (settled-recycled ∙ sym (less-recycled holds t id (omega arith))) (settled-kids ∙ sym (less-kids holds t id (omega arith)))
       ∙ ap (λ (r : Tables → ℕ → Tables). each r (recycled (lessOf holds t id) s) (kidsOf 8 (W (lessOf holds t id)) s)) (λ i u y. sym (takes-drop k u y) i)
       ∙ sym (takes-gone k holds t id d (unused-both (lessOf holds t id) id (h ∙ z) (p ∙ y))))
       (λ y.
-      one-step (settled t s) id (dropPlace k) _ (step-more (settled t s) id d (u11 ∙ z) (omega arith))
-      ∙ each-nil (dropPlace k) (unplaced (settled t s) s) ∙ settled-unplaced
+      one-more (dropPlace k) (settled t s) id d (u11 ∙ z) (omega arith) ∙ settled-unplaced
       ∙ sym (takes-left k holds t id d (used-place (lessOf holds t id) id (h ∙ z) (λ q. y (sym p ∙ q))))))
       (λ z.
-      one-step (settled t s) id (dropPlace k) _ (step-held (settled t s) id d (λ q. z (sym u11 ∙ q)))
-      ∙ each-nil (dropPlace k) (unplaced (settled t s) s) ∙ settled-unplaced
+      one-held (dropPlace k) (settled t s) id d (λ q. z (sym u11 ∙ q)) ∙ settled-unplaced
       ∙ sym (takes-left k holds t id d (used-hold (lessOf holds t id) id (λ q. z (sym h ∙ q)))))
 
   pub release-takes : (k : ℕ) → releaseBy k t id ≡ takes (suc k) holds t id

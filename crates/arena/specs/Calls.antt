@@ -70,6 +70,15 @@ Fair n tallest t = (fits t ≡ false) ⊎ WellFormed n tallest t
 unfoldable pub liveOf : ℕ → Words → ℕ → Bool
 liveOf c W id = pick (ltb (slot id) c) (pick (leb floor id) (eqb (W (slot id) own) id) false) false
 
+-- what a call that is handed an id answers: it refuses with 1 on tables that are not sized, and with 4 an id that is neither EMPTY nor live; of EMPTY it
+-- answers as with no refusal, and of a live id `live`
+abbrev pub ofId : {A : Type 0} → Tables → ℕ → (ℕ → A) → A → A
+ofId t id refuse live = pick (fits t) (pick (eqb id 0) (refuse 0) (pick (liveOf (cap t) (W t) id) live (refuse 4))) (refuse 1)
+
+-- refusals 1 and 4, and no other
+unfoldable pub thereNo : Tables → ℕ → ℕ
+thereNo t id = ofId t id (λ k. k) 0
+
 -- refusal 10: the node in slot s already has 1,000,000 holds
 unfoldable pub fullOf : Words → ℕ → Bool
 fullOf W s = leb mostHolds (W s holds)
@@ -186,8 +195,7 @@ takes (suc k) f t id =
 
 -- refusals 1, 4, 5
 unfoldable pub releaseNo : Tables → ℕ → ℕ
-releaseNo t id =
-    pick (fits t) (pick (eqb id 0) 0 (pick (liveOf (cap t) (W t) id) (pick (eqb (W t (slot id) holds) 0) 5 0) 4)) 1
+releaseNo t id = ofId t id (λ k. k) (pick (eqb (W t (slot id) holds) 0) 5 0)
 
 -- in an arena whose nodes are at most so tall
 unfoldable pub releaseOf : ℕ → Tables → ℕ → Out
@@ -196,8 +204,7 @@ releaseOf tallest t id = pick (eqb (releaseNo t id) 0) (did 0 (takes (suc talles
 -- ## Hold: EMPTY is accepted and changes nothing. Refusals 1, 4, 10
 
 unfoldable pub holdNo : Tables → ℕ → ℕ
-holdNo t id =
-    pick (fits t) (pick (eqb id 0) 0 (pick (liveOf (cap t) (W t) id) (pick (fullOf (W t) (slot id)) 10 0) 4)) 1
+holdNo t id = ofId t id (λ k. k) (pick (fullOf (W t) (slot id)) 10 0)
 
 unfoldable pub holdOf : Tables → ℕ → Out
 holdOf t id = pick (eqb (holdNo t id) 0) (did 0 (pick (eqb id 0) t (heldAt t (slot id)))) (did (holdNo t id) t)
@@ -213,11 +220,7 @@ abbrev pub numbers : ℕ → ℕ → ℕ → Numbers
 numbers x h p = record { no = x; holds = h; places = p }
 
 unfoldable pub countsOf : Tables → ℕ → Numbers
-countsOf t id =
-    pick (fits t)
-    (pick (eqb id 0) (numbers 0 0 0)
-    (pick (liveOf (cap t) (W t) id) (numbers 0 (W t (slot id) holds) (W t (slot id) places)) (numbers 4 0 0)))
-    (numbers 1 0 0)
+countsOf t id = ofId t id (λ k. numbers k 0 0) (numbers 0 (W t (slot id) holds) (W t (slot id) places))
 
 abbrev pub counted : Counted → Numbers
 counted r = numbers (r .no) (r .holds) (r .places)

@@ -1,7 +1,8 @@
 -- What the private functions leave, of any tables: mirrors of the code. No reader has to believe them: the public contracts cite `Calls`.
-use mathlib.Core.List.{List, []}
+use mathlib.Core.Bool.{Bool, true}
+use mathlib.Core.List.{List}
 use Prim.Native.Nat.{ℕ, zero, suc, _+_, _-_, _/_, _%_, _^_}
-use lib.Dec.{eqb, leb, ltb}
+use lib.Dec.{eqb, ltb}
 use lib.ListN.{getD, set}
 use Rattle.basics.specs.Limits.{kidWords}
 use Rattle.basics.specs.Pick.{pick}
@@ -21,23 +22,20 @@ use Rattle.arena.specs.declared.Arena.{Arena}
 unfoldable pub unplaced : Tables → ℕ → Tables
 unplaced t s = tablesOf (t .arena) (putOf (t .nodes) s places (W t s places - 1)) (t .find)
 
--- what one place taken from x comes to: the tables, and the ids that are then owed, none unless the slot was recycled
-pub record Step : Type 0 where
-  pub after : Tables
-  pub owed : List ℕ
+-- the node in slot s has a hold, or a place besides the one that is owed
+unfoldable pub staysOf : Words → ℕ → Bool
+staysOf W s = pick (eqb (W s holds) 0) (ltb 1 (W s places)) true
 
-abbrev pub stepOf : Tables → List ℕ → Step
-stepOf t l = record { after = t; owed = l }
+-- slot s recycled, and `rec` done for each of its children
+unfoldable pub goneBy : (Tables → ℕ → Tables) → Tables → ℕ → Tables
+goneBy rec t s = each rec (recycled t s) (kidsOf kidWords (W t) s)
 
-unfoldable pub step : Tables → ℕ → Step
-step t x =
-    pick (eqb x 0) (stepOf t [])
-    (pick (eqb (W t (slot x) holds) 0)
-    (pick (leb (W t (slot x) places) 1) (stepOf (recycled t (slot x)) (kidsOf kidWords (W t) (slot x))) (stepOf (unplaced t (slot x)) []))
-    (stepOf (unplaced t (slot x)) []))
-
+-- one place taken from x: it stays, or it goes; EMPTY: nothing
 unfoldable pub dropOne : (Tables → ℕ → Tables) → Tables → ℕ → Tables
-dropOne rec t x = each rec (step t x .after) (step t x .owed)
+dropOne rec t x =
+    let gone = goneBy rec t (slot x) in
+    let left = pick (staysOf (W t) (slot x)) (unplaced t (slot x)) gone in
+    pick (eqb x 0) t left
 
 -- takes one place from x; the last one recycles its slot and drops its children in turn, k levels down at most
 unfoldable pub dropPlace : ℕ → Tables → ℕ → Tables

@@ -1,6 +1,6 @@
 // The arena: its state, which goes by value beside three lent tables, `kids` and `facts` with the nodes (crate nodes) and `find`, which says what
 // slot has a content (crate find); and what the calls on it share. What each call answers and leaves is in specs/Calls.antt; a fresh arena, hold
-// and counts are in the crate arena_hold, intern leaf in leaves, intern branch in branches, release in releasing.
+// and counts are in the crate arena_hold, intern leaf in arena_leaf, intern branch in arena_branch, release in arena_release.
 use basics::FACT_WORDS;
 use basics::KID_WORDS;
 use basics::LEAST_SLOTS;
@@ -16,7 +16,8 @@ use std::num::wrapping_add_u64;
 ghost use mathlib.Core.Path.{_≡_};
 ghost use Prim.Native.Nat.{_-_};
 ghost use Rattle.nodes.specs.Words.{holds as holdsWord, places as placesWord, factOf, factPut, slot};
-ghost use Rattle.arena.specs.Calls.{fitOf, liveOf};
+ghost use Rattle.arena.specs.Calls.{fitOf, liveOf, thereNo};
+ghost use Rattle.arena.specs.Lent.{before};
 ghost use Rattle.arena.specs.Models.{moreOf};
 
 // An arena's state: how many slots its tables have, the lowest never given out, the last one freed (0: none), how many live.
@@ -92,6 +93,22 @@ pub fn is_live(capacity: usize, facts: &[u64], id: u64) -> bool
         }
     }
     false
+}
+
+// Refusals 1 and 4 of a call that is handed an id: the tables are not sized, or the id is neither EMPTY nor live.
+pub fn there_no(a: Arena, kids: &[u64], facts: &[u64], find: &[u16], id: u64) -> u32
+    ensures { λ r. ⌜ r ≡ thereNo (before a kids facts find) id ⌝ }
+{
+    if fit(a.capacity, kids.len(), facts.len(), find.len()) {
+        if id == BlockId::EMPTY.0 {
+            return 0;
+        }
+        if is_live(a.capacity, facts, id) {
+            return 0;
+        }
+        return 4;
+    }
+    1
 }
 
 // A hold on the node in slot s becomes a place that is owed.

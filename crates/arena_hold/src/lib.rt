@@ -4,8 +4,8 @@ use arena::Arena;
 use arena::Counted;
 use arena::fit;
 use arena::grant;
-use arena::is_live;
 use arena::slot_of;
+use arena::there_no;
 use basics::MOST_HOLDS;
 use ids::BlockId;
 use nodes::HOLDS;
@@ -13,27 +13,8 @@ use nodes::PLACES;
 use nodes::fact;
 ghost use mathlib.Core.Path.{_≡_};
 ghost use lib.ListN.{length, replicate};
-ghost use Rattle.arena.specs.Calls.{counted, holdNo, holdOf, countsOf, freshOf};
+ghost use Rattle.arena.specs.Calls.{counted, holdOf, countsOf, freshOf};
 ghost use Rattle.arena.specs.Lent.{before, answered};
-
-// Refusals 1, 4 and 10.
-fn hold_no(a: Arena, kids: &[u64], facts: &[u64], find: &[u16], id: u64) -> u32
-    ensures { λ r. ⌜ r ≡ holdNo (before a kids facts find) id ⌝ }
-{
-    if fit(a.capacity, kids.len(), facts.len(), find.len()) {
-        if id == 0 {
-            return 0;
-        }
-        if is_live(a.capacity, facts, id) {
-            if MOST_HOLDS <= fact(facts, slot_of(id), HOLDS) {
-                return 10;
-            }
-            return 0;
-        }
-        return 4;
-    }
-    1
-}
 
 // Hold: the caller gets one hold more. EMPTY: nothing.
 pub fn hold(arena: Arena, kids: &[u64], facts: &mut [u64], find: &[u16], id: BlockId) -> Answer
@@ -47,17 +28,24 @@ pub fn hold(arena: Arena, kids: &[u64], facts: &mut [u64], find: &[u16], id: Blo
         live: arena.live,
     };
     let raw = id.0;
-    let no = hold_no(arena, kids, facts, find, raw);
+    let no = there_no(arena, kids, facts, find, raw);
     if no != 0 {
         return Answer {
             no: no,
             arena: same,
         };
     }
-    if raw == 0 {
+    if raw == BlockId::EMPTY.0 {
         return Answer { no: 0, arena: same };
     }
-    grant(facts, slot_of(raw));
+    let s = slot_of(raw);
+    if MOST_HOLDS <= fact(facts, s, HOLDS) {
+        return Answer {
+            no: 10,
+            arena: same,
+        };
+    }
+    grant(facts, s);
     Answer { no: 0, arena: same }
 }
 
@@ -66,32 +54,26 @@ pub fn counts(arena: Arena, kids: &[u64], facts: &[u64], find: &[u16], id: Block
     ensures { λ r. ⌜ counted r ≡ countsOf (before arena kids facts find) (id .0) ⌝ }
 {
     let raw = id.0;
-    if fit(arena.capacity, kids.len(), facts.len(), find.len()) {
-        if raw == 0 {
-            return Counted {
-                no: 0,
-                holds: 0,
-                places: 0,
-            };
-        }
-        if is_live(arena.capacity, facts, raw) {
-            let s = slot_of(raw);
-            return Counted {
-                no: 0,
-                holds: fact(facts, s, HOLDS),
-                places: fact(facts, s, PLACES),
-            };
-        }
+    let no = there_no(arena, kids, facts, find, raw);
+    if no != 0 {
         return Counted {
-            no: 4,
+            no: no,
             holds: 0,
             places: 0,
         };
     }
+    if raw == BlockId::EMPTY.0 {
+        return Counted {
+            no: 0,
+            holds: 0,
+            places: 0,
+        };
+    }
+    let s = slot_of(raw);
     Counted {
-        no: 1,
-        holds: 0,
-        places: 0,
+        no: 0,
+        holds: fact(facts, s, HOLDS),
+        places: fact(facts, s, PLACES),
     }
 }
 

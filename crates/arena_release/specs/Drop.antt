@@ -3,39 +3,31 @@
 use mathlib.Core.Bool.{Bool, true, false}
 use mathlib.Core.List.{List}
 use Prim.Native.Nat.{ℕ, _-_}
-use lib.Dec.{eqb, ltb}
-use Rattle.basics.specs.Limits.{kidWords}
+use lib.Dec.{eqb}
 use Rattle.basics.specs.Pick.{pick}
-use Rattle.nodes.specs.Tally.{kidsOf}
-use Rattle.nodes.specs.Words.{Words, holds, places, factOf, factPut, slot}
-use Rattle.arena.specs.Calls.{each, recycled}
-use Rattle.arena.specs.Models.{dropPlace}
-use Rattle.arena.specs.Tables.{Tables, W}
+use Rattle.nodes.specs.Words.{places, factOf, factPut, slot}
+use Rattle.arena.specs.Models.{staysOf, goneBy, dropPlace}
+use Rattle.arena.specs.Tables.{Tables}
 use Rattle.arena.specs.declared.Arena.{Arena}
 
 -- an arena's state
 abbrev pub stateOf : ℕ → ℕ → ℕ → ℕ → Arena
 stateOf c n top live = record { capacity = c; next = n; top = top; live = live }
 
--- the node in slot s has a hold, or a place besides the one that is owed
-unfoldable pub staysOf : Words → ℕ → Bool
-staysOf W s = pick (eqb (W s holds) 0) (ltb 1 (W s places)) true
+-- what `take_place_unless_last` answers, and the facts that it leaves
+pub record Took : Type 0 where
+  pub last : Bool
+  pub facts : List ℕ
 
--- one place taken from the node in slot s leaves it neither a hold nor a place
-unfoldable pub lastAt : Words → ℕ → Bool
-lastAt W s = pick (staysOf W s) false true
+abbrev pub took : Bool → List ℕ → Took
+took r f = record { last = r; facts = f }
 
--- one place taken from the node in slot s, if it stays
-unfoldable pub takenAt : List ℕ → ℕ → List ℕ
-takenAt f s = pick (staysOf (factOf f) s) (factPut f s places (factOf f s places - 1)) f
+-- one place taken from the node of id, if it stays; EMPTY has none
+unfoldable pub takeOf : List ℕ → ℕ → Took
+takeOf f id =
+    pick (eqb id 0) (took false f)
+    (pick (staysOf (factOf f) (slot id)) (took false (factPut f (slot id) places (factOf f (slot id) places - 1))) (took true f))
 
--- the same of the node of id
-unfoldable pub lastOf : Words → ℕ → Bool
-lastOf W id = pick (eqb id 0) false (lastAt W (slot id))
-
-unfoldable pub takenOf : List ℕ → ℕ → List ℕ
-takenOf f id = pick (eqb id 0) f (takenAt f (slot id))
-
--- slot s recycled, and its children dropped in turn
-unfoldable pub dropSlot : ℕ → Tables → ℕ → Tables
-dropSlot k t s = each (dropPlace k) (recycled t s) (kidsOf kidWords (W t) s)
+-- slot s recycled, and its children dropped in turn, k levels down at most
+abbrev pub dropSlot : ℕ → Tables → ℕ → Tables
+dropSlot k t s = goneBy (dropPlace k) t s

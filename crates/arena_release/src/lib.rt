@@ -1,12 +1,10 @@
 // Release: takes one hold, and recycles what has neither hold nor place. What it answers and leaves is in the crate arena's specs/Calls.antt.
 use arena::Answer;
 use arena::Arena;
-use arena::fit;
-use arena::is_live;
 use arena::less;
 use arena::settle;
 use arena::slot_of;
-use basics::FACT_WORDS;
+use arena::there_no;
 use basics::KID_WORDS;
 use basics::Kids;
 use basics::LAST_GENERATION;
@@ -21,22 +19,20 @@ use nodes::PLACES;
 use nodes::VALUE;
 use nodes::children;
 use nodes::fact;
+use nodes_write::put_fact;
 use nodes_write::write_slot;
 ghost use mathlib.Core.Path.{_≡_};
 ghost use Prim.Native.Nat.{ℕ, _+_, _*_, _^_, _≤_};
-ghost use lib.Dec.{eqb};
 ghost use Rattle.basics.specs.Limits.{deepest, kidWords};
-ghost use Rattle.basics.specs.Pick.{pick};
 ghost use Rattle.ids.specs.Ids.{generationOf};
-ghost use Rattle.nodes.specs.Words.{own as ownWord, nodes as nodesOf, factOf, wordOf, written, slot};
-ghost use Rattle.find.specs.Content.{homeAt};
-ghost use Rattle.arena.specs.Calls.{Fair, empties, deadFacts, recycled, each, releaseNo, releaseOf, enough, noneOf};
+ghost use Rattle.nodes.specs.Tally.{kidsOf};
+ghost use Rattle.nodes.specs.Words.{own as ownWord, nodes as nodesOf, factOf, kidOf, written};
+ghost use Rattle.arena.specs.Calls.{Fair, empties, deadFacts, recycled, each, releaseOf, noneOf};
 ghost use Rattle.arena.specs.Models.{dropPlace, releaseBy, releaseAny};
 ghost use Rattle.arena.specs.Node.{nextGeneration};
 ghost use Rattle.arena.specs.Lent.{before, after, answered};
-ghost use Rattle.arena_release.specs.Drop.{stateOf, lastAt, takenAt, lastOf, takenOf, dropSlot};
+ghost use Rattle.arena_release.specs.Drop.{stateOf, took, takeOf, dropSlot};
 
-// Eight EMPTY children.
 // An arena's state but for its capacity: three numbers go to a function in registers.
 struct Slots {
     next: usize,
@@ -63,7 +59,7 @@ fn clear_slot(kids: &mut [u64], facts: &mut [u64], s: usize, top: usize)
     write_slot(kids, facts, s, NO_KIDS, [o, 0, 0, 0, 0, top as u64, 0]);
 }
 
-// Clears slot s and puts it on top of the freed ones; the finding table no longer names it. `from` is the home of its content.
+// Clears slot s, whose children are `below`, and puts it on top of the freed ones; the finding table no longer names it.
 fn recycle(
     capacity: usize,
     a: Slots,
@@ -71,11 +67,12 @@ fn recycle(
     facts: &mut [u64],
     find: &mut [u16],
     s: usize,
-    from: usize,
+    below: Kids,
 ) -> Slots
-    requires { ⌜ from ≡ homeAt capacity (wordOf (nodesOf (now kids) (now facts))) s ⌝ }
+    requires { ⌜ below ≡ kidsOf kidWords (kidOf (now kids)) s ⌝ }
     ensures { λ r. ⌜ after (stateOf capacity (r .next) (r .top) (r .live)) kids facts find ≡ recycled (before (stateOf capacity (a .next) (a .top) (a .live)) kids facts find) s ⌝ }
 {
+    let from = home_for(capacity, below, fact(facts, s, VALUE));
     remove_from(find, kids, facts, capacity, s, from);
     clear_slot(kids, facts, s, a.top);
     Slots {
@@ -85,38 +82,24 @@ fn recycle(
     }
 }
 
-// Takes one place from the node in slot s if it then stays, by a hold or another place, and answers whether it goes instead. A table that has its places
-// has its holds too, just before them.
-fn take_place(facts: &mut [u64], s: usize) -> bool
-    ensures { λ r. ⌜ (r ≡ lastAt (factOf (now (facts .entry))) s) × (now (facts .exit) ≡ takenAt (now (facts .entry)) s) ⌝ }
+// Takes one place from the node of `id`, unless that leaves it neither a hold nor a place: then the answer is true, and nothing is written. EMPTY: nothing.
+fn take_place_unless_last(facts: &mut [u64], id: u64) -> bool
+    ensures { λ r. ⌜ took r (now (facts .exit)) ≡ takeOf (now (facts .entry)) id ⌝ }
 {
-    if facts.len() <= s {
-        return true;
+    if id == BlockId::EMPTY.0 {
+        return false;
     }
-    let placed = FACT_WORDS * s + (PLACES - OWN);
-    if facts.len() <= placed {
-        return fact(facts, s, HOLDS) == 0;
-    }
-    let p = facts[placed];
+    let s = slot_of(id);
+    let p = fact(facts, s, PLACES);
     if 1 < p {
-        facts[placed] = p - 1;
+        put_fact(facts, s, PLACES, p - 1);
         return false;
     }
-    if facts[FACT_WORDS * s + (HOLDS - OWN)] == 0 {
+    if fact(facts, s, HOLDS) == 0 {
         return true;
     }
-    facts[placed] = 0;
+    put_fact(facts, s, PLACES, 0);
     false
-}
-
-// Takes one place from the node of `id` if it then stays, and answers whether it goes instead. EMPTY: nothing.
-fn is_last(facts: &mut [u64], id: u64) -> bool
-    ensures { λ r. ⌜ (r ≡ lastOf (factOf (now (facts .entry))) id) × (now (facts .exit) ≡ takenOf (now (facts .entry)) id) ⌝ }
-{
-    if id == 0 {
-        return false;
-    }
-    take_place(facts, slot_of(id))
 }
 
 // Are all eight EMPTY, as a leaf's are?
@@ -133,7 +116,7 @@ fn no_kids(ks: Kids) -> bool
     true
 }
 
-// Recycles slot s, and drops its children in turn.
+// Recycles slot s, and drops its children in turn, `levels` levels down at most.
 fn drop_slot(
     capacity: usize,
     a: Slots,
@@ -141,56 +124,52 @@ fn drop_slot(
     facts: &mut [u64],
     find: &mut [u16],
     s: usize,
-    left: u64,
+    levels: u64,
 ) -> Slots
-    ensures { λ r. ⌜ after (stateOf capacity (r .next) (r .top) (r .live)) kids facts find ≡ dropSlot left (before (stateOf capacity (a .next) (a .top) (a .live)) kids facts find) s ⌝ }
+    ensures { λ r. ⌜ after (stateOf capacity (r .next) (r .top) (r .live)) kids facts find ≡ dropSlot levels (before (stateOf capacity (a .next) (a .top) (a .live)) kids facts find) s ⌝ }
 {
     let below = children(kids, s);
-    let from = home_for(capacity, below, fact(facts, s, VALUE));
-    let b = recycle(capacity, a, kids, facts, find, s, from);
+    let b = recycle(capacity, a, kids, facts, find, s, below);
     if no_kids(below) {
         return b;
     }
-    if left == 0 {
+    if levels == 0 {
         return b;
     }
-    drop_all(capacity, b, kids, facts, find, below, left - 1)
+    drop_all(capacity, b, kids, facts, find, below, levels - 1)
 }
 
-// Takes one place from each of the eight ids, and recycles what is left without any: each completely before the next.
+// Takes one place from each of the eight ids, and recycles what is left without any, with what is `levels` levels below it: each completely before the next.
 fn drop_all(
     capacity: usize,
     a: Slots,
     kids: &mut [u64],
     facts: &mut [u64],
     find: &mut [u16],
-    below: Kids,
-    left: u64,
+    ids: Kids,
+    levels: u64,
 ) -> Slots
-    ensures { λ r. ⌜ after (stateOf capacity (r .next) (r .top) (r .live)) kids facts find ≡ each (dropPlace (left + 1)) (before (stateOf capacity (a .next) (a .top) (a .live)) kids facts find) below ⌝ }
+    ensures { λ r. ⌜ after (stateOf capacity (r .next) (r .top) (r .live)) kids facts find ≡ each (dropPlace (levels + 1)) (before (stateOf capacity (a .next) (a .top) (a .live)) kids facts find) ids ⌝ }
 {
     let mut b = a;
     let mut i: usize = 0;
     while i < KID_WORDS {
-        let id = below[i];
+        let id = ids[i];
         i += 1;
-        if is_last(facts, id) {
-            b = drop_slot(capacity, b, kids, facts, find, slot_of(id), left);
+        if take_place_unless_last(facts, id) {
+            b = drop_slot(capacity, b, kids, facts, find, slot_of(id), levels);
         }
     }
     b
 }
 
-// Takes one hold from the node of `id`; EMPTY: nothing. No node is taller than TALLEST, so one level more is enough.
-fn release_at(a: Arena, kids: &mut [u64], facts: &mut [u64], find: &mut [u16], id: u64) -> Arena
-    ensures { λ r. ⌜ after r kids facts find ≡ pick (eqb id 0) (before a kids facts find) (releaseBy deepest (before a kids facts find) id) ⌝ }
+// Takes one hold from the node of `id`. No node is taller than TALLEST.
+fn take_hold(a: Arena, kids: &mut [u64], facts: &mut [u64], find: &mut [u16], id: u64) -> Arena
+    ensures { λ r. ⌜ after r kids facts find ≡ releaseBy deepest (before a kids facts find) id ⌝ }
 {
-    if id == 0 {
-        return a;
-    }
     let s = slot_of(id);
     settle(facts, s);
-    if is_last(facts, id) {
+    if take_place_unless_last(facts, id) {
         let slots = Slots {
             next: a.next,
             top: a.top,
@@ -207,34 +186,21 @@ fn release_at(a: Arena, kids: &mut [u64], facts: &mut [u64], find: &mut [u16], i
     a
 }
 
-// Refusals 1, 4 and 5.
-fn release_no(a: Arena, kids: &[u64], facts: &[u64], find: &[u16], id: u64) -> u32
-    ensures { λ r. ⌜ r ≡ releaseNo (before a kids facts find) id ⌝ }
-{
-    if fit(a.capacity, kids.len(), facts.len(), find.len()) {
-        if id == 0 {
-            return 0;
-        }
-        if is_live(a.capacity, facts, id) {
-            if fact(facts, slot_of(id), HOLDS) == 0 {
-                return 5;
-            }
-            return 0;
-        }
-        return 4;
-    }
-    1
-}
-
-// Release on any tables.
+// Release on any tables. Refusals 1, 4 and 5; EMPTY: nothing.
 fn release_any(a: Arena, kids: &mut [u64], facts: &mut [u64], find: &mut [u16], id: u64) -> Answer
     ensures { λ r. ⌜ answered r kids facts find ≡ releaseAny deepest (before a kids facts find) id ⌝ }
 {
-    let no = release_no(a, kids, facts, find, id);
+    let no = there_no(a, kids, facts, find, id);
     if no != 0 {
         return Answer { no: no, arena: a };
     }
-    let b = release_at(a, kids, facts, find, id);
+    if id == BlockId::EMPTY.0 {
+        return Answer { no: 0, arena: a };
+    }
+    if fact(facts, slot_of(id), HOLDS) == 0 {
+        return Answer { no: 5, arena: a };
+    }
+    let b = take_hold(a, kids, facts, find, id);
     Answer { no: 0, arena: b }
 }
 

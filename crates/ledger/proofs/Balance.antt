@@ -13,7 +13,7 @@ use Rattle.basics.specs.Pick.{pick}
 use Rattle.ids.specs.Ids.{invalid, empty, generationOf}
 use Rattle.nodes.specs.Tally.{Live, occ, tally}
 use Rattle.nodes.specs.Words.{own, holds, places, spare, slot, floor, wordOf}
-use Rattle.nodes.proofs.Access.{put-less, put-slot, within-size}
+use Rattle.nodes.proofs.Access.{put-keeps, put-less, put-slot, within-size}
 use Rattle.nodes.proofs.Counts.{live-same, live-inj, live-nonzero, floor-pos}
 use Rattle.nodes.proofs.Sums.{cases, split}
 use Rattle.arena.specs.Calls.{Out, said, heldAt, freshSlot, empties, leafMade, internLeafOf, leafSlot, lessOf, takes, releaseOf, holdOf, freshOf, unheld, placed, branchMade, branchSlot, internBranchOf, fitOf, slotGiven, named, liveOf, countsOf}
@@ -31,7 +31,7 @@ use Rattle.ledger.specs.Fates.{Lives, Same, Grew, Has}
 use Rattle.ledger.proofs.Effects.{live-true, by-life, holds-live, holds-dead, on-zero, on-same, on-diff, accepted, unaccepted, counted-holds, was-live}
 use Rattle.ledger.proofs.Found.{leaf-found, branch-found, slot-own}
 use Rattle.ledger.proofs.Ladders.{Fine, branchHeld, leaf-made-no, branch-made-no, leaf-ways, branch-ways, hold-ways, release-ways}
-use Rattle.ledger.proofs.Writes.{put-keeps, held-cap, held-grew, held-balance, unheld-holds, placed-holds, given-cap, new-grew, new-only, new-has, new-gens, new-balance}
+use Rattle.ledger.proofs.Writes.{held-cap, held-grew, held-balance, unheld-holds, placed-holds, given-cap, new-grew, new-only, new-has, new-gens, new-balance}
 
 -- ---- what each call grants and takes
 

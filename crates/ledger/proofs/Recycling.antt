@@ -8,21 +8,19 @@ use native.Mathlib.Omega.{arith}
 use Rattle.ids.specs.Ids.{generationOf}
 use Rattle.nodes.specs.Tally.{Live, kidsOf, occ}
 use Rattle.nodes.specs.Words.{Words, own, height, holds, places, slot, floor}
-use Rattle.nodes.proofs.Access.{written-others, written-fact}
+use Rattle.nodes.proofs.Access.{put-keeps}
 use Rattle.nodes.proofs.Counts.{total-append}
-use Rattle.nodes.proofs.Frame.{Frame}
+use Rattle.nodes.proofs.Frame.{frame-low}
 use Rattle.nodes.proofs.Sums.{cases, occ-here, occ-cons}
-use Rattle.arena.specs.Calls.{empties, deadFacts, recycled, each, takes}
+use Rattle.arena.specs.Calls.{recycled, each, takes}
 use Rattle.arena.specs.Models.{unplaced, dropOne, dropPlace, settled, releaseBy}
 use Rattle.arena.specs.Node.{nextGeneration}
 use Rattle.arena.specs.Tables.{Tables, cap, W, WellFormed}
-use Rattle.arena.proofs.Dropping.{step-empty, step-held, step-more, step-last, one-step, debtor, recycled-cap, recycled-inv, recycled-frame, Dropped, drop-good}
+use Rattle.arena.proofs.Dropping.{one-empty, one-held, one-more, one-last, debtor, recycle-others, recycle-own, recycled-cap, recycled-inv, recycled-frame, Dropped, drop-good}
 use Rattle.arena.proofs.Ids.{nextGen-le, dead-low}
-use Rattle.arena.proofs.Inv.{Inv, sized-within}
+use Rattle.arena.proofs.Inv.{Inv}
 use Rattle.arena.proofs.Releasing.{release-by, u-inv, u-word, u-short}
-use Rattle.arena.proofs.Rows.{dead-length, dead-own, empties-length}
 use Rattle.ledger.specs.Fates.{Lives}
-use Rattle.ledger.proofs.Writes.{put-keeps}
 
 -- each own word is as it was, or it was a live node's and the slot was recycled: the next generation, alone
 abbrev pub Recycles : ℕ → Words → Words → Type 0
@@ -44,18 +42,6 @@ unplaced-recycles : (t : Tables) (s : ℕ) → Recycles (cap t) (W t) (W (unplac
 unfolding unplaced
 unplaced-recycles t s b l = inl (put-keeps (t .nodes) s places (W t s places - 1) b own (omega arith))
 
-recycled-own : (t : Tables) (x : ℕ) (debt : List ℕ) → Inv t (x ∷ debt) → x ≢ 0 → W (recycled t (slot x)) (slot x) own ≡ nextGeneration (generationOf (W t (slot x) own)) * 2 ^ 32
-unfolding recycled
-recycled-own t x debt v d =
-    written-fact (t .nodes) (slot x) empties (deadFacts (W t (slot x) own) (t .arena .top)) empties-length (dead-length (W t (slot x) own) (t .arena .top))
-    (sized-within t (slot x) (v .sized) (debtor t x debt v d .low)) 0 (omega arith)
-    ∙ dead-own (W t (slot x) own) (t .arena .top)
-
-recycled-others : (t : Tables) (s b : ℕ) → b ≢ s → W (recycled t s) b own ≡ W t b own
-unfolding recycled
-recycled-others t s b d =
-    written-others (t .nodes) s empties (deadFacts (W t s own) (t .arena .top)) empties-length (dead-length (W t s own) (t .arena .top)) b own d (omega arith)
-
 recycled-recycles : (t : Tables) (x : ℕ) (debt : List ℕ) → Inv t (x ∷ debt) → x ≢ 0 → Recycles (cap t) (W t) (W (recycled t (slot x)))
 recycled-recycles t x debt v d b l = cases (ℕ-discrete b (slot x))
     (λ q.
@@ -63,21 +49,13 @@ recycled-recycles t x debt v d b l = cases (ℕ-discrete b (slot x))
     let i = live .is in
     let h = live .high in
     let g : floor ≤ W t (slot x) own = omega arith in
-    inr (subst (λ (z : ℕ). (floor ≤ W t z own) × (W (recycled t (slot x)) z own ≡ nextGeneration (generationOf (W t z own)) * 2 ^ 32)) (sym q) (g, recycled-own t x debt v d)))
-    (λ q. inl (recycled-others t (slot x) b q))
+    inr (subst (λ (z : ℕ). (floor ≤ W t z own) × (W (recycled t (slot x)) z own ≡ nextGeneration (generationOf (W t z own)) * 2 ^ 32)) (sym q) (g, recycle-own t x debt v d)))
+    (λ q. inl (recycle-others t x debt v d b own q (omega arith)))
 
 -- ---- the recursion
 
 abbrev Turns : (Tables → ℕ → Tables) → ℕ → Type 0
 Turns rec k = (t : Tables) (x : ℕ) (debt : List ℕ) → Inv t (x ∷ debt) → (x ≢ 0 → W t (slot x) height < k) → Recycles (cap t) (W t) (W (rec t x))
-
--- a height goes through
-still-low : (c k z : ℕ) (U U′ : Words) → Frame c U U′ → Live c U′ z → U (slot z) height < k → U′ (slot z) height < k
-still-low c k z U U′ r v h =
-    let i = v .is in
-    let g = v .high in
-    let e = r .kept (slot z) (v .low) (omega arith) height (omega arith) (omega arith) in
-    omega arith
 
 each-turns : (k : ℕ) → Turns (dropPlace k) k → (ys : List ℕ) (t : Tables) (debt : List ℕ) → Inv t (ys ++ debt) → ((y : ℕ) → y ≢ 0 → 1 ≤ occ y ys → W t (slot y) height < k)
     → Recycles (cap t) (W t) (W (each (dropPlace k) t ys))
@@ -87,15 +65,11 @@ each-turns k g (y ∷ ys) t debt v h =
     let r : Dropped t (dropPlace k t y) (ys ++ debt) = drop-good k t y (ys ++ debt) v (λ z. h y z (omega (arith, occ-here y ys))) in
     let low : (z : ℕ) → z ≢ 0 → 1 ≤ occ z ys → W (dropPlace k t y) (slot z) height < k = (λ z d m.
     let w = r .inv .counts .named z d (omega (arith, total-append 8 (cap (dropPlace k t y)) (W (dropPlace k t y)) z ys debt)) in
-    still-low (cap t) k z (W t) (W (dropPlace k t y)) (r .frame) (subst (λ (c : ℕ). Live c (W (dropPlace k t y)) z) (r .size) w) (h z d (omega (arith, occ-cons z y ys)))) in
+    frame-low (cap t) (W t) (W (dropPlace k t y)) k z (r .frame) (subst (λ (c : ℕ). Live c (W (dropPlace k t y)) z) (r .size) w) (h z d (omega (arith, occ-cons z y ys)))) in
     let rest : Recycles (cap t) (W (dropPlace k t y)) (W (each (dropPlace k) (dropPlace k t y) ys)) =
     subst (λ (c : ℕ). Recycles c (W (dropPlace k t y)) (W (each (dropPlace k) (dropPlace k t y) ys))) (r .size) (each-turns k g ys (dropPlace k t y) debt (r .inv) low) in
     recycles-trans (cap t) (W t) (W (dropPlace k t y)) (W (each (dropPlace k) (dropPlace k t y) ys))
     (g t y (ys ++ debt) v (λ z. h y z (omega (arith, occ-here y ys)))) rest
-
-each-none : (rec : Tables → ℕ → Tables) (t : Tables) → each rec t [] ≡ t
-unfolding each
-each-none rec t = refl
 
 last-turns : (k : ℕ) → Turns (dropPlace k) k → (t : Tables) (x : ℕ) (debt : List ℕ) → Inv t (x ∷ debt) → (x ≢ 0 → W t (slot x) height < suc k)
     → x ≢ 0 → W t (slot x) holds ≡ 0 → W t (slot x) places ≤ 1 → Recycles (cap t) (W t) (W (each (dropPlace k) (recycled t (slot x)) (kidsOf 8 (W t) (slot x))))
@@ -108,7 +82,7 @@ last-turns k g t x debt v h d u one =
     let w = i .counts .named y z (omega (arith, total-append 8 (cap (recycled t (slot x))) (W (recycled t (slot x))) y (kidsOf 8 (W t) (slot x)) debt)) in
     let p = v .counts .tall (slot x) y (live .low) z m in
     let q = h d in
-    still-low (cap t) k y (W t) (W (recycled t (slot x))) f (subst (λ (c : ℕ). Live c (W (recycled t (slot x))) y) e w) (omega arith)) in
+    frame-low (cap t) (W t) (W (recycled t (slot x))) k y f (subst (λ (c : ℕ). Live c (W (recycled t (slot x))) y) e w) (omega arith)) in
     recycles-trans (cap t) (W t) (W (recycled t (slot x))) (W (each (dropPlace k) (recycled t (slot x)) (kidsOf 8 (W t) (slot x))))
     (recycled-recycles t x debt v d)
     (subst (λ (c : ℕ). Recycles c (W (recycled t (slot x))) (W (each (dropPlace k) (recycled t (slot x)) (kidsOf 8 (W t) (slot x))))) e
@@ -116,14 +90,14 @@ last-turns k g t x debt v h d u one =
 
 one-turns : (k : ℕ) → Turns (dropPlace k) k → Turns (dropOne (dropPlace k)) (suc k)
 one-turns k g t x debt v h = cases (ℕ-discrete x 0)
-    (λ e. to t (one-step t x (dropPlace k) _ (step-empty t x e) ∙ each-none (dropPlace k) t) (λ b l. inl refl))
+    (λ e. to t (one-empty (dropPlace k) t x e) (λ b l. inl refl))
     (λ d. cases (ℕ-discrete (W t (slot x) holds) 0)
     (λ u. cases (decLt 1 (W t (slot x) places))
-    (λ p. to (unplaced t (slot x)) (one-step t x (dropPlace k) _ (step-more t x d u p) ∙ each-none (dropPlace k) (unplaced t (slot x))) (unplaced-recycles t (slot x)))
+    (λ p. to (unplaced t (slot x)) (one-more (dropPlace k) t x d u p) (unplaced-recycles t (slot x)))
     (λ p.
     let one : W t (slot x) places ≤ 1 = omega arith in
-    to (each (dropPlace k) (recycled t (slot x)) (kidsOf 8 (W t) (slot x))) (one-step t x (dropPlace k) _ (step-last t x d u one)) (last-turns k g t x debt v h d u one)))
-    (λ u. to (unplaced t (slot x)) (one-step t x (dropPlace k) _ (step-held t x d u) ∙ each-none (dropPlace k) (unplaced t (slot x))) (unplaced-recycles t (slot x))))
+    to (each (dropPlace k) (recycled t (slot x)) (kidsOf 8 (W t) (slot x))) (one-last (dropPlace k) t x d u one) (last-turns k g t x debt v h d u one)))
+    (λ u. to (unplaced t (slot x)) (one-held (dropPlace k) t x d u) (unplaced-recycles t (slot x))))
   where
     to : (r : Tables) → dropOne (dropPlace k) t x ≡ r → Recycles (cap t) (W t) (W r) → Recycles (cap t) (W t) (W (dropOne (dropPlace k) t x))
     to r e p = subst (λ (z : Tables). Recycles (cap t) (W t) (W z)) (sym e) p

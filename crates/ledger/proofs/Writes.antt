@@ -10,7 +10,7 @@ use borrow.Author.Tests.{eq-eqb, ne-eqb}
 use Rattle.ids.specs.Ids.{generationOf}
 use Rattle.nodes.specs.Tally.{occ, kidsOf}
 use Rattle.nodes.specs.Words.{Nodes, own, value, holds, places, slot, floor, wordOf, putOf, written}
-use Rattle.nodes.proofs.Access.{Within, put-same, put-slot, put-field, put-less, written-others, written-kid, written-fact}
+use Rattle.nodes.proofs.Access.{Within, put-same, put-slot, put-field, put-keeps, put-less, written-others, written-kid, written-fact}
 use Rattle.nodes.proofs.Counts.{Others, live-inj, live-nonzero}
 use Rattle.nodes.proofs.Sums.{cases, occ-nil, occ-cons, occ-here, occ-there}
 use Rattle.find.proofs.Contents.{kids-are}
@@ -22,9 +22,6 @@ use Rattle.arena.proofs.Rows.{fresh-length}
 use Rattle.ledger.specs.Ledger.{on, holdsOn}
 use Rattle.ledger.specs.Fates.{Lives, Grew, Has}
 use Rattle.ledger.proofs.Effects.{on-same, on-diff, counted-holds, made-holds, still-live, was-live}
-
-pub put-keeps : (l : Nodes) (s f v b g : ℕ) → g ≢ f → wordOf (putOf l s f v) b g ≡ wordOf l b g
-put-keeps l s f v b g d = cases (ℕ-discrete b s) (λ (e : b ≡ s). rw e (put-field l s f v g d)) (λ e. put-slot l s f v b g e)
 
 -- ---- one hold more
 

@@ -157,6 +157,10 @@ module _ (x : Nodes) (s f v : ℕ) where
   pub put-field : (g : ℕ) → g ≢ f → wordOf (putOf x s f v) s g ≡ wordOf x s g
   put-field g d = put-elsewhere s g (λ h k i j e. d (omega arith))
 
+  -- another word, in any slot
+  pub put-keeps : (b g : ℕ) → g ≢ f → wordOf (putOf x s f v) b g ≡ wordOf x b g
+  put-keeps b g d = cases (ℕ-discrete b s) (λ (e : b ≡ s). rw e (put-field g d)) (λ e. put-slot b g e)
+
 pub put-put : (x : Nodes) (s f v w : ℕ) → putOf (putOf x s f v) s f w ≡ putOf x s f w
 unfolding putOf
 put-put x s f v w = ap (nodes (x .kids)) (

@@ -29,6 +29,14 @@ frame-trans {cap} {W₀} {W₁} {W₂} p q = record {
       q .held b l v (omega arith);
 }
 
+-- a height goes through
+pub frame-low : (cap : ℕ) (W W′ : Words) (k z : ℕ) → Frame cap W W′ → Live cap W′ z → W (slot z) height < k → W′ (slot z) height < k
+frame-low cap W W′ k z r v h =
+    let i = v .is in
+    let g = v .high in
+    let e = r .kept (slot z) (v .low) (omega arith) height (omega arith) (omega arith) in
+    omega arith
+
 -- y is a, or stands below it
 pub data Under (W : Words) (a : ℕ) : ℕ → Type 0 where
   here : Under W a a

@@ -1,48 +1,44 @@
 use borrow.Author.Needs.{needs}
-use mathlib.Core.Path.{_≡_, sym, ap, _∙_}
-use mathlib.Core.Bool.{Bool, true, false}
+use mathlib.Core.Path.{_≡_, sym, ap, ap₂, _∙_}
 use mathlib.Core.List.{List}
 use Prim.Native.Nat.{ℕ}
-use lib.ListN.{length}
+use lib.Dec.{eqb}
 use borrow.Author.Tests.{eq-eqb, ne-eqb}
-use Rattle.nodes.specs.Words.{factOf, holds, nodes, places, slot, wordOf}
-use Rattle.arena.specs.Calls.{countsOf, fitOf, liveOf, numbers}
-use Rattle.arena.specs.Tables.{tables}
+use Rattle.basics.specs.Pick.{pick}
+use Rattle.nodes.specs.Words.{factOf, holds, places, slot, wordOf}
+use Rattle.arena.specs.Calls.{Numbers, countsOf, numbers, thereNo}
+use Rattle.arena.specs.Tables.{Tables, W, tables}
 use Rattle.arena.specs.declared.Arena.{Arena}
+use Rattle.arena.proofs.Fits.{there-law}
 use Rattle.arena_hold.proofs.counts.Statement.{statement}
 use Rattle.arena_hold.proofs.counts.Tie as tie
 
-numbers-path : (x h p k q : ℕ) → h ≡ k → p ≡ q → numbers x h p ≡ numbers x k q
-numbers-path x h p k q a b = λ i. record { no = x; holds = a i; places = b i }
+module _ (a : Arena) (k f e : List ℕ) (id x : ℕ) (ex : x ≡ thereNo (tables a k f e) id) where
+  abbrev t : Tables
+  t = tables a k f e
 
-module _ (a : Arena) (k f e : List ℕ) (id : ℕ) (r : Bool) (er : r ≡ fitOf (a .capacity) (length k) (length f) (length e)) where
-  unsized : r ≡ false → numbers 1 0 0 ≡ countsOf (tables a k f e) id
+  abbrev both : Numbers
+  both = numbers 0 (W t (slot id) holds) (W t (slot id) places)
+
+  all : countsOf t id ≡ pick (eqb x 0) (pick (eqb id 0) (numbers 0 0 0) both) (numbers x 0 0)
   unfolding countsOf
-  unsized z = rw (sym er ∙ z)
+  all = there-law t id (λ k. numbers k 0 0) both ∙ ap (λ (y : ℕ). pick (eqb y 0) (pick (eqb id 0) (numbers 0 0 0) both) (numbers y 0 0)) (sym ex)
 
-  empty : r ≡ true → id ≡ 0 → numbers 0 0 0 ≡ countsOf (tables a k f e) id
-  unfolding countsOf
-  empty z n = rw (sym er ∙ z, eq-eqb id 0 n)
+  refusal : (x ≡ 0 → ⊥) → numbers x 0 0 ≡ countsOf t id
+  refusal d = rw (all, ne-eqb x 0 d)
 
-  module _ (t : r ≡ true) (d : id ≡ 0 → ⊥) (q : Bool) (eq : q ≡ liveOf (a .capacity) (factOf f) id) where
-    live : liveOf (a .capacity) (wordOf (nodes k f)) id ≡ q
-    unfolding liveOf wordOf
-    live = sym eq
+  nothing : x ≡ 0 → id ≡ 0 → numbers 0 0 0 ≡ countsOf t id
+  nothing z n = rw (all, eq-eqb x 0 z, eq-eqb id 0 n)
 
-    dead : q ≡ false → numbers 4 0 0 ≡ countsOf (tables a k f e) id
-    unfolding countsOf
-    dead z = rw (sym er ∙ t, ne-eqb id 0 d, live ∙ z)
+  alive : (s h p : ℕ) → x ≡ 0 → (id ≡ 0 → ⊥) → s ≡ slot id → h ≡ factOf f s holds → p ≡ factOf f s places → numbers 0 h p ≡ countsOf t id
+  unfolding wordOf
+  alive s h p z d es eh ep =
+      rw (all, eq-eqb x 0 z, ne-eqb id 0 d) (ap₂ (numbers 0) (eh ∙ ap (λ (y : ℕ). factOf f y holds) es) (ep ∙ ap (λ (y : ℕ). factOf f y places) es))
 
-    alive : (s h p : ℕ) → q ≡ true → s ≡ slot id → h ≡ factOf f s holds → p ≡ factOf f s places → numbers 0 h p ≡ countsOf (tables a k f e) id
-    unfolding countsOf wordOf
-    alive s h p z es eh ep =
-        rw (sym er ∙ t, ne-eqb id 0 d, live ∙ z)
-        (numbers-path _ _ _ _ _ (eh ∙ ap (λ (x : ℕ). factOf f x holds) es) (ep ∙ ap (λ (x : ℕ). factOf f x places) es))
-
-ruleset mine = (unsized, empty, dead, alive)
+ruleset mine = (refusal, nothing, alive)
 
 pub counts-spec : {M : Type 1} → statement M
 counts-spec =
     tie.close
-    (tie.spec (λ c κs. search needs) (λ c. search mine) (λ c κs. search needs) (λ c κs. search needs) (λ c κs. search needs)
-    (λ c κs. search needs) (λ c. search mine) (λ c. search mine) (λ c. search mine))
+    (tie.spec (λ c κs. search needs) (λ c. search mine) (λ c. search mine) (λ c κs. search needs) (λ c κs. search needs)
+    (λ c κs. search needs) (λ c. search mine))

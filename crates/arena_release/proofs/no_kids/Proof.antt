@@ -8,6 +8,7 @@ use Rattle.arena.proofs.Eight.{all-last, all-step, all-stop}
 use Rattle.arena_release.proofs.no_kids.Statement.{statement}
 use Rattle.arena_release.proofs.no_kids.Tie as tie
 
+-- invariant: all eight are EMPTY exactly if those from i on are
 abbrev Inv-loop : tie.InvT-loop
 Inv-loop ks i₀ i = (i ≤ 8) × (length ks ≡ 8) × (allOf (λ k. eqb k 0) ks ≡ allOf (λ k. eqb k 0) (drop i ks))
 

@@ -1,32 +1,53 @@
 use borrow.Author.Needs.{needs}
-use mathlib.Core.Path.{_≡_, refl, sym, ap, _∙_}
+use mathlib.Core.Path.{_≡_, sym, ap, _∙_}
 use mathlib.Core.List.{List}
 use Prim.Native.Nat.{ℕ}
 use lib.Dec.{eqb}
 use borrow.Author.Tests.{eq-eqb, ne-eqb}
 use Rattle.basics.specs.Pick.{pick}
-use Rattle.arena.specs.Calls.{did, releaseNo}
+use Rattle.nodes.specs.Words.{factOf, holds, slot, wordOf}
+use Rattle.arena.specs.Calls.{did, releaseNo, thereNo}
 use Rattle.arena.specs.Models.{releaseAny, releaseBy}
-use Rattle.arena.specs.Tables.{tables}
+use Rattle.arena.specs.Tables.{Tables, W, tables}
 use Rattle.arena.specs.declared.Arena.{Arena}
-use Rattle.arena.proofs.Outs.{said-path}
+use Rattle.arena.proofs.Fits.{there-law}
 use Rattle.arena_release.proofs.release_any.Statement.{statement}
 use Rattle.arena_release.proofs.release_any.Tie as tie
 
-module _ (a : Arena) (k f e : List ℕ) (id x : ℕ) (ex : x ≡ releaseNo (tables a k f e) id) where
-  refusal : (x ≡ 0 → ⊥) → did x (tables a k f e) ≡ releaseAny 6 (tables a k f e) id
-  unfolding releaseAny
-  refusal d = rw (ne-eqb (releaseNo (tables a k f e) id) 0 (λ y. d (ex ∙ y))) (said-path _ _ _ _ _ _ ex refl refl)
+module _ (a : Arena) (k f e : List ℕ) (id x : ℕ) (ex : x ≡ thereNo (tables a k f e) id) where
+  abbrev t : Tables
+  t = tables a k f e
 
-  freed : (b : Arena) (k′ f′ e′ : List ℕ) → x ≡ 0 → tables b k′ f′ e′ ≡ pick (eqb id 0) (tables a k f e) (releaseBy 6 (tables a k f e) id)
-      → did 0 (tables b k′ f′ e′) ≡ releaseAny 6 (tables a k f e) id
-  unfolding releaseAny
-  freed b k′ f′ e′ z h = rw (eq-eqb (releaseNo (tables a k f e) id) 0 (sym ex ∙ z)) (ap (did 0) h)
+  number : releaseNo t id ≡ pick (eqb x 0) (pick (eqb id 0) 0 (pick (eqb (W t (slot id) holds) 0) 5 0)) x
+  unfolding releaseNo
+  number =
+      there-law t id (λ k. k) (pick (eqb (W t (slot id) holds) 0) 5 0)
+      ∙ ap (λ (y : ℕ). pick (eqb y 0) (pick (eqb id 0) 0 (pick (eqb (W t (slot id) holds) 0) 5 0)) y) (sym ex)
 
-ruleset mine = (refusal, freed)
+  refusal : (x ≡ 0 → ⊥) → did x t ≡ releaseAny 6 t id
+  unfolding releaseAny
+  refusal d = rw (number, ne-eqb x 0 d, ne-eqb x 0 d)
+
+  module _ (z : x ≡ 0) where
+    nothing : id ≡ 0 → did 0 t ≡ releaseAny 6 t id
+    unfolding releaseAny
+    nothing n = rw (number, eq-eqb x 0 z, eq-eqb id 0 n)
+
+    module _ (s h : ℕ) (d : id ≡ 0 → ⊥) (es : s ≡ slot id) (eh : h ≡ factOf f s holds) where
+      here : h ≡ factOf f (slot id) holds
+      here = eh ∙ ap (λ (y : ℕ). factOf f y holds) es
+
+      unheld : (k′ f′ e′ : List ℕ) → k′ ≡ k → f′ ≡ f → e′ ≡ e → h ≡ 0 → did 5 (tables a k′ f′ e′) ≡ releaseAny 6 t id
+      unfolding releaseAny wordOf
+      unheld k′ f′ e′ ek ef ee n = rw (ek, ef, ee, number, eq-eqb x 0 z, ne-eqb id 0 d, eq-eqb (factOf f (slot id) holds) 0 (sym here ∙ n))
+
+      freed : (b : Arena) (k′ f′ e′ : List ℕ) → (h ≡ 0 → ⊥) → tables b k′ f′ e′ ≡ releaseBy 6 t id → did 0 (tables b k′ f′ e′) ≡ releaseAny 6 t id
+      unfolding releaseAny wordOf
+      freed b k′ f′ e′ n eu = rw (number, eq-eqb x 0 z, ne-eqb id 0 d, ne-eqb (factOf f (slot id) holds) 0 (λ y. n (here ∙ y))) (ap (did 0) eu)
 
 pub release-any-spec : {M : Type 1} → statement M
 release-any-spec =
     tie.close
-    (tie.spec (λ c κs. search needs) (λ c. search needs) (λ c. search needs) (λ c. search needs) (λ c. search mine) (λ c κs. search needs)
-    (λ c. search needs) (λ c. search needs) (λ c. search needs) (λ c. search mine))
+    (tie.spec (λ c κs. search needs) (λ c. search needs) (λ c. search needs) (λ c. search needs) (λ c. search refusal) (λ c. search needs)
+    (λ c. search needs) (λ c. search needs) (λ c. search nothing) (λ c κs. search needs) (λ c κs. search needs) (λ c. search needs) (λ c. search needs)
+    (λ c. search needs) (λ c. search unheld) (λ c κs. search needs) (λ c. search needs) (λ c. search needs) (λ c. search needs) (λ c. search freed))
