@@ -18,8 +18,8 @@ use Rattle.find.specs.Content.{homeAt}
 use Rattle.find.proofs.Probing.{found}
 use Rattle.arena.specs.Tables.{Tables, cap, W, LiveSlot, Sized, WellFormed}
 use Rattle.check_arena.proofs.Slots.{GoodSlot}
-use Rattle.check_freed.specs.Models.{seat}
-use Rattle.check_freed.proofs.Searching.{alike, alike-self, alike-words, seat-probe, Seated, seated-reach}
+use Rattle.check_find.specs.Models.{seat}
+use Rattle.check_find.proofs.Searching.{alike, alike-self, alike-words, seat-probe, Seated, seated-reach}
 
 -- all but the tally
 pub record Sound (n tallest : ℕ) (t : Tables) : Type 0 where

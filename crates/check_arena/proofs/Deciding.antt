@@ -16,12 +16,14 @@ use Rattle.arena.specs.declared.Arena.{Arena}
 use Rattle.arena.specs.Tables.{Tables, tables, WellFormed}
 use Rattle.arena.proofs.Fits.{fits-sized, sized-fits}
 use Rattle.arena.proofs.Ids.{node-slot, node-child}
-use Rattle.check_freed.specs.Models.{allIn, countTo, clearTo, agreeAt}
+use Rattle.check_freed.specs.Models.{allIn}
+use Rattle.check_places.specs.Models.{countTo, clearTo, agreeAt}
 use Rattle.check_freed.proofs.Ladders.{Tells, tells-le, tells-map, tells-and, not-yes, not-no}
-use Rattle.check_freed.proofs.Tallying.{count-restored, tallies-law}
-use Rattle.check_freed.proofs.Searching.{find-tells, state-tells}
+use Rattle.check_places.proofs.Tallying.{count-restored, tallies-law}
+use Rattle.check_freed.proofs.Freed.{state-tells}
+use Rattle.check_find.proofs.Searching.{find-tells}
 use Rattle.check_arena.specs.Models.{rangedBy, soundBy, checkBy}
-use Rattle.check_arena.proofs.Slots.{GoodSlot, slots-tell}
+use Rattle.check_arena.proofs.Slots.{slots-tell}
 use Rattle.check_arena.proofs.Checking.{Sound, Tallied, well-sound, sound-well}
 
 module _ (a : Arena) (k f e : List ℕ) where

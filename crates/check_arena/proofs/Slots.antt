@@ -1,7 +1,7 @@
 -- One slot: what the code tests is what the rules say.
-use mathlib.Core.Path.{_≡_, refl, sym, ap, _∙_}
+use mathlib.Core.Path.{_≡_, sym, ap, _∙_}
 use mathlib.Core.Logic.{_≢_, _⊎_, inl, inr, ⊎-elim}
-use mathlib.Core.Bool.{Bool, true, false}
+use mathlib.Core.Bool.{true}
 use mathlib.Core.List.{List}
 use Prim.Native.Nat.{ℕ, suc, _+_, _-_, _/_, _%_, _^_, _≤_, _<_}
 use native.Mathlib.Decide.{ℕ-discrete, decLt}
@@ -9,25 +9,26 @@ use native.Mathlib.Omega.{arith}
 use lib.Dec.{eqb, leb}
 use lib.ListN.{getD}
 use Rattle.basics.specs.Pick.{pick}
-use Rattle.basics.specs.Sums.{sumTo, average}
-use Rattle.ids.specs.Ids.{generationOf, newLeaf, newBranch}
+use Rattle.basics.specs.Sums.{average}
+use Rattle.ids.specs.Ids.{generationOf}
 use Rattle.nodes.specs.Words.{Words, own, value, height, holds, places, link, spare, nodes, kidOf, factOf, wordOf, slot, floor}
 use Rattle.nodes.specs.Tally.{kidsOf, Live}
 use Rattle.nodes.specs.Values.{valueAt, heightAt, maxTo}
 use Rattle.nodes.proofs.Access.{word-fact, kids-word}
 use Rattle.nodes.proofs.Sums.{cases, split, sumTo-ext}
 use Rattle.arena.specs.Calls.{noneOf, liveOf, liveOrEmpty, allLive}
-use Rattle.arena.specs.Models.{valueBy, wrapSum, topFor}
-use Rattle.arena.specs.Node.{kidMask, kidTypes, leafId, branchId, LeafNode, BranchNode, Node}
+use Rattle.arena.specs.Models.{valueBy, topFor}
+use Rattle.arena.specs.Node.{leafId, branchId, LeafNode, BranchNode, Node}
 use Rattle.arena.specs.Tables.{Cleared}
 use Rattle.arena.proofs.Branches.{some-kid}
 use Rattle.arena.proofs.Branching.{sum-wraps}
 use Rattle.arena.proofs.Ids.{new-leaf, new-branch, value-node, value-zero, max-ext}
 use Rattle.new_value.proofs.Facts.{sum-facts, top-facts}
-use Rattle.check_freed.specs.Models.{allIn, isGiven}
+use Rattle.check_freed.specs.Models.{allIn}
 use Rattle.check_freed.proofs.Ladders.{Tells, tells-eq, tells-le, tells-lt, tells-map, tells-and, tells-if, tells-else, tells-not}
 use Rattle.check_freed.proofs.Passes.{tells-tab, tells-all}
-use Rattle.check_freed.proofs.Searching.{kids-at, kids-length, given-tells}
+use Rattle.check_freed.proofs.Freed.{given-tells}
+use Rattle.check_find.proofs.Searching.{kids-at, kids-length}
 use Rattle.check_arena.specs.Models.{factZero, blankAt, restsAt, deadFine, countsFine, leafNamed, leafFine, branchNamed, tallAt, branchFine, kindFine, liveFine, plainAt, slotFine}
 
 -- ---- the children

@@ -14,7 +14,9 @@ use Rattle.arena.specs.declared.Arena.{Arena}
 use Rattle.arena.specs.Calls.{fitOf, noneOf, allLive}
 use Rattle.arena.specs.Models.{valueBy, topFor}
 use Rattle.arena.specs.Node.{kidMask, kidTypes}
-use Rattle.check_freed.specs.Models.{allIn, isGiven, stateFine, findFine, countTo, agreeAt}
+use Rattle.check_freed.specs.Models.{allIn, isGiven, stateFine}
+use Rattle.check_find.specs.Models.{findFine}
+use Rattle.check_places.specs.Models.{countTo, agreeAt}
 
 -- ## A slot that is not live
 

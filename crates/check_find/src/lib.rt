@@ -1,4 +1,4 @@
-// The finding table of any tables, whatever they hold, in one pass over its cells and one over the slots. See the crate check_freed' specs/Models.antt.
+// The finding table of any tables, whatever they hold, in one pass over its cells and one over the slots. See specs/Models.antt.
 use arena::Arena;
 use check_freed::FLOOR;
 use find::Found;
@@ -11,7 +11,8 @@ use nodes::fact;
 ghost use mathlib.Core.Path.{_≡_};
 ghost use lib.ListN.{length, getD};
 ghost use Rattle.nodes.specs.Lent.{wordsIn};
-ghost use Rattle.check_freed.specs.Models.{allIn, seat, liveAt, namedAt, cellFine, foundAt, findFine};
+ghost use Rattle.check_freed.specs.Models.{allIn};
+ghost use Rattle.check_find.specs.Models.{seat, liveAt, namedAt, cellFine, foundAt, findFine};
 
 // Slot s has a live node.
 fn lives(facts: &[u64], capacity: usize, s: usize) -> bool

@@ -1,4 +1,3 @@
 pub mod Ladders
 pub mod Passes
-pub mod Tallying
-pub mod Searching
+pub mod Freed

@@ -1,5 +1,5 @@
-// Of any tables, whatever they hold: how many nodes live, and the freed slots, in two passes over the slots. What these and the passes of the crates
-// `check_find` and `check_places` answer is in specs/Models.antt. Each takes time linear in the capacity, and stops where it says no.
+// Of any tables, whatever they hold: how many nodes live, and the freed slots, in two passes over the slots. What they answer is in
+// specs/Models.antt. Each takes time linear in the capacity, and stops where it says no.
 use arena::Arena;
 use nodes::LINK;
 use nodes::OWN;

@@ -1,5 +1,5 @@
 // The tally of all nodes of any tables, whatever they hold, in three passes over the slots: a counter in the link word of live slots, 0 before and 0
-// again after. See the crate check_freed' specs/Models.antt.
+// again after. See specs/Models.antt.
 use arena::slot_of;
 use basics::KID_WORDS;
 use basics::Kids;
@@ -15,7 +15,8 @@ ghost use mathlib.Core.Path.{_≡_};
 ghost use Prim.Native.Nat.{_+_};
 ghost use Rattle.find_hash.specs.Hash.{wrap};
 ghost use Rattle.arena.specs.Calls.{each};
-ghost use Rattle.check_freed.specs.Models.{allIn, bumped, countTo, unlinked, clearTo, agreeAt};
+ghost use Rattle.check_freed.specs.Models.{allIn};
+ghost use Rattle.check_places.specs.Models.{bumped, countTo, unlinked, clearTo, agreeAt};
 
 // One more. (A counter never comes near 2^64.)
 fn more(x: u64) -> u64

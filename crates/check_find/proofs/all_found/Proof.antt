@@ -1,7 +1,7 @@
 use borrow.Author.Needs.{needs}
 use Prim.Native.Nat.{_-_}
 use mathlib.Core.Path.{refl}
-use Rattle.check_freed.specs.Models.{foundAt}
+use Rattle.check_find.specs.Models.{foundAt}
 use Rattle.check_freed.proofs.Passes.{Passed, pass-on, pass-stop, pass-end}
 use Rattle.check_find.proofs.all_found.Statement.{statement}
 use Rattle.check_find.proofs.all_found.Tie as tie

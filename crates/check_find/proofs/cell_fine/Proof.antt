@@ -1,6 +1,6 @@
 use borrow.Author.Needs.{needs}
 use Rattle.check_freed.proofs.Ladders.{ladder}
-use Rattle.check_freed.specs.Models.{cellFine, namedAt}
+use Rattle.check_find.specs.Models.{cellFine, namedAt}
 use Prim.Native.Nat.{ℕ}
 use mathlib.Core.Path.{_≡_}
 use mathlib.Core.List.{List}

@@ -1,6 +1,6 @@
 use borrow.Author.Needs.{needs}
 use Rattle.check_freed.proofs.Ladders.{flags}
-use Rattle.check_freed.specs.Models.{findFine}
+use Rattle.check_find.specs.Models.{findFine}
 use Rattle.check_find.proofs.find_fine.Statement.{statement}
 use Rattle.check_find.proofs.find_fine.Tie as tie
 

@@ -1,6 +1,6 @@
 use borrow.Author.Needs.{needs}
 use Rattle.check_freed.proofs.Ladders.{ladder}
-use Rattle.check_freed.specs.Models.{namedAt}
+use Rattle.check_find.specs.Models.{namedAt}
 use Rattle.check_find.proofs.is_at.Statement.{statement}
 use Rattle.check_find.proofs.is_at.Tie as tie
 

@@ -1,6 +1,6 @@
 use borrow.Author.Needs.{needs}
 use Rattle.check_freed.proofs.Ladders.{ladder}
-use Rattle.check_freed.specs.Models.{foundAt}
+use Rattle.check_find.specs.Models.{foundAt}
 use Rattle.check_find.proofs.is_found.Statement.{statement}
 use Rattle.check_find.proofs.is_found.Tie as tie
 

@@ -1,6 +1,6 @@
 use borrow.Author.Needs.{needs}
 use Rattle.check_freed.proofs.Ladders.{numbers}
-use Rattle.check_freed.specs.Models.{liveAt}
+use Rattle.check_find.specs.Models.{liveAt}
 use Rattle.nodes.specs.Words.{floor}
 use Rattle.check_find.proofs.lives.Statement.{statement}
 use Rattle.check_find.proofs.lives.Tie as tie

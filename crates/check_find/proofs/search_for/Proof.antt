@@ -3,7 +3,7 @@ use mathlib.Core.Path.{_≡_}
 use mathlib.Core.List.{List}
 use Prim.Native.Nat.{ℕ}
 use lib.ListN.{getD}
-use Rattle.check_freed.proofs.Searching.{seat-at}
+use Rattle.check_find.proofs.Searching.{seat-at}
 use Rattle.check_find.proofs.search_for.Statement.{statement}
 use Rattle.check_find.proofs.search_for.Tie as tie
 

@@ -1,6 +1,6 @@
 use borrow.Author.Needs.{needs}
 use Rattle.check_freed.proofs.Ladders.{numbers}
-use Rattle.check_freed.specs.Models.{agreeAt}
+use Rattle.check_places.specs.Models.{agreeAt}
 use Rattle.nodes.specs.Words.{floor}
 use Rattle.check_places.proofs.agrees.Statement.{statement}
 use Rattle.check_places.proofs.agrees.Tie as tie

@@ -1,7 +1,7 @@
 use borrow.Author.Needs.{needs}
 use Prim.Native.Nat.{_-_}
 use mathlib.Core.Path.{refl}
-use Rattle.check_freed.specs.Models.{agreeAt}
+use Rattle.check_places.specs.Models.{agreeAt}
 use Rattle.check_freed.proofs.Passes.{Passed, pass-on, pass-stop, pass-end}
 use Rattle.check_places.proofs.all_agree.Statement.{statement}
 use Rattle.check_places.proofs.all_agree.Tie as tie

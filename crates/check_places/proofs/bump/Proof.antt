@@ -5,7 +5,7 @@ use mathlib.Core.List.{List}
 use borrow.Author.Tests.{eq-eqb, ne-eqb}
 use Rattle.nodes.specs.Words.{link, factOf, factPut, slot}
 use Rattle.find_hash.specs.Hash.{wrap}
-use Rattle.check_freed.specs.Models.{bumped}
+use Rattle.check_places.specs.Models.{bumped}
 use Rattle.check_places.proofs.bump.Statement.{statement}
 use Rattle.check_places.proofs.bump.Tie as tie
 

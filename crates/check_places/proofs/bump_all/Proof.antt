@@ -3,7 +3,7 @@ use Prim.Native.Nat.{_-_, _≤_}
 use mathlib.Core.Path.{_≡_, refl}
 use lib.ListN.{length, drop}
 use Rattle.arena.specs.Calls.{each}
-use Rattle.check_freed.specs.Models.{bumped}
+use Rattle.check_places.specs.Models.{bumped}
 use Rattle.check_freed.proofs.Passes.{each-next, each-end}
 use Rattle.check_places.proofs.bump_all.Statement.{statement}
 use Rattle.check_places.proofs.bump_all.Tie as tie

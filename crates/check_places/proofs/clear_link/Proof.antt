@@ -5,7 +5,7 @@ use mathlib.Core.Path.{_≡_}
 use mathlib.Core.List.{List}
 use borrow.Author.Tests.{le-leb, lt-leb}
 use Rattle.nodes.specs.Words.{own, link, factOf, factPut, floor}
-use Rattle.check_freed.specs.Models.{unlinked}
+use Rattle.check_places.specs.Models.{unlinked}
 use Rattle.check_places.proofs.clear_link.Statement.{statement}
 use Rattle.check_places.proofs.clear_link.Tie as tie
 

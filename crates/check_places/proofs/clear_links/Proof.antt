@@ -2,7 +2,7 @@ use borrow.Author.Needs.{needs}
 use Prim.Native.Nat.{_-_, _≤_}
 use mathlib.Core.Path.{_≡_}
 use lib.ListN.{length}
-use Rattle.check_freed.specs.Models.{clearTo}
+use Rattle.check_places.specs.Models.{clearTo}
 use Rattle.check_freed.proofs.Passes.{turn-first, turn-next, turn-last}
 use Rattle.check_places.proofs.clear_links.Statement.{statement}
 use Rattle.check_places.proofs.clear_links.Tie as tie

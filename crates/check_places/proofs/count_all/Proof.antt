@@ -6,7 +6,7 @@ use lib.ListN.{length}
 use Rattle.nodes.specs.Words.{kidOf}
 use Rattle.nodes.specs.Tally.{kidsOf}
 use Rattle.arena.specs.Calls.{each}
-use Rattle.check_freed.specs.Models.{bumped, kidsBumped, countTo}
+use Rattle.check_places.specs.Models.{bumped, kidsBumped, countTo}
 use Rattle.check_freed.proofs.Passes.{turn-first, turn-next, turn-last}
 use Rattle.check_places.proofs.count_all.Statement.{statement}
 use Rattle.check_places.proofs.count_all.Tie as tie

@@ -1,36 +1,26 @@
--- The finding table and the freed slots: what the passes over them say.
-use mathlib.Core.Path.{_≡_, refl, sym, ap, ap₂, _∙_, subst}
-use mathlib.Core.Logic.{_≢_}
-use mathlib.Core.Bool.{Bool, true, false, true≢false}
+-- The finding table: what the passes over it tell.
+use mathlib.Core.Path.{_≡_, refl, sym, ap, ap₂, _∙_}
+use mathlib.Core.Bool.{Bool, true}
 use mathlib.Core.List.{List}
-use Prim.Native.Nat.{ℕ, zero, suc, _+_, _-_, _≤_, _<_}
+use Prim.Native.Nat.{ℕ, _+_, _≤_, _<_}
 use native.Mathlib.Decide.{ℕ-discrete, decLt}
 use native.Mathlib.Omega.{arith}
-use lib.Dec.{eqb, leb, ltb}
 use lib.ListN.{length, getD, List·getD-eq-default}
-use borrow.Author.Tests.{eq-eqb, ne-eqb, eqb-true, eqb-false, le-leb, leb-true, lt-ltb, ltb-true}
-use Rattle.nodes.specs.Words.{Words, own, value, link, nodes, kidOf, factOf, wordOf, floor}
-use Rattle.nodes.specs.Tally.{kidsOf, tabFrom, Free, liveCount}
+use Rattle.nodes.specs.Words.{Words, own, value, nodes, kidOf, factOf, wordOf, floor}
+use Rattle.nodes.specs.Tally.{kidsOf}
 use Rattle.nodes.proofs.Access.{word-fact, kids-word}
-use Rattle.nodes.proofs.Freeing.{live-keep}
 use Rattle.nodes.proofs.Sums.{cases, tabFrom-length}
-use Rattle.nodes.proofs.Walking.{Walk}
 use Rattle.find.specs.Cells.{cell, probe, cellOf, Reach}
 use Rattle.find.specs.Content.{contentIs, homeAt}
-use Rattle.find.proofs.Contents.{content-true, content-words}
+use Rattle.find.proofs.Contents.{content-true, content-words, tab-at}
 use Rattle.find.proofs.Probing.{Ended, ended}
 use Rattle.arena.specs.declared.Arena.{Arena}
-use Rattle.check_freed.specs.Models.{allIn, isGiven, isFree, walkBy, stateFine, seat, liveAt, namedAt, cellFine, foundAt, findFine}
-use Rattle.check_freed.proofs.Ladders.{Tells, tells-eq, tells-le, tells-lt, tells-map, tells-and, tells-then, tells-else, tells-not}
+use Rattle.check_freed.specs.Models.{allIn}
+use Rattle.check_freed.proofs.Ladders.{Tells, tells-eq, tells-le, tells-lt, tells-map, tells-and, tells-then, tells-else}
 use Rattle.check_freed.proofs.Passes.{tells-all}
+use Rattle.check_find.specs.Models.{seat, liveAt, namedAt, cellFine, foundAt, findFine}
 
 -- ---- a slot's content is its own
-
-tab-at : (m i : ℕ) (g : ℕ → ℕ) (j : ℕ) → j < m → g (i + j) ≡ getD (tabFrom m i g) j 0
-unfolding tabFrom
-tab-at zero i g j l = absurd (omega arith)
-tab-at (suc m) i g zero l = let e : i + 0 ≡ i = omega arith in ap g e
-tab-at (suc m) i g (suc j) l = let e : i + suc j ≡ suc i + j = omega arith in ap g e ∙ tab-at m (suc i) g j (omega arith)
 
 module _ (W : Words) (s : ℕ) where
   -- has slot x the content of slot s?
@@ -43,7 +33,7 @@ module _ (W : Words) (s : ℕ) where
 
   pub kids-at : (i : ℕ) → i < 8 → W s i ≡ getD (kidsOf 8 W s) i 0
   unfolding kidsOf
-  kids-at i l = let e : 0 + i ≡ i = omega arith in ap (W s) (sym e) ∙ tab-at 8 0 (W s) i l
+  kids-at i l = let e : 0 + i ≡ i = omega arith in sym (tab-at 8 0 (W s) i l ∙ ap (W s) e)
 
   pub alike-self : alike s ≡ true
   alike-self = content-true W (kidsOf 8 W s) (W s value) s kids-length kids-at refl
@@ -123,32 +113,3 @@ pub find-tells : (a : Arena) (k f e : List ℕ) → Tells (findFine a k f e)
     × ((s : ℕ) → s < a .capacity → floor ≤ wordOf (nodes k f) s own → cell e (seat e (a .capacity) (wordOf (nodes k f)) s) ≡ s))
 unfolding findFine
 find-tells a k f e = tells-and (cells-tell k f e (a .capacity)) (λ v. all-found k f e (a .capacity))
-
--- ---- the freed slots
-
-pub given-tells : (next s : ℕ) → Tells (isGiven next s) ((s ≢ 0) × (s < next))
-unfolding isGiven
-given-tells next s = tells-not (tells-eq s 0) (tells-lt s next)
-
-module _ (k f : List ℕ) (next : ℕ) where
-  free-tells : (s : ℕ) → Tells (isFree f next s) (Free (wordOf (nodes k f)) next s)
-  unfolding isFree wordOf
-  free-tells s =
-      tells-map (λ r. let d = r .0 .0 in record { given = cases (ℕ-discrete s 0) (λ z. absurd (d z)) (λ z. omega arith); below = r .0 .1; dead = r .1 })
-      (λ r. (((λ z. let g = r .given in omega arith), r .below), r .dead))
-      (tells-and (given-tells next s) (λ g. tells-lt (factOf f s own) floor))
-
-  walk-tells : (m at : ℕ) → Tells (walkBy f next m at) (Walk (wordOf (nodes k f)) next m at)
-  unfolding walkBy wordOf
-  walk-tells zero at = tells-eq at 0
-  walk-tells (suc m) at = tells-and (free-tells at) (λ r. walk-tells m (factOf f at link))
-
--- the live slots are counted right, and the chain of the freed is as long as it must be, and ends
-pub state-tells : (a : Arena) (k f : List ℕ) → Tells (stateFine a f)
-    ((a .live ≡ liveCount (a .capacity) (wordOf (nodes k f)))
-    × ((a .live < a .next) × Walk (wordOf (nodes k f)) (a .next) (a .next - 1 - a .live) (a .top)))
-unfolding stateFine
-state-tells a k f =
-    let e : liveCount (a .capacity) (wordOf (nodes k f)) ≡ liveCount (a .capacity) (factOf f) = live-keep (a .capacity) (factOf f) (wordOf (nodes k f)) (λ b. word-fact (nodes k f) b own (omega arith)) in
-    tells-and (tells-map (λ q. sym (e ∙ q)) (λ q. sym e ∙ sym q) (tells-eq (liveCount (a .capacity) (factOf f)) (a .live)))
-    (λ l. tells-and (tells-lt (a .live) (a .next)) (λ r. walk-tells k f (a .next) (a .next - 1 - a .live) (a .top)))

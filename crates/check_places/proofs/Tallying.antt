@@ -16,9 +16,10 @@ use Rattle.nodes.proofs.Counts.{live-inj, live-nonzero}
 use Rattle.nodes.proofs.Sums.{cases, same-refl, same-diff, occ-nil, occ-cons, occ-here, occ-length, sumTo-ext, tabFrom-length}
 use Rattle.find_hash.specs.Hash.{wrap}
 use Rattle.arena.specs.Calls.{each}
-use Rattle.check_freed.specs.Models.{allIn, upTo, bumped, kidsBumped, countTo, unlinked, clearTo, agreeAt}
+use Rattle.check_freed.specs.Models.{allIn, upTo}
 use Rattle.check_freed.proofs.Ladders.{Tells, tells-eq, tells-le, tells-map, tells-then}
 use Rattle.check_freed.proofs.Passes.{tells-all, each-keep, turns-keep}
+use Rattle.check_places.specs.Models.{bumped, kidsBumped, countTo, unlinked, clearTo, agreeAt}
 
 wrap-less : (x : ℕ) → x < 2 ^ 64 - 1 → wrap (x + 1) ≡ x + 1
 unfolding wrap

@@ -1,0 +1,36 @@
+-- What the functions here answer, of any tables: mirrors of the code. No reader has to believe them: the public contract of the arena check cites
+-- `WellFormed`. `k`, `f` and `e` are the lists of the tables kids, facts and find, c is the capacity.
+use mathlib.Core.Bool.{Bool, true, false}
+use mathlib.Core.List.{List}
+use Prim.Native.Nat.{ℕ}
+use lib.Dec.{eqb, leb, ltb}
+use lib.ListN.{length}
+use Rattle.basics.specs.Limits.{kidWords}
+use Rattle.basics.specs.Pick.{pick}
+use Rattle.nodes.specs.Words.{Words, own, value, nodes, factOf, wordOf, floor}
+use Rattle.nodes.specs.Tally.{kidsOf}
+use Rattle.find.specs.Cells.{cell, cellOf}
+use Rattle.arena.specs.declared.Arena.{Arena}
+use Rattle.check_freed.specs.Models.{allIn}
+
+-- where the search for the content of slot s ends
+abbrev pub seat : List ℕ → ℕ → Words → ℕ → ℕ
+seat e c W s = cellOf e c W (kidsOf kidWords W s) (W s value)
+
+unfoldable pub liveAt : List ℕ → ℕ → ℕ → Bool
+liveAt f c s = pick (ltb s c) (leb floor (factOf f s own)) false
+
+-- slot s is live, and the search for its content ends at cell p
+unfoldable pub namedAt : List ℕ → List ℕ → List ℕ → ℕ → ℕ → ℕ → Bool
+namedAt k f e c s p = pick (liveAt f c s) (eqb (seat e c (wordOf (nodes k f)) s) p) false
+
+-- cell p is empty, or where the search for the live slot that it names ends
+unfoldable pub cellFine : List ℕ → List ℕ → List ℕ → ℕ → ℕ → Bool
+cellFine k f e c p = pick (eqb (cell e p) 0) true (namedAt k f e c (cell e p) p)
+
+-- slot s is not live, or the search for its content ends at it
+unfoldable pub foundAt : List ℕ → List ℕ → List ℕ → ℕ → ℕ → Bool
+foundAt k f e c s = pick (liveAt f c s) (eqb (cell e (seat e c (wordOf (nodes k f)) s)) s) true
+
+unfoldable pub findFine : Arena → List ℕ → List ℕ → List ℕ → Bool
+findFine a k f e = pick (allIn 0 (length e) (cellFine k f e (a .capacity))) (allIn 0 (a .capacity) (foundAt k f e (a .capacity))) false
