@@ -6,20 +6,25 @@ use mathlib.Core.List.{List, [], _∷_, _++_}
 use Prim.Native.Nat.{ℕ, zero, suc, _+_, _-_, _%_, _^_, _≤_, _<_}
 use native.Mathlib.Decide.{ℕ-discrete}
 use native.Mathlib.Omega.{arith}
+use lib.Dec.{leb}
 use lib.ListN.{length, getD}
-use borrow.Author.Tests.{eq-eqb, ne-eqb, leb-true}
+use borrow.Author.Tests.{eq-eqb, ne-eqb, leb-true, le-leb}
 use Rattle.nodes.specs.Tally.{Live, occ, same}
-use Rattle.nodes.specs.Words.{own, holds, places, spare, Nodes, slot, Words, wordOf, putOf}
+use Rattle.nodes.specs.Words.{own, holds, places, spare, Nodes, slot, floor, Words, wordOf, putOf}
 use Rattle.nodes.proofs.Access.{SameSize, put-size, size-refl, size-trans, within-size, put-same, put-slot, put-field, put-less}
 use Rattle.nodes.proofs.Counts.{live-same, live-inj, total-bound}
-use Rattle.nodes.proofs.Sums.{cases, occ-cons, occ-here, occ-there, occ-append}
-use Rattle.arena.specs.Calls.{each, unheldKid, placedKid, liveOrEmpty, enoughFor, liveOf, allLive, enough, noneOf, unheld, placed, allOf}
+use Rattle.nodes.proofs.Sums.{cases, occ-nil, occ-cons, occ-here, occ-there, occ-append}
+use Rattle.find.specs.Content.{agree}
+use Rattle.find.proofs.Contents.{agree-true, agree-words}
+use Rattle.arena.specs.Calls.{each, unheldKid, placedKid, liveOrEmpty, enoughFor, liveOf, allLive, enough, noneOf, unheld, placed, allOf, branchIn, branchSlot}
 use Rattle.arena.specs.Models.{settledKid, moreOf, settledN, settles}
-use Rattle.arena.specs.Tables.{tablesOf, Tables, cap, W}
+use Rattle.arena.specs.Tables.{tablesOf, Tables, cap, W, LiveSlot}
 use Rattle.arena.specs.declared.Arena.{Arena}
 use Rattle.arena.proofs.Dropping.{put-recounted}
 use Rattle.arena.proofs.Eight.{all-at}
+use Rattle.arena.proofs.Fits.{both}
 use Rattle.arena.proofs.Inv.{sized-within, Inv, Recounted, recounted-word, move-inv, inv-debt}
+use Rattle.arena.proofs.Scan.{find-miss}
 
 -- ---- what the refusals leave
 
@@ -44,6 +49,28 @@ pub occ-at : (ks : List ℕ) (i : ℕ) → i < length ks → 1 ≤ occ (getD ks 
 occ-at [] i l = absurd (omega arith)
 occ-at (k ∷ ks) zero l = omega (arith, occ-here k ks)
 occ-at (k ∷ ks) (suc i) l = let r = occ-at ks i (omega arith) in omega (arith, occ-cons (getD ks i 0) k ks)
+
+pub occ-in : (ks : List ℕ) (y : ℕ) → 1 ≤ occ y ks → (i : ℕ) × (i < length ks) × (getD ks i 0 ≡ y)
+occ-in [] y o = absurd (omega (arith, occ-nil y))
+occ-in (k ∷ ks) y o = cases (ℕ-discrete y k)
+    (λ q. (0, omega arith, sym q))
+    (λ q. let r = occ-in ks y (omega (arith, occ-there y k ks q)) in (suc (r .0), (let l = r .1 in omega arith), r .2))
+
+-- ---- the branch of these children
+
+pub branch-words : (t : Tables) (ks : List ℕ) (s : ℕ) → branchIn t ks s ≡ true → (floor ≤ W t s own) × ((j : ℕ) → j < length ks → W t s (0 + j) ≡ getD ks j 0)
+unfolding branchIn
+branch-words t ks s e =
+    let b = both (leb floor (W t s own)) (agree (W t) s 0 ks) e in
+    (leb-true floor (W t s own) (b .0), agree-words (W t) s 0 ks (b .1))
+
+-- no live slot has words that the scan does not find
+pub slot-lone : (t : Tables) (ks : List ℕ) → length ks ≡ 8 → branchSlot t ks ≡ 0 → (s : ℕ) → LiveSlot t s → s ≢ 0
+    → ((j : ℕ) → j < 8 → W t s j ≡ getD ks j 0) → ⊥
+unfolding branchSlot branchIn
+slot-lone t ks e z s l d h =
+    let in-it : branchIn t ks s ≡ true = rw (le-leb floor (W t s own) (l .1)) (agree-true (W t) s 0 ks (λ j k. let q : 0 + j ≡ j = omega arith in rw q (h j (omega arith)))) in
+    true≢false (sym in-it ∙ find-miss (branchIn t ks) (cap t) z s (l .0) d)
 
 -- ---- the holds end
 

@@ -1,41 +1,37 @@
 -- Intern leaf: the probe finds what the scan finds, and well formed stays well formed.
-use mathlib.Core.Path.{_≡_, refl, sym, ap, ap₂, _∙_, subst}
+use mathlib.Core.Path.{_≡_, refl, sym, ap, _∙_, subst}
 use mathlib.Core.Logic.{_≢_, inl, inr, ⊎-elim}
 use mathlib.Core.Bool.{true, false, true≢false}
-use mathlib.Core.List.{List, [], _++_}
-use Prim.Native.Nat.{ℕ, _+_, _%_, _^_, _≤_, _<_}
+use mathlib.Core.List.{List, []}
+use Prim.Native.Nat.{ℕ, _+_, _≤_, _<_}
 use native.Mathlib.Decide.{ℕ-discrete}
 use native.Mathlib.Omega.{arith}
 use lib.Dec.{eqb}
-use lib.ListN.{length, getD, set}
+use lib.ListN.{length, getD}
 use borrow.Author.Tests.{eq-eqb, ne-eqb, eqb-true, leb-false}
 use Rattle.ids.specs.Ids.{generationOf, isLeaf}
 use Rattle.nodes.specs.Tally.{Live, occ}
-use Rattle.nodes.specs.Words.{own, value, holds, places, nodes, written, floor, wordOf, putOf}
+use Rattle.nodes.specs.Words.{own, value, holds, places, floor, wordOf, putOf}
 use Rattle.nodes.proofs.Access.{put-same, put-field}
 use Rattle.nodes.proofs.Counts.{floor-pos, live-own}
-use Rattle.nodes.proofs.Sums.{cases, split, occ-nil, occ-append}
+use Rattle.nodes.proofs.Sums.{cases, split}
 use Rattle.find_hash.specs.Hash.{homeFor}
-use Rattle.find.specs.Cells.{insertAt, cellOf, probe, cell}
+use Rattle.find.specs.Cells.{cellOf, probe}
 use Rattle.find.specs.Content.{contentIs, homeAt}
-use Rattle.find.proofs.Contents.{content-true, content-words, probe-as, home-content}
+use Rattle.find.proofs.Contents.{content-true, content-words, home-content}
 use Rattle.find.proofs.Finding.{finds-hit, finds-miss}
-use Rattle.arena.specs.Calls.{allOf, freshFacts, empties, Out, said, refused, fits, Fair, fullOf, roomOf, heldAt, freshSlot, slotGiven, named, leafIn, leafSlot, internLeafNo, leafMade, internLeafOf, noneOf}
-use Rattle.arena.specs.Models.{leafAt, cellFor, givenOut, idOf, writtenNodes, writtenAt, madeNodes, madeAt, hitBy, leafMissBy, leafBy, internLeafBy}
-use Rattle.arena.specs.Node.{leafId, Node, LeafNode}
+use Rattle.arena.specs.Calls.{empties, Out, said, refused, fits, Fair, fullOf, roomOf, heldAt, leafAnew, leafIn, leafSlot, internLeafNo, leafMade, internLeafOf}
+use Rattle.arena.specs.Models.{leafAt, cellFor, hitBy, leafMissBy, leafBy, internLeafBy}
+use Rattle.arena.specs.Node.{LeafNode}
 use Rattle.arena.specs.Tables.{tablesOf, Tables, cap, W, LiveSlot, WellFormed}
 use Rattle.arena.proofs.Dropping.{put-recounted}
 use Rattle.arena.proofs.Fits.{both, sized-fits, room-yes}
-use Rattle.arena.proofs.Ids.{flag-floor, leaf-flag, new-leaf, node-leaf, gen-small, leaf-gen}
-use Rattle.arena.proofs.Inv.{sized-within, Inv, Content, Recounted, recounted-word, move-inv, wf-inv, wf-content, inv-wf, inv-debt, content-recount}
-use Rattle.arena.proofs.Make.{more-is, fresh-free, fresh-bumps, made-inv, made-content, made-own, made-value, made-height, made-holds, made-kid}
-use Rattle.arena.proofs.Outs.{said-path, tables-path, arena-path}
-use Rattle.arena.proofs.Rows.{empties-none, empties-length, empties-at}
+use Rattle.arena.proofs.Fresh.{leaf-makes, search-ends, leaf-fresh}
+use Rattle.arena.proofs.Ids.{flag-floor, leaf-flag, node-leaf, gen-small}
+use Rattle.arena.proofs.Inv.{sized-within, Inv, Recounted, recounted-word, move-inv, wf-inv, wf-content, inv-wf, content-recount}
+use Rattle.arena.proofs.Make.{Alone}
+use Rattle.arena.proofs.Rows.{empties-length, empties-at}
 use Rattle.arena.proofs.Scan.{find-hit, find-miss}
-
-pub empties-id : (s g : ℕ) → idOf empties s g ≡ leafId s g
-unfolding empties noneOf allOf idOf
-empties-id s g = refl
 
 -- ---- the search by content on well-formed tables: for any content (ks, v)
 module _ (n tallest : ℕ) (t : Tables) (w : WellFormed n tallest t) (ks : List ℕ) (v : ℕ) (e : length ks ≡ 8) where
@@ -58,31 +54,11 @@ module _ (n tallest : ℕ) (t : Tables) (w : WellFormed n tallest t) (ks : List 
   unfolding cellOf
   search-miss h = finds-miss (homeAt (cap t) (W t)) (LiveSlot t) (t .find) (w .finds) (contentIs (W t) ks v) (homeFor (cap t) ks v) h
 
-  -- the cell where the search missed is the first empty one
-  pub cell-named : ((x : ℕ) → 0 < x → LiveSlot t x → contentIs (W t) ks v x ≡ false) → (s : ℕ) → s < 65536 → set (t .find) (cellFor t ks v) (s % 65536) ≡ named t ks v s
-  unfolding cellOf named insertAt
-  cell-named h s l =
-      let q : s % 65536 ≡ s = omega arith in
-      let p = probe-as (contentIs (W t) ks v) (λ x. false) (t .find) (homeFor (cap t) ks v)
-      (λ c a. h (cell (t .find) c) a (w .finds .names (cell (t .find) c) a .0 (c, refl))) in
-      ap₂ (λ (x y : ℕ). set (t .find) x y) p q
+  -- what the search does not find, no live node has
+  none-alone : ((x : ℕ) → 0 < x → LiveSlot t x → contentIs (W t) ks v x ≡ false) → Alone t ks v
+  none-alone none x l k w = true≢false (sym (content-true (W t) ks v x e k w) ∙ none x (not-ground x l) l)
 
 -- ---- what the calls leave
-
-pub given-is : (n tallest : ℕ) (t : Tables) → n ≤ 8 → WellFormed n tallest t → t .arena .live + 1 < cap t → givenOut (t .arena) (W t) ≡ slotGiven (t .arena) (W t)
-unfolding givenOut slotGiven
-given-is n tallest t m w room =
-    let i = wf-inv n tallest t m w in
-    let most = w .sized .most in
-    let l = more-is (t .arena .live) (omega arith) in
-    cases (ℕ-discrete (t .arena .top) 0)
-    (λ z. let b = fresh-bumps t [] i room z .1 in let x = more-is (t .arena .next) (omega arith) in rw (eq-eqb (t .arena .top) 0 z) (arena-path _ _ _ _ _ _ _ _ refl x refl l))
-    (λ z. rw (ne-eqb (t .arena .top) 0 z) (arena-path _ _ _ _ _ _ _ _ refl refl refl l))
-
-pub content-at : (t : Tables) (ks : List ℕ) (v up h p at n tallest : ℕ) → Content n tallest (cap t) (wordOf (madeNodes t ks v up h p))
-    → Content n tallest (cap (madeAt t ks v up h p at)) (W (madeAt t ks v up h p at))
-unfolding writtenAt givenOut
-content-at t ks v up h p at n tallest c = c
 
 -- one hold more on a live node
 pub held-kept : (n tallest : ℕ) (t : Tables) (s : ℕ) → n ≤ 8 → WellFormed n tallest t → LiveSlot t s → fullOf (W t) s ≡ false → WellFormed n tallest (heldAt t s)
@@ -149,6 +125,9 @@ module _ (n tallest : ℕ) (t : Tables) (m : n ≤ 8) (w : WellFormed n tallest 
       (λ h. absurd (true≢false (sym (content-leaf x l h) ∙ find-miss (leafIn t v) (cap t) z x (l .0) (omega arith))))
       (λ h. h)
 
+  pub leaf-alone : leafSlot t v ≡ 0 → Alone t empties v
+  leaf-alone z = none-alone n tallest t w empties v empties-length (no-leaf z)
+
   -- the slot of the leaf
   pub leaf-slot : leafSlot t v ≢ 0 → (leafSlot t v < cap t) × (leafIn t v (leafSlot t v) ≡ true)
   unfolding leafSlot
@@ -167,19 +146,14 @@ module _ (n tallest : ℕ) (t : Tables) (m : n ≤ 8) (w : WellFormed n tallest 
   unfolding leafBy leafAt
   miss-law z = let r = search-miss n tallest t w empties v empties-length (no-leaf z) in rw r
 
-  fresh-low : t .arena .live + 1 < cap t → freshSlot (t .arena) < 65536
-  fresh-low room = let p = fresh-free t [] (wf-inv n tallest t m w) room .1 in let q = w .sized .most in omega arith
+  inv : Inv t []
+  inv = wf-inv n tallest t m w
 
   made-law : leafSlot t v ≡ 0 → roomOf (t .arena) ≡ true → leafMissBy t v (cellFor t empties v) ≡ leafMade t v
-  unfolding leafMissBy leafMade writtenNodes writtenAt
+  unfolding leafMissBy leafMade cellOf
   made-law z r =
       let room = room-yes (t .arena) r in
-      let l = fresh-low room in
-      let o : freshSlot (t .arena) % 2 ^ 32 ≡ freshSlot (t .arena) = omega arith in
-      let g = w .gens (freshSlot (t .arena)) (fresh-free t [] (wf-inv n tallest t m w) room .1) in
-      let q = new-leaf (freshSlot (t .arena)) (generationOf (W t (freshSlot (t .arena)) own)) (omega arith) in
-      rw (r, o, q)
-      (said-path _ _ _ _ _ _ refl refl (tables-path _ _ _ _ _ _ (given-is n tallest t m w room) refl (cell-named n tallest t w empties v empties-length (no-leaf z) (freshSlot (t .arena)) l)))
+      rw r (leaf-fresh t [] inv room v 1 0 (cellFor t empties v) (search-ends t [] inv room empties v (contentIs (W t) empties v) (no-leaf z)))
 
   full-law : roomOf (t .arena) ≡ false → leafMissBy t v (cellFor t empties v) ≡ refused 11 t
   unfolding leafMissBy
@@ -205,46 +179,11 @@ module _ (n tallest : ℕ) (t : Tables) (m : n ≤ 8) (w : WellFormed n tallest 
 
   -- ---- well formed afterwards
 
-  leaf-tables : leafSlot t v ≡ 0 → roomOf (t .arena) ≡ true → madeAt t empties v 0 1 0 (cellFor t empties v) ≡ leafMade t v .after
-  unfolding leafMade writtenNodes writtenAt
-  leaf-tables z r =
-      let room = room-yes (t .arena) r in
-      let l = fresh-low room in
-      tables-path _ _ _ _ _ _ (given-is n tallest t m w room)
-      (ap (λ (x : ℕ). written (t .nodes) (freshSlot (t .arena)) empties (freshFacts x v 0 1 0)) (empties-id (freshSlot (t .arena)) (generationOf (W t (freshSlot (t .arena)) own))))
-      (cell-named n tallest t w empties v empties-length (no-leaf z) (freshSlot (t .arena)) l)
-
   made-kept : v ≤ 65535 → leafSlot t v ≡ 0 → roomOf (t .arena) ≡ true → WellFormed n tallest (leafMade t v .after)
+  unfolding leafMade
   made-kept high z r =
-      let room = room-yes (t .arena) r in
-      let l = fresh-low room in
-      let i : Inv t (empties ++ []) = inv-debt t [] (empties ++ []) (λ y d. owed y d) (wf-inv n tallest t m w) in
-      let o = made-own t [] [] empties v 0 1 0 empties-length i room in
-      let g = gen-small (W t (freshSlot (t .arena)) own) in
-      let self : wordOf (madeNodes t empties v 0 1 0) (freshSlot (t .arena)) own ≡ leafId (freshSlot (t .arena)) (generationOf (W t (freshSlot (t .arena)) own)) =
-      o ∙ empties-id (freshSlot (t .arena)) (generationOf (W t (freshSlot (t .arena)) own)) in
-      let v9 = made-value t [] [] empties v 0 1 0 empties-length i room in
-      let h11 = made-holds t [] [] empties v 0 1 0 empties-length i room in
-      let node : Node n tallest (cap t) (wordOf (madeNodes t empties v 0 1 0)) (freshSlot (t .arena)) = record {
-        kind = inl (record {
-          id = self ∙ ap (leafId (freshSlot (t .arena))) (sym (ap generationOf self ∙ leaf-gen (freshSlot (t .arena)) (generationOf (W t (freshSlot (t .arena)) own)) (omega arith) g));
-          some = omega arith;
-          bare = λ j k. made-kid t [] [] empties v 0 1 0 empties-length i room j k ∙ empties-at j k;
-          flat = made-height t [] [] empties v 0 1 0 empties-length i room;
-        });
-        small = omega arith;
-        few = omega arith;
-      } in
-      let inv : Inv (madeAt t empties v 0 1 0 (cellFor t empties v)) [] =
-      made-inv t [] [] empties v 0 1 0 empties-length i room (no-leaf z) (omega arith) (λ y a b. refl) (omega arith)
-      (λ y a b. absurd (let q = empties-none y a in omega arith)) in
-      subst (λ (u : Tables). WellFormed n tallest u) (leaf-tables z r)
-      (inv-wf n tallest (madeAt t empties v 0 1 0 (cellFor t empties v)) inv
-      (content-at t empties v 0 1 0 (cellFor t empties v) n tallest
-      (made-content t [] [] empties v 0 1 0 empties-length i room (no-leaf z) n tallest m node (wf-content n tallest t w))))
-    where
-      owed : (y : ℕ) → y ≢ 0 → occ y [] ≡ occ y (empties ++ [])
-      owed y d = omega (arith, occ-nil y, occ-append y empties [], empties-none y d)
+      let g = leaf-makes n tallest m t v 1 0 inv (wf-content n tallest t w) (room-yes (t .arena) r) some high (omega arith) (omega arith) (leaf-alone z) .grown in
+      inv-wf n tallest (leafAnew t v 1 0 .after) (g .inv) (g .content)
 
   pub leaf-kept : v ≤ 65535 → WellFormed n tallest (internLeafOf t v .after)
   unfolding internLeafOf internLeafNo

@@ -4,12 +4,13 @@ pub mod Rows
 pub mod Eight
 pub mod Inv
 pub mod Dropping
-pub mod Make
 pub mod Outs
 pub mod Fits
 pub mod Scan
+pub mod Make
+pub mod Branches
+pub mod Fresh
 pub mod Leaves
 pub mod Holding
-pub mod Branches
 pub mod Branching
 pub mod Releasing

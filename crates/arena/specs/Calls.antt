@@ -123,6 +123,23 @@ empties = 0 ∷ 0 ∷ 0 ∷ 0 ∷ 0 ∷ 0 ∷ 0 ∷ 0 ∷ []
 unfoldable pub named : Tables → List ℕ → ℕ → ℕ → List ℕ
 named t ks v s = insertAt (λ x. false) (t .find) (homeFor (cap t) ks v) s
 
+-- the node of id, with the children ks, the stored value v and the height up, h holds and q places
+unfoldable pub freshNode : Tables → ℕ → List ℕ → ℕ → ℕ → ℕ → ℕ → Out
+freshNode t id ks v up h q =
+    let s = freshSlot (t .arena) in
+    said 0 id (tablesOf (slotGiven (t .arena) (W t)) (written (t .nodes) s ks (freshFacts id v up h q)) (named t ks v s))
+
+-- a fresh leaf of the value x, and a fresh branch of the children ks, of which each has its place already
+unfoldable pub leafAnew : Tables → ℕ → ℕ → ℕ → Out
+leafAnew t x h q =
+    let s = freshSlot (t .arena) in
+    freshNode t (leafId s (generationOf (W t s own))) empties x 0 h q
+
+unfoldable pub branchAnew : ℕ → Tables → List ℕ → ℕ → ℕ → Out
+branchAnew n t ks h q =
+    let s = freshSlot (t .arena) in
+    freshNode t (branchId ks s (generationOf (W t s own))) ks (valueFor n (W t) ks) (heightFor n (W t) ks) h q
+
 -- ## Intern leaf: the live node of that value if there is one, else a fresh one; the caller gets one hold
 
 -- a slot below k of which p is true, or 0 for none (slot 0 has no node)
@@ -147,10 +164,7 @@ internLeafNo t v =
 
 -- a fresh leaf, with one hold
 unfoldable pub leafMade : Tables → ℕ → Out
-leafMade t v =
-    let s = freshSlot (t .arena) in
-    let id = leafId s (generationOf (W t s own)) in
-    said 0 id (tablesOf (slotGiven (t .arena) (W t)) (written (t .nodes) s empties (freshFacts id v 0 1 0)) (named t empties v s))
+leafMade t v = leafAnew t v 1 0
 
 unfoldable pub internLeafOf : Tables → ℕ → Out
 internLeafOf t v =
@@ -304,13 +318,7 @@ placed x ks = each placedKid x ks
 
 -- a fresh branch, with one hold
 unfoldable pub branchMade : ℕ → Tables → List ℕ → Out
-branchMade n t ks =
-    let s = freshSlot (t .arena) in
-    let id = branchId ks s (generationOf (W t s own)) in
-    let v = valueFor n (W t) ks in
-    said 0 id
-    (tablesOf (slotGiven (t .arena) (W t)) (written (placed (t .nodes) ks) s ks (freshFacts id v (heightFor n (W t) ks) 1 0))
-    (named t ks v s))
+branchMade n t ks = branchAnew n (tablesOf (t .arena) (placed (t .nodes) ks) (t .find)) ks 1 0
 
 unfoldable pub internBranchOf : ℕ → ℕ → Tables → List ℕ → Out
 internBranchOf n tallest t ks =

@@ -12,7 +12,7 @@ use Rattle.nodes.specs.Tally.{kidsOf}
 use Rattle.nodes.specs.Words.{Nodes, Words, wordOf, putOf, written, own, holds, places, link, slot}
 use Rattle.find.specs.Cells.{cellOf}
 use Rattle.arena.specs.Calls.{Out, said, refused, did, fits, fullOf, roomOf, heldAt, freshSlot, freshFacts, empties, recycled, each, releaseNo, noneOf, unheld, allLive, enough}
-use Rattle.arena.specs.Node.{leafId, branchId, kidTypes, kidMask}
+use Rattle.arena.specs.Node.{kidTypes, kidMask}
 use Rattle.nodes.specs.Values.{valueAt, heightAt, maxTo}
 use Rattle.arena.specs.Tables.{Tables, tablesOf, cap, W}
 use Rattle.arena.specs.declared.Arena.{Arena}
@@ -57,28 +57,21 @@ givenOut a W = record {
   live = moreOf (a .live);
 }
 
--- the id of a fresh node with the children ks
-unfoldable pub idOf : List ℕ → ℕ → ℕ → ℕ
-idOf ks s g = pick (noneOf ks) (leafId s g) (branchId ks s g)
+-- a fresh node, named in the cell `at`
+unfoldable pub freshAt : Tables → ℕ → List ℕ → ℕ → ℕ → ℕ → ℕ → ℕ → Out
+freshAt t id ks v up h q at =
+    let s = freshSlot (t .arena) in
+    said 0 id (tablesOf (givenOut (t .arena) (W t)) (written (t .nodes) s ks (freshFacts id v up h q)) (set (t .find) at (s % 65536)))
 
--- a fresh node that is written with the id `id`, of the content (ks, v), with h holds and p places
-unfoldable pub writtenNodes : Tables → ℕ → List ℕ → ℕ → ℕ → ℕ → ℕ → Nodes
-writtenNodes t id ks v up h p = written (t .nodes) (freshSlot (t .arena)) ks (freshFacts id v up h p)
+unfoldable pub leafFresh : Tables → ℕ → ℕ → ℕ → ℕ → Out
+leafFresh t v h q at =
+    let s = freshSlot (t .arena) in
+    freshAt t (newLeaf (s % 2 ^ 32) (generationOf (W t s own))) empties v 0 h q at
 
--- and named in the cell `at`
-unfoldable pub writtenAt : Tables → ℕ → List ℕ → ℕ → ℕ → ℕ → ℕ → ℕ → Tables
-writtenAt t id ks v up h p at =
-    tablesOf (givenOut (t .arena) (W t)) (writtenNodes t id ks v up h p) (set (t .find) at (freshSlot (t .arena) % 65536))
-
-abbrev pub ownFor : Tables → List ℕ → ℕ
-ownFor t ks = idOf ks (freshSlot (t .arena)) (generationOf (W t (freshSlot (t .arena)) own))
-
--- the same with its own id
-abbrev pub madeNodes : Tables → List ℕ → ℕ → ℕ → ℕ → ℕ → Nodes
-madeNodes t ks v up h p = writtenNodes t (ownFor t ks) ks v up h p
-
-abbrev pub madeAt : Tables → List ℕ → ℕ → ℕ → ℕ → ℕ → ℕ → Tables
-madeAt t ks v up h p at = writtenAt t (ownFor t ks) ks v up h p at
+unfoldable pub branchFresh : Tables → List ℕ → ℕ → ℕ → ℕ → ℕ → ℕ → Out
+branchFresh t ks v up h q at =
+    let s = freshSlot (t .arena) in
+    freshAt t (newBranch (s % 2 ^ 32) (generationOf (W t s own)) (kidTypes ks) (kidMask ks)) ks v up h q at
 
 -- ## Intern leaf
 
@@ -90,9 +83,7 @@ unfoldable pub hitBy : Tables → ℕ → Out
 hitBy t s = pick (fullOf (W t) s) (refused 10 t) (said 0 (W t s own) (heldAt t s))
 
 unfoldable pub leafMissBy : Tables → ℕ → ℕ → Out
-leafMissBy t v at =
-    let id = newLeaf (freshSlot (t .arena) % 2 ^ 32) (generationOf (W t (freshSlot (t .arena)) own)) in
-    pick (roomOf (t .arena)) (said 0 id (writtenAt t id empties v 0 1 0 at)) (refused 11 t)
+leafMissBy t v at = pick (roomOf (t .arena)) (leafFresh t v 1 0 at) (refused 11 t)
 
 -- once the search has ended at the cell `at`, which names s
 unfoldable pub leafAt : Tables → ℕ → ℕ → ℕ → Out
@@ -146,8 +137,7 @@ heldBy t s = tablesOf (t .arena) (putOf (t .nodes) s holds (moreOf (W t s holds)
 
 unfoldable pub branchMissBy : Tables → List ℕ → ℕ → ℕ → ℕ → Out
 branchMissBy t ks v up at =
-    let id = newBranch (freshSlot (t .arena) % 2 ^ 32) (generationOf (W t (freshSlot (t .arena)) own)) (kidTypes ks) (kidMask ks) in
-    pick (roomOf (t .arena)) (said 0 id (writtenAt (tablesOf (t .arena) (settles (t .nodes) ks) (t .find)) id ks v up 1 0 at)) (refused 11 t)
+    pick (roomOf (t .arena)) (branchFresh (tablesOf (t .arena) (settles (t .nodes) ks) (t .find)) ks v up 1 0 at) (refused 11 t)
 
 unfoldable pub branchHitBy : Tables → List ℕ → ℕ → Out
 branchHitBy t ks s =

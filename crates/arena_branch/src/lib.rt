@@ -12,19 +12,15 @@ use basics::KID_WORDS;
 use basics::Kids;
 use basics::MOST_HOLDS;
 use basics::TALLEST;
-use find::put_cell;
 use find::search;
 use ids::BlockId;
-use new_id::branch_id;
-use new_slot::free_slots;
-use new_slot::fresh_slot;
-use new_slot::give;
+use new_node::free_slots;
+use new_node::fresh_branch;
 use new_value::sums_of;
 use nodes::HOLDS;
 use nodes::OWN;
 use nodes::fact;
 use nodes_write::put_fact;
-use nodes_write::write_slot;
 ghost use mathlib.Core.Path.{_≡_};
 ghost use mathlib.Core.Bool.{false};
 ghost use mathlib.Core.List.{List};
@@ -197,17 +193,8 @@ fn branch_miss(
     ensures { λ r. ⌜ made r kids facts find ≡ branchMissBy (before a kids facts find) ks v up at ⌝ }
 {
     if 0 < free_slots(a) {
-        let s = fresh_slot(a);
-        let id = branch_id(ks, s, fact(facts, s, OWN));
         settle_all(facts, ks);
-        let b = give(a, facts);
-        write_slot(kids, facts, s, ks, [id, v, up, 1, 0, 0, 0]);
-        put_cell(find, at, s);
-        return Made {
-            no: 0,
-            id: BlockId(id),
-            arena: b,
-        };
+        return fresh_branch(a, kids, facts, find, at, ks, v, up, 1, 0);
     }
     Made {
         no: 11,

@@ -3,19 +3,14 @@ use arena::Arena;
 use arena::Made;
 use arena::fit;
 use basics::MOST_HOLDS;
-use basics::NO_KIDS;
-use find::put_cell;
 use find::search_leaf;
 use ids::BlockId;
-use new_slot::free_slots;
-use new_slot::fresh_slot;
-use new_slot::give;
-use new_slot::leaf_id;
+use new_node::free_slots;
+use new_node::fresh_leaf;
 use nodes::HOLDS;
 use nodes::OWN;
 use nodes::fact;
 use nodes_write::put_fact;
-use nodes_write::write_slot;
 ghost use mathlib.Core.Path.{_≡_};
 ghost use mathlib.Core.List.{List};
 ghost use Prim.Native.Nat.{ℕ, _≤_};
@@ -25,7 +20,6 @@ ghost use Rattle.arena.specs.Models.{hitBy, leafMissBy, leafAt, leafBy, internL
 ghost use Rattle.arena.specs.Tables.{tables};
 ghost use Rattle.arena.specs.Lent.{before, made};
 
-// Eight EMPTY children.
 // One hold more on the node in slot s, which is there already.
 fn hit(a: Arena, facts: &mut [u64], s: usize) -> Made
     ensures { λ r. ⌜ ((k e : List ℕ) → madeOf r k (now (facts .exit)) e ≡ hitBy (tables a k (now (facts .entry)) e) s) ⌝ }
@@ -59,16 +53,7 @@ fn leaf_miss(
     ensures { λ r. ⌜ made r kids facts find ≡ leafMissBy (before a kids facts find) v at ⌝ }
 {
     if 0 < free_slots(a) {
-        let s = fresh_slot(a);
-        let id = leaf_id(s, fact(facts, s, OWN));
-        let b = give(a, facts);
-        write_slot(kids, facts, s, NO_KIDS, [id, v, 0, 1, 0, 0, 0]);
-        put_cell(find, at, s);
-        return Made {
-            no: 0,
-            id: BlockId(id),
-            arena: b,
-        };
+        return fresh_leaf(a, kids, facts, find, at, v, 1, 0);
     }
     Made {
         no: 11,

@@ -16,7 +16,7 @@ use check_freed::state_fine;
 use check_places::tallies;
 use ids::BlockId;
 use new_id::branch_id;
-use new_slot::leaf_id;
+use new_node::leaf_id;
 use new_value::sums_of;
 use nodes::HEIGHT;
 use nodes::HOLDS;

@@ -23,12 +23,12 @@ use Rattle.tree.proofs.Making.{edited, renewed, anew-later}
 use Rattle.tree.proofs.Plan.{plan-have, plan-lack}
 use Rattle.tree.proofs.Room.{plan-some}
 use Rattle.arena.specs.Tables.{Tables, cap, W, WellFormed}
-use Rattle.arena.specs.Calls.{Out, refused, fullOf, heldAt}
+use Rattle.arena.specs.Calls.{Out, refused, fullOf, heldAt, freshNode, leafAnew, branchAnew}
 use Rattle.arena.proofs.Inv.{inv-wf, sized-within}
 use Rattle.arena.proofs.Leaves.{held-kept}
 use Rattle.read_cell.specs.Calls.{lookNo}
 use Rattle.read_cell.proofs.Meaning.{wf-made}
-use Rattle.edit.specs.Edit.{planOf, resultOf, freshNode, leafAnew, branchAnew, makeOf, grantNo, granted, answerOf, cellNo, editCell, cellAt, editNo, editOf}
+use Rattle.edit.specs.Edit.{planOf, resultOf, makeOf, grantNo, granted, answerOf, cellNo, editCell, cellAt, editNo, editOf}
 use Rattle.edit.specs.Promises.{Posed, Effect, Right}
 use Rattle.edit.proofs.Growing.{grown-extends}
 use Rattle.edit.proofs.Planning.{plan-is}

@@ -1,16 +1,15 @@
 -- An edit keeps the generation of every slot.
 use mathlib.Core.Path.{_≡_, refl, ap, _∙_, subst}
-use mathlib.Core.List.{List, [], _++_}
+use mathlib.Core.List.{List}
 use Prim.Native.Nat.{ℕ, suc, _+_, _≤_, _<_}
 use native.Mathlib.Decide.{ℕ-discrete}
 use native.Mathlib.Omega.{arith}
-use lib.ListN.{length, set}
+use lib.ListN.{set}
 use borrow.Author.Tests.{eq-eqb, ne-eqb}
 use Rattle.basics.specs.Limits.{deepest, cubeKids, kidWords, largestValue, mostHolds}
 use Rattle.ids.specs.Ids.{generationOf}
 use Rattle.nodes.specs.Values.{heightAt}
 use Rattle.nodes.specs.Words.{own}
-use Rattle.nodes.proofs.Access.{written-others, written-fact}
 use Rattle.nodes.proofs.Sums.{cases}
 use Rattle.paths.specs.declared.IVec3.{IVec3}
 use Rattle.tree.specs.Tree.{LiveOr0, WellMade, Cell, here, down, look}
@@ -18,59 +17,21 @@ use Rattle.tree.specs.Anew.{part, replace}
 use Rattle.tree.specs.Lacks.{Need, have, lack, Plan}
 use Rattle.tree.proofs.Making.{part-there, part-low}
 use Rattle.tree.proofs.Room.{plan-some}
-use Rattle.arena.specs.Calls.{Out, said, each, empties, freshSlot, freshFacts}
-use Rattle.arena.specs.Node.{leafId, branchId, valueFor, heightFor}
+use Rattle.arena.specs.Calls.{Out, said, each}
 use Rattle.arena.specs.Tables.{Tables, cap, W, WellFormed}
-use Rattle.arena.proofs.Ids.{gen-small, leaf-gen, branch-gen}
-use Rattle.arena.proofs.Inv.{Inv, sized-within, wf-inv}
-use Rattle.arena.proofs.Make.{fresh-free}
-use Rattle.arena.proofs.Rows.{empties-length, fresh-length}
+use Rattle.arena.proofs.Fresh.{fresh-gens, leaf-new, branch-new}
+use Rattle.arena.proofs.Inv.{wf-inv}
 use Rattle.read_cell.proofs.Meaning.{wf-made}
-use Rattle.edit.specs.Edit.{wordsOf, needOf, upNeed, planOf, resultOf, owed, lowOf, freshNode, leafAnew, branchAnew, makeOf, grantNo, granted, answerOf, cellNo, editCell, editOf}
+use Rattle.edit.specs.Edit.{wordsOf, needOf, upNeed, planOf, resultOf, owed, lowOf, makeOf, grantNo, granted, answerOf, cellNo, editCell, editOf}
 use Rattle.edit.specs.Promises.{Posed}
 use Rattle.edit.proofs.Edits.{granted-word, grant-room, cell-past, by-cell}
 use Rattle.edit.proofs.Growing.{owed-word, each-word}
 use Rattle.edit.proofs.Planning.{words-length, plan-is}
-use Rattle.edit.proofs.Upward.{Low, Done, low-have, low-lack, placed, lack-inj, have-lack, over, make-done}
+use Rattle.edit.proofs.Upward.{Low, Done, low-have, low-lack, placed, some, lack-inj, have-lack, over, make-done}
 
 -- every slot has the generation that it had
 abbrev Gens-kept : Tables → Tables → Type 0
 Gens-kept t u = (b : ℕ) → generationOf (W u b own) ≡ generationOf (W t b own)
-
--- ## A fresh node has the generation of its slot
-
-module _ (t : Tables) (debt : List ℕ) (i : Inv t debt) (room : t .arena .live + 1 < cap t) where
-  abbrev s : ℕ
-  s = freshSlot (t .arena)
-
-  low : s < cap t
-  low = fresh-free t debt i room .1
-
-  small : s < 65536
-  small = let l = low in let m = i .sized .most in omega arith
-
-  fresh-gens : (id : ℕ) (ks : List ℕ) (v up h q : ℕ) → length ks ≡ kidWords → generationOf id ≡ generationOf (W t s own) → Gens-kept t (freshNode t id ks v up h q .after)
-  unfolding freshNode freshFacts
-  fresh-gens id ks v up h q e g b =
-      let row = freshFacts id v up h q in
-      let seven = fresh-length id v up h q in
-      cases (ℕ-discrete b s)
-      (λ (z : b ≡ s). rw z (ap generationOf (written-fact (t .nodes) s ks row e seven (sized-within t s (i .sized) low) 0 (omega arith)) ∙ g))
-      (λ z. ap generationOf (written-others (t .nodes) s ks row e seven b own z (omega arith)))
-
-  leaf-gens : (x h q : ℕ) → Gens-kept t (leafAnew t x h q .after)
-  unfolding leafAnew
-  leaf-gens x h q =
-      let l = small in
-      let g = generationOf (W t s own) in
-      fresh-gens (leafId s g) empties x 0 h q empties-length (leaf-gen s g (omega arith) (gen-small (W t s own)))
-
-  branch-gens : (n : ℕ) (ks : List ℕ) (h q : ℕ) → length ks ≡ kidWords → Gens-kept t (branchAnew n t ks h q .after)
-  unfolding branchAnew
-  branch-gens n ks h q e =
-      let l = small in
-      let g = generationOf (W t s own) in
-      fresh-gens (branchId ks s g) ks (valueFor n (W t) ks) (heightFor n (W t) ks) h q e (branch-gen ks s g (omega arith) (gen-small (W t s own)))
 
 -- ## The making
 
@@ -88,7 +49,7 @@ module _ (n tallest : ℕ) (t : Tables) (m : n ≤ kidWords) (two : 1 < n) (w : 
       let v = each owed (o .after) (set ks c 0) in
       let g = placed n tallest t m two w x fits-16 d c a j h q p o l low b cell tall room few held r in
       let free : v .arena .live + 1 < cap v = (let y = g .lives in let k = r .grown .lives in let u = g .caps in let z = r .grown .caps in omega arith) in
-      branch-gens v (ks ++ []) (g .inv) free n ks h q (words-length n f) i ∙ ap generationOf (each-word (set ks c 0) (o .after) i own (omega arith)) ∙ same i
+      fresh-gens (branch-new n v ks (words-length n f) (some n tallest t m two w x fits-16 d c a j h q p o l low b cell tall room few held r) (g .inv) free h q) i ∙ ap generationOf (each-word (set ks c 0) (o .after) i own (omega arith)) ∙ same i
 
   step-gens : (d c a k h q : ℕ) (p : List ℕ) → LiveOr0 (cap t) (W t) a → heightAt (W t) a ≤ suc d → c < n → Cell n d p → suc d ≤ tallest
       → (pl : Need) (new : Out) → Plan n (cap t) (W t) x p (part (W t) a c) pl
@@ -110,7 +71,7 @@ module _ (n tallest : ℕ) (t : Tables) (m : n ≤ kidWords) (two : 1 < n) (w : 
   unfolding makeOf planOf
   make-gens a k h q l low tall here e room few held =
       let one = plan-some (rw e at (plan-is n tallest t m (omega arith) w x a l low here)) in
-      leaf-gens t [] (wf-inv n tallest t m w) (omega arith) x h q
+      fresh-gens (leaf-new t (wf-inv n tallest t m w) (omega arith) x h q)
   make-gens a k h q l low tall (down {d = d} {c = c} {p = p} b cell) e room few held =
       let lb = part-there n (cap t) (W t) made a c l b in
       let hb = part-low n (cap t) (W t) made a c l b d low in

@@ -24,7 +24,8 @@ use Rattle.tree.specs.Lacks.{Need, have, lack}
 use Rattle.tree.proofs.CellLaws.{cube-cell}
 use Rattle.arena.specs.Tables.{Tables, tables, cap, W, WellFormed}
 use Rattle.arena.specs.Calls.{liveOrEmpty, Out, said, refused, fits, Fair, fullOf, heldAt}
-use Rattle.arena.proofs.Branching.{full-few, more-few}
+use Rattle.arena.proofs.Branching.{full-few}
+use Rattle.arena.proofs.Fresh.{more-few}
 use Rattle.read_cell.specs.Calls.{lookNo}
 use Rattle.read_cell.specs.Models.{lookNoAt}
 use Rattle.read_cell.proofs.Calls.{look-no-same, look-inside, coord-is}

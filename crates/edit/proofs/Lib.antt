@@ -1,6 +1,5 @@
 pub mod Growing
 pub mod Wholes
-pub mod Fresh
 pub mod Planning
 pub mod Upward
 pub mod Mirror

@@ -1,7 +1,7 @@
 -- The code's way is the definition's, on well-formed tables.
 use mathlib.Core.Path.{_≡_, refl, sym, ap, ap₂, _∙_, subst}
 use mathlib.Core.Logic.{_≢_, _⊎_, inl, inr, ⊎-elim}
-use mathlib.Core.Bool.{true, false, true≢false}
+use mathlib.Core.Bool.{false, true≢false}
 use mathlib.Core.List.{List, [], _∷_, _++_}
 use Prim.Native.Nat.{ℕ, zero, suc, _+_, _-_, _/_, _%_, _^_, _≤_, _<_}
 use native.Mathlib.Decide.{ℕ-discrete}
@@ -11,15 +11,13 @@ use lib.ListN.{length, getD, set, length-set}
 use borrow.Author.Tests.{eq-eqb, ne-eqb, lt-ltb}
 use Rattle.basics.specs.Limits.{cubeKids, kidWords, largestValue, mostHolds}
 use Rattle.basics.specs.Pick.{pick}
-use Rattle.ids.specs.Ids.{isLeaf, generationOf}
-use Rattle.nodes.specs.Words.{Words, own, value, places, slot, floor, wordOf, factOf, putOf}
+use Rattle.ids.specs.Ids.{isLeaf}
+use Rattle.nodes.specs.Words.{Words, own, value, places, slot, wordOf, factOf, putOf}
 use Rattle.nodes.specs.Tally.{tabFrom, occ, Live}
 use Rattle.nodes.proofs.Counts.{total-append, total-bound}
 use Rattle.nodes.proofs.Sums.{cases, split, sumTo-ext, tabFrom-ext, tabFrom-length, occ-nil, occ-cons, occ-here, occ-there}
-use Rattle.find_hash.specs.Hash.{homeFor}
 use Rattle.find.specs.Content.{contentIs}
-use Rattle.find.specs.Cells.{cell, probe, insertAt}
-use Rattle.find.proofs.Contents.{content-true, content-words, probe-as, tab-list}
+use Rattle.find.proofs.Contents.{content-true, content-words, tab-list}
 use Rattle.tree.specs.Tree.{LiveOr0, WellMade, Cell, here, down}
 use Rattle.tree.specs.Anew.{part, replace}
 use Rattle.tree.specs.Lacks.{Need, have, lack, Plan}
@@ -27,26 +25,23 @@ use Rattle.tree.proofs.Making.{part-there, part-low, replace-same, replace-othe
 use Rattle.arena.specs.Node.{valueFor, heightFor}
 use Rattle.nodes.specs.Values.{heightAt, valueAt}
 use Rattle.arena.specs.Tables.{Tables, tablesOf, cap, W, LiveSlot, WellFormed}
-use Rattle.arena.specs.Calls.{Out, said, allOf, each, empties, freshSlot, named, leafSlot, branchIn, branchSlot}
-use Rattle.arena.specs.Models.{moreOf, cellFor, writtenAt, writtenNodes, topFor, valueBy}
-use Rattle.arena.proofs.Ids.{new-leaf, new-branch, value-zero, value-node}
-use Rattle.arena.proofs.Branches.{occ-at}
+use Rattle.arena.specs.Calls.{Out, said, allOf, each, empties, leafAnew, branchAnew, leafSlot, branchSlot}
+use Rattle.arena.specs.Models.{moreOf, cellFor, topFor, valueBy}
+use Rattle.arena.proofs.Branches.{branch-words, slot-lone}
+use Rattle.arena.proofs.Fresh.{sum-wraps, value-by as kids-value, more-few, number-ends, leaf-fresh, branch-fresh}
 use Rattle.arena.proofs.Inv.{Inv, Content, wf-inv, wf-content}
 use Rattle.arena.proofs.Leaves.{search-hit, search-miss, no-leaf, leaf-in, leaf-slot, leaf-content}
-use Rattle.arena.proofs.Branching.{sum-wraps, more-few, height-top}
-use Rattle.arena.proofs.Make.{fresh-free}
-use Rattle.arena.proofs.Outs.{said-path, tables-path}
+use Rattle.arena.proofs.Branching.{found-slot, height-top}
 use Rattle.arena.proofs.Rows.{empties-length}
-use Rattle.arena.proofs.Scan.{find-hit}
 use Rattle.read_cell.proofs.Meaning.{wf-made}
 use Rattle.read_cell.proofs.Laws.{well-small}
-use Rattle.edit.specs.Edit.{wordsOf, oneLeaf, needOf, cellNeed, upNeed, planOf, owed, lowOf, freshNode, leafAnew, branchAnew, makeOf}
+use Rattle.edit.specs.Edit.{wordsOf, oneLeaf, needOf, cellNeed, upNeed, planOf, owed, lowOf, makeOf}
 use Rattle.edit_plan.specs.Models.{planned, eightParts, foundBy, leafKids, slotPlan, cellPlan, needPlan, upPlan, planBy}
 use Rattle.edit_plan.specs.declared.Plan as planning
 use Rattle.edit_plan.proofs.Plans.{tab-get}
-use Rattle.edit_make.specs.Models.{owe, oweAll, owedBy, freshBy, leafAnewBy, branchAnewBy, upBy, makeBy}
-use Rattle.edit.proofs.Growing.{given-inv, owed-grown, each-nil, each-cons, grown-live}
-use Rattle.edit.proofs.Planning.{branch-words, all-yes, slot-lone, words-length, words-at, Cell-came, cell-none, cell-leaf, cell-lack, cell-came, plan-is, parts-there}
+use Rattle.edit_make.specs.Models.{owe, oweAll, owedBy, leafAnewBy, branchAnewBy, upBy, makeBy}
+use Rattle.edit.proofs.Growing.{owed-grown, each-nil, each-cons, grown-live}
+use Rattle.edit.proofs.Planning.{all-yes, words-length, words-at, Cell-came, cell-none, cell-leaf, cell-lack, cell-came, plan-is, parts-there}
 use Rattle.edit.proofs.Upward.{Low, Done, low-have, low-lack, placed, lowers, eight, others-live, set-at, set-other, lack-inj, have-lack, over, make-done}
 
 -- ---- the eight words of a node's parts, one replaced
@@ -79,10 +74,6 @@ set-twice : (ks : List ℕ) (c x y : ℕ) → set (set ks c x) c y ≡ set ks c 
 set-twice [] c x y = refl
 set-twice (k ∷ ks) zero x y = refl
 set-twice (k ∷ ks) (suc c) x y = ap (λ (l : List ℕ). k ∷ l) (set-twice ks c x y)
-
-scanned : (t : Tables) (ks : List ℕ) → branchSlot t ks ≢ 0 → (branchIn t ks (branchSlot t ks) ≡ true) × (branchSlot t ks < cap t)
-unfolding branchSlot
-scanned t ks d = find-hit (branchIn t ks) (cap t) d
 
 -- ---- the dry run
 
@@ -137,7 +128,7 @@ module _ (tallest : ℕ) (t : Tables) (w : WellFormed cubeKids tallest t) where
 
         hit : branchSlot t (wordsOf cubeKids f) ≢ 0 → getD (t .find) (cellFor t (wordsOf cubeKids f) (valueFor cubeKids (W t) (wordsOf cubeKids f))) 0 ≡ branchSlot t (wordsOf cubeKids f)
         hit z =
-            let r = scanned t (wordsOf cubeKids f) z in
+            let r = found-slot t (wordsOf cubeKids f) z in
             let n = words-length cubeKids f in
             let b = branch-words t (wordsOf cubeKids f) (branchSlot t (wordsOf cubeKids f)) (r .0) in
             let l : LiveSlot t (branchSlot t (wordsOf cubeKids f)) = (r .1, b .0) in
@@ -237,76 +228,23 @@ module _ (tallest : ℕ) where
 
 -- ---- a fresh node
 
--- a slot that is not live is not named, so the search for its number ends at the first empty cell from its home on
-place-named : (t : Tables) (d ks : List ℕ) (v : ℕ) → Inv t d → t .arena .live + 1 < cap t
-    → set (t .find) (probe (eqb (freshSlot (t .arena))) (t .find) (homeFor (cap t) ks v)) (freshSlot (t .arena) % 65536) ≡ named t ks v (freshSlot (t .arena))
-unfolding named insertAt
-place-named t d ks v i room =
-    let s = freshSlot (t .arena) in
-    let free = fresh-free t d i room in
-    let most = i .sized .most in
-    let low = free .1 in
-    let whole : s % 65536 ≡ s = omega arith in
-    let end : probe (eqb s) (t .find) (homeFor (cap t) ks v) ≡ probe (λ x. false) (t .find) (homeFor (cap t) ks v) =
-    probe-as (eqb s) (λ x. false) (t .find) (homeFor (cap t) ks v)
-    (λ c a. ne-eqb s (cell (t .find) c) (λ z.
-    let dead : W t (cell (t .find) c) own < floor = subst (λ (x : ℕ). W t x own < floor) z (free .2) in
-    let live = i .finds .names (cell (t .find) c) a .0 (c, refl) .1 in
-    omega arith)) in
-    ap₂ (λ (x y : ℕ). set (t .find) x y) end whole
-
-fresh-same : (t : Tables) (d ks : List ℕ) (id v up h q : ℕ) → Inv t d → t .arena .live + 1 < cap t → freshBy t id ks v up h q ≡ freshNode t id ks v up h q
-unfolding freshBy freshNode writtenAt writtenNodes
-fresh-same t d ks id v up h q i room =
-    said-path _ _ _ _ _ _ refl refl (tables-path _ _ _ _ _ _ (given-inv t d i room) refl (place-named t d ks v i room))
-
-slot-whole : (t : Tables) (d : List ℕ) → Inv t d → t .arena .live + 1 < cap t → (freshSlot (t .arena) % 2 ^ 32 ≡ freshSlot (t .arena)) × (generationOf (W t (freshSlot (t .arena)) own) ≤ 0x7FFE)
-slot-whole t d i room =
-    let low = fresh-free t d i room .1 in
-    let most = i .sized .most in
-    let g = i .clean .gens (freshSlot (t .arena)) low in
-    (omega arith, omega arith)
-
 leaf-same : (t : Tables) (d : List ℕ) (x h q : ℕ) → Inv t d → t .arena .live + 1 < cap t → leafAnewBy t x h q ≡ leafAnew t x h q
-unfolding leafAnewBy leafAnew
-leaf-same t d x h q i room =
-    let z = slot-whole t d i room in
-    let e = z .0 in
-    let n = new-leaf (freshSlot (t .arena)) (generationOf (W t (freshSlot (t .arena)) own)) (z .1) in
-    rw (e, n) (fresh-same t d empties _ x 0 h q i room)
+unfolding leafAnewBy
+leaf-same t d x h q i room = leaf-fresh t d i room x h q _ (number-ends t d i room empties x)
 
 branch-same : (t : Tables) (d ks : List ℕ) (h q : ℕ) → Inv t d → t .arena .live + 1 < cap t
     → valueBy cubeKids (W t) ks ≡ valueFor cubeKids (W t) ks → heightFor cubeKids (W t) ks ≤ 1000
     → branchAnewBy t ks h q ≡ branchAnew cubeKids t ks h q
-unfolding branchAnewBy branchAnew
+unfolding branchAnewBy
 branch-same t d ks h q i room ev low =
-    let z = slot-whole t d i room in
-    let s = z .0 in
-    let n = new-branch ks (freshSlot (t .arena)) (generationOf (W t (freshSlot (t .arena)) own)) (z .1) in
-    let up : moreOf (topFor (W t) ks cubeKids) ≡ heightFor cubeKids (W t) ks = (let g = height-top cubeKids t ks in let b = more-few (topFor (W t) ks cubeKids) (omega arith) in omega arith) in
-    rw (s, n, ev, up) (fresh-same t d ks _ (valueFor cubeKids (W t) ks) (heightFor cubeKids (W t) ks) h q i room)
+    branch-fresh t d i room cubeKids ks (valueBy cubeKids (W t) ks) (moreOf (topFor (W t) ks cubeKids)) h q _ ev
+    (let g = height-top cubeKids t ks in let b = more-few (topFor (W t) ks cubeKids) (omega arith) in omega arith) (number-ends t d i room ks (valueBy cubeKids (W t) ks))
 
 kids-fit : cubeKids ≤ kidWords
 kids-fit = omega arith
 
 kids-some : 1 ≤ cubeKids
 kids-some = omega arith
-
--- the sum of the stored values does not wrap
-grown-value : (tallest : ℕ) (t : Tables) (ks : List ℕ) → length ks ≡ kidWords → Inv t (ks ++ []) → Content cubeKids tallest (cap t) (W t) → valueBy cubeKids (W t) ks ≡ valueFor cubeKids (W t) ks
-unfolding valueBy valueFor
-grown-value tallest t ks e i c = ap (λ (z : ℕ). z / cubeKids) (sum-wraps (W t) ks cubeKids (λ k l. kid-small k l))
-  where
-    kid-small : (k : ℕ) → k < cubeKids → valueAt (W t) (getD ks k 0) ≤ largestValue
-    kid-small k l = cases (ℕ-discrete (getD ks k 0) 0)
-        (λ (z : getD ks k 0 ≡ 0). rw z (let p = value-zero (W t) in omega arith))
-        (λ z.
-        let y = i .counts .named (getD ks k 0) z (omega (arith, total-append kidWords (cap t) (W t) (getD ks k 0) ks [], occ-at ks k (omega arith))) in
-        let yi = y .is in
-        let yh = y .high in
-        let b = c .nodes (slot (getD ks k 0)) (y .low) (omega arith) .small in
-        let p = value-node (W t) (getD ks k 0) z in
-        omega arith)
 
 -- no live leaf of the value
 lack-plan : (tallest : ℕ) (t : Tables) (w : WellFormed cubeKids tallest t) (x : ℕ) → x ≢ 0 → leafSlot t x ≡ 0 → cellPlan t x ≡ planned 1 0
@@ -353,7 +291,8 @@ module _ (tallest : ℕ) (high : tallest ≤ 900) (t : Tables) (w : WellFormed c
       let same : owedBy (o .after) (set ks c 0) ≡ each owed (o .after) (set ks c 0) =
       each-same tallest (set ks c 0) (o .after) (o .id ∷ []) (omega (arith, length-set ks c 0)) (r .grown .inv) (r .grown .content) live in
       let v = each owed (o .after) (set ks c 0) in
-      let ev : valueBy cubeKids (W v) ks ≡ valueFor cubeKids (W v) ks = grown-value tallest v ks n (g .inv) (g .content) in
+      let ev : valueBy cubeKids (W v) ks ≡ valueFor cubeKids (W v) ks =
+      kids-value cubeKids tallest kids-fit kids-some v ks n (g .content) (λ y a b. g .inv .counts .named y a (omega (arith, total-append kidWords (cap v) (W v) y ks []))) in
       let hl = lowers cubeKids tallest t kids-fit two w x small d c a j h q p o l low b cell tall room few held r in
       rw (e, z, same)
       (branch-same v (ks ++ []) ks h q (g .inv) (let y = g .lives in let k = r .grown .lives in let u = g .caps in let f = r .grown .caps in omega arith) ev

@@ -6,19 +6,17 @@ use mathlib.Core.List.{List, [], _∷_}
 use Prim.Native.Nat.{ℕ, zero, suc, _+_, _^_, _≤_, _<_}
 use native.Mathlib.Decide.{ℕ-discrete, decLt}
 use native.Mathlib.Omega.{arith}
-use lib.Dec.{eqb, leb, ltb}
+use lib.Dec.{eqb, ltb}
 use lib.ListN.{length, getD}
-use borrow.Author.Tests.{eq-eqb, ne-eqb, eqb-true, lt-ltb, le-ltb, le-leb, leb-true}
+use borrow.Author.Tests.{eq-eqb, ne-eqb, eqb-true, lt-ltb, le-ltb}
 use Rattle.basics.specs.Limits.{kidWords}
 use Rattle.nodes.specs.Values.{heightAt, valueAt}
 use Rattle.basics.specs.Pick.{pick}
 use Rattle.ids.specs.Ids.{isLeaf, leafFlag, generationOf}
-use Rattle.nodes.specs.Words.{own, value, slot, floor}
+use Rattle.nodes.specs.Words.{own, value, slot}
 use Rattle.nodes.specs.Tally.{tabFrom, Live}
 use Rattle.nodes.proofs.Counts.{live-own, live-nonzero, floor-pos}
 use Rattle.nodes.proofs.Sums.{cases, split, occ-tab, tabFrom-length}
-use Rattle.find.specs.Content.{agree}
-use Rattle.find.proofs.Contents.{agree-true, agree-words}
 use Rattle.tree.specs.Tree.{LiveOr0, Leaf, Branch, WellMade, Cell, here, down}
 use Rattle.tree.specs.Anew.{part, replace, All, Mixed, Has, HasValue, nothing, whole, node}
 use Rattle.tree.specs.Lacks.{Need, have, lack, Plan, plan-gone, plan-set, plan-leaf, plan-step, plan-branch, plan-more}
@@ -26,6 +24,7 @@ use Rattle.tree.proofs.Making.{part-there, part-low, replace-all, renewed}
 use Rattle.tree.proofs.Plan.{plan-have}
 use Rattle.arena.specs.Tables.{Tables, cap, W, LiveSlot, WellFormed}
 use Rattle.arena.specs.Calls.{allOf, findSlot, leafIn, leafSlot, branchIn, branchSlot}
+use Rattle.arena.proofs.Branches.{branch-words, slot-lone}
 use Rattle.arena.proofs.Eight.{all-at}
 use Rattle.arena.proofs.Fits.{both}
 use Rattle.arena.proofs.Ids.{leaf-flag, branch-flag, gen-small}
@@ -62,20 +61,6 @@ unfolding allOf tabFrom
 all-yes k zero i f h = refl
 all-yes k (suc n) i f h =
     rw (eq-eqb k (f i) (sym (h i (omega arith) (omega arith)))) (all-yes k n (suc i) f (λ j a b. h j (omega arith) (omega arith)))
-
-pub branch-words : (t : Tables) (ks : List ℕ) (s : ℕ) → branchIn t ks s ≡ true → (floor ≤ W t s own) × ((j : ℕ) → j < length ks → W t s (0 + j) ≡ getD ks j 0)
-unfolding branchIn
-branch-words t ks s e =
-    let b = both (leb floor (W t s own)) (agree (W t) s 0 ks) e in
-    (leb-true floor (W t s own) (b .0), agree-words (W t) s 0 ks (b .1))
-
--- no live slot has words that the scan does not find
-pub slot-lone : (t : Tables) (ks : List ℕ) → length ks ≡ kidWords → branchSlot t ks ≡ 0 → (s : ℕ) → LiveSlot t s → s ≢ 0
-    → ((j : ℕ) → j < kidWords → W t s j ≡ getD ks j 0) → ⊥
-unfolding branchSlot branchIn
-slot-lone t ks e z s l d h =
-    let in-it : branchIn t ks s ≡ true = rw (le-leb floor (W t s own) (l .1)) (agree-true (W t) s 0 ks (λ j k. let q : 0 + j ≡ j = omega arith in rw q (h j (omega arith)))) in
-    true≢false (sym in-it ∙ find-miss (branchIn t ks) (cap t) z s (l .0) d)
 
 leaf-both : (n : ℕ) (f : ℕ → ℕ) → oneLeaf n f ≡ true → (isLeaf (f 0) ≡ true) × (allOf (eqb (f 0)) (tabFrom n 0 f) ≡ true)
 unfolding oneLeaf
@@ -145,19 +130,6 @@ module _ (n tallest : ℕ) (t : Tables) (m : n ≤ kidWords) (pos : 1 ≤ n) (w 
             (λ z. let b = z .1 in is-branch n tallest (cap t) (W t) m (w .sized .most) (wf-content n tallest t w) a (z .0) l (omega arith) (λ q. z .2 (sym (at (z .0) (z .1)) ∙ q)))
             (first n)
 
-    -- and the branch that has the parts is a live slot with those eight words
-    has-in : (r : ℕ) → Has n (cap t) (W t) f r → branchIn t (wordsOf n f) (slot r) ≡ true
-    unfolding branchIn
-    has-in r h =
-        let v = branch-node n tallest (cap t) (W t) m (w .sized .most) (wf-content n tallest t w) r (h .live) (h .isBranch) in
-        let o = h .live .is in
-        let g = h .live .high in
-        let z = words-length n f in
-        rw (le-leb floor (W t (slot r) own) (omega arith))
-        (agree-true (W t) (slot r) 0 (wordsOf n f)
-        (λ j l. let q : 0 + j ≡ j = omega arith in
-        rw q (cases (decLt j n) (λ b. h .kids j b ∙ sym (words-at n f j (omega arith) b)) (λ b. v .beyond j (omega arith) (omega arith) ∙ sym (words-past n f j (omega arith) (omega arith))))))
-
     mixed : allOf (eqb 0) (tabFrom n 0 f) ≡ false → oneLeaf n f ≡ false → Mixed n f
     unfolding oneLeaf
     mixed e q = record {
@@ -170,14 +142,16 @@ module _ (n tallest : ℕ) (t : Tables) (m : n ≤ kidWords) (pos : 1 ≤ n) (w 
           true≢false (sym (rw g y) ∙ q);
     }
 
+    -- and the branch that has the parts is a live slot with those eight words
     slot-lack : Mixed n f → branchSlot t (wordsOf n f) ≡ 0 → (r : ℕ) → ¬ (Has n (cap t) (W t) f r)
-    unfolding branchSlot
     slot-lack x z r h =
+        let v = branch-node n tallest (cap t) (W t) m (w .sized .most) (wf-content n tallest t w) r (h .live) (h .isBranch) in
         let o = h .live .is in
         let g = h .live .high in
         let ground = w .chain .ground in
-        true≢false (sym (has-in r h) ∙ find-miss (branchIn t (wordsOf n f)) (cap t) z (slot r) (h .live .low)
-        (λ (q : slot r ≡ 0). let y : W t (slot r) own ≡ 0 = ap (λ (b : ℕ). W t b own) q ∙ ground in let p = floor-pos in omega arith))
+        slot-lone t (wordsOf n f) (words-length n f) z (slot r) (h .live .low, omega arith)
+        (λ (q : slot r ≡ 0). let y : W t (slot r) own ≡ 0 = ap (λ (b : ℕ). W t b own) q ∙ ground in let p = floor-pos in omega arith)
+        (λ j l. cases (decLt j n) (λ b. h .kids j b ∙ sym (words-at n f j l b)) (λ b. v .beyond j (omega arith) l ∙ sym (words-past n f j (omega arith) l)))
 
     slot-has : Mixed n f → branchSlot t (wordsOf n f) ≢ 0 → Has n (cap t) (W t) f (W t (branchSlot t (wordsOf n f)) own)
     unfolding branchSlot

@@ -1,7 +1,7 @@
 -- The making, leaf first and upward: it leaves the rules kept, moves no node, and its answer is the node made anew.
 use mathlib.Core.Path.{_≡_, refl, sym, ap, _∙_, subst}
 use mathlib.Core.Logic.{_≢_, _⊎_, inl, inr, ⊎-elim}
-use mathlib.Core.Bool.{false, true≢false}
+use mathlib.Core.Bool.{false}
 use mathlib.Core.List.{List, [], _∷_, _++_}
 use Prim.Native.Nat.{ℕ, zero, suc, _+_, _-_, _≤_, _<_}
 use native.Mathlib.Decide.{ℕ-discrete, decLt}
@@ -14,7 +14,6 @@ use Rattle.nodes.specs.Words.{own, value, height, holds, places, slot, floor, W
 use Rattle.nodes.specs.Tally.{kidsOf, occ, Live}
 use Rattle.nodes.proofs.Counts.{live-inj, live-same, live-own, live-nonzero, total, kid-occ, occ-le-tally}
 use Rattle.nodes.proofs.Sums.{cases, split, occ-nil, occ-cons, occ-here, occ-append, same-diff}
-use Rattle.find.proofs.Contents.{content-true}
 use Rattle.tree.specs.Tree.{LiveOr0, Branch, WellMade, Cell, here, down, Extends, Below, self, under}
 use Rattle.tree.specs.Anew.{part, replace, Mixed, node, Anew, set as anew-set}
 use Rattle.tree.specs.Lacks.{Need, have, lack, Plan}
@@ -24,19 +23,18 @@ use Rattle.tree.proofs.Plan.{plan-have}
 use Rattle.arena.specs.Node.{heightFor, valueFor}
 use Rattle.nodes.specs.Values.{heightAt, maxTo, valueAt}
 use Rattle.arena.specs.Tables.{Tables, cap, W, LiveSlot, WellFormed}
-use Rattle.arena.specs.Calls.{Out, said, noneOf, each, empties, branchSlot}
-use Rattle.arena.proofs.Branches.{some-kid, occ-at}
-use Rattle.arena.proofs.Branching.{occ-in}
+use Rattle.arena.specs.Calls.{Out, said, noneOf, each, empties, leafAnew, branchAnew, branchSlot}
+use Rattle.arena.proofs.Branches.{some-kid, occ-at, occ-in, slot-lone}
 use Rattle.arena.proofs.Eight.{all-at}
+use Rattle.arena.proofs.Fresh.{Grown, Makes-one, leaf-makes, branch-makes}
 use Rattle.arena.proofs.Inv.{Inv, Content, wf-inv, wf-content}
-use Rattle.arena.proofs.Leaves.{no-leaf, not-ground}
+use Rattle.arena.proofs.Leaves.{leaf-alone, not-ground}
 use Rattle.arena.proofs.Rows.{empties-length, empties-at}
 use Rattle.read_cell.proofs.Meaning.{wf-made}
-use Rattle.edit.specs.Edit.{wordsOf, needOf, upNeed, planOf, owed, lowOf, leafAnew, branchAnew, makeOf}
-use Rattle.edit.proofs.Growing.{Grown, Alone, grown-live, grown-debt, grown-trans, grown-extends, owed-grown, owed-word, each-grown, each-word, each-cap}
-use Rattle.edit.proofs.Fresh.{Makes-one, leaf-makes, branch-makes}
+use Rattle.edit.specs.Edit.{wordsOf, needOf, upNeed, planOf, owed, lowOf, makeOf}
+use Rattle.edit.proofs.Growing.{grown-live, grown-debt, grown-trans, grown-extends, owed-grown, owed-word, each-grown, each-word, each-cap}
 use Rattle.edit.proofs.Wholes.{content-made, is-leaf, is-branch}
-use Rattle.edit.proofs.Planning.{slot-lone, words-length, words-at, words-past, Came, came-none, came-leaf, came-node, came-lack, need-came, Cell-came, cell-none, cell-leaf, cell-lack, cell-came, plan-is, parts-there}
+use Rattle.edit.proofs.Planning.{words-length, words-at, words-past, Came, came-none, came-leaf, came-node, came-lack, need-came, Cell-came, cell-none, cell-leaf, cell-lack, cell-came, plan-is, parts-there}
 
 pub have-lack : {r k : ℕ} → have r ≡ lack k → ⊥
 have-lack e = let z : _≡_ {A = ℕ} 0 1 = cc in omega arith
@@ -130,9 +128,7 @@ module _ (n tallest : ℕ) (t : Tables) (m : n ≤ 8) (two : 1 < n) (w : WellFor
       go (cell-leaf r d g s) = absurd (have-lack (sym s ∙ e))
       go (cell-lack d z g s) =
           let one : 1 ≡ k = lack-inj (sym s ∙ e) in
-          let alone : Alone t empties x = (λ b l f v.
-          true≢false (sym (content-true (W t) empties x b empties-length f v) ∙ no-leaf n tallest t m w x d z b (not-ground n tallest t w empties x empties-length b l) l)) in
-          let r = leaf-makes n tallest m t x h q inv con (omega arith) d small few held alone in
+          let r = leaf-makes n tallest m t x h q inv con (omega arith) d small few held (leaf-alone n tallest t m w x d z) in
           let g = r .grown in
           let f = r .fresh in
           let lu : Live (cap (leafAnew t x h q .after)) (W (leafAnew t x h q .after)) (leafAnew t x h q .id) =

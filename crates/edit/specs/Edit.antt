@@ -7,19 +7,18 @@ use lib.Dec.{eqb, leb, ltb}
 use lib.ListN.{set}
 use Rattle.basics.specs.Limits.{cubeKids, kidWords}
 use Rattle.basics.specs.Pick.{pick}
-use Rattle.ids.specs.Ids.{empty, isLeaf, generationOf}
+use Rattle.ids.specs.Ids.{empty, isLeaf}
 use Rattle.paths.specs.declared.IVec3.{IVec3}
 use Rattle.paths.specs.Paths.{whole}
-use Rattle.nodes.specs.Words.{putOf, written, own, places, slot}
+use Rattle.nodes.specs.Words.{putOf, own, places, slot}
 use Rattle.nodes.specs.Tally.{tabFrom}
 use Rattle.tree.specs.Tree.{look}
 use Rattle.nodes.specs.Values.{heightAt}
 use Rattle.tree.specs.Cells.{cubePath}
 use Rattle.tree.specs.Anew.{part, replace}
 use Rattle.tree.specs.Lacks.{Need, have, lack}
-use Rattle.arena.specs.Node.{leafId, branchId, valueFor, heightFor}
 use Rattle.arena.specs.Tables.{Tables, tablesOf, W}
-use Rattle.arena.specs.Calls.{Out, said, refused, fullOf, freeSlots, heldAt, freshSlot, slotGiven, freshFacts, empties, named, leafSlot, branchSlot, allOf, each}
+use Rattle.arena.specs.Calls.{Out, said, refused, fullOf, freeSlots, heldAt, leafAnew, branchAnew, leafSlot, branchSlot, allOf, each}
 use Rattle.read_cell.specs.Calls.{lookNo}
 
 -- ## The dry run: what is there already, and how many nodes are not
@@ -60,22 +59,6 @@ unfoldable pub resultOf : ℕ → Tables → ℕ → List ℕ → ℕ → Need
 resultOf n t x p root = pick (eqb (look (W t) p root) x) (have root) (planOf n t x p root)
 
 -- ## The making, leaf first and upward
-
--- a fresh node of the id, with h holds and q places
-unfoldable pub freshNode : Tables → ℕ → List ℕ → ℕ → ℕ → ℕ → ℕ → Out
-freshNode t id ks v up h q =
-    let s = freshSlot (t .arena) in
-    said 0 id (tablesOf (slotGiven (t .arena) (W t)) (written (t .nodes) s ks (freshFacts id v up h q)) (named t ks v s))
-
-unfoldable pub leafAnew : Tables → ℕ → ℕ → ℕ → Out
-leafAnew t x h q =
-    let s = freshSlot (t .arena) in
-    freshNode t (leafId s (generationOf (W t s own))) empties x 0 h q
-
-unfoldable pub branchAnew : ℕ → Tables → List ℕ → ℕ → ℕ → Out
-branchAnew n t ks h q =
-    let s = freshSlot (t .arena) in
-    freshNode t (branchId ks s (generationOf (W t s own))) ks (valueFor n (W t) ks) (heightFor n (W t) ks) h q
 
 -- one place more for the node s, which the branch that is made next will have; EMPTY: nothing
 unfoldable pub owed : Tables → ℕ → Tables

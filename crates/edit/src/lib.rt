@@ -8,7 +8,7 @@ use edit_make::make;
 use edit_plan::Plan;
 use edit_plan::result;
 use ids::BlockId;
-use new_slot::free_slots;
+use new_node::free_slots;
 use new_value::height_at;
 use nodes::HOLDS;
 use nodes::fact;

@@ -1,20 +1,18 @@
 -- What the functions answer and leave, of any tables: mirrors of the code. No reader has to believe them.
 use mathlib.Core.List.{List, [], _∷_}
-use Prim.Native.Nat.{ℕ, _-_, _%_, _^_}
+use Prim.Native.Nat.{ℕ, _-_}
 use lib.Dec.{eqb, leb}
 use lib.ListN.{set}
 use Rattle.basics.specs.Limits.{deepest, cubeKids}
 use Rattle.basics.specs.Pick.{pick}
-use Rattle.ids.specs.Ids.{generationOf, newLeaf, newBranch}
-use Rattle.nodes.specs.Words.{factOf, factPut, own, places, slot}
+use Rattle.nodes.specs.Words.{factOf, factPut, places, slot}
 use Rattle.find_hash.specs.Hash.{homeFor}
 use Rattle.find.specs.Cells.{probe}
 use Rattle.tree.specs.Cells.{cubePath}
 use Rattle.tree.specs.Anew.{part}
-use Rattle.arena.specs.Node.{kidTypes, kidMask}
 use Rattle.arena.specs.Tables.{Tables, tables, cap, W}
 use Rattle.arena.specs.Calls.{Out, said, refused, freshSlot, empties}
-use Rattle.arena.specs.Models.{moreOf, writtenAt, topFor, valueBy}
+use Rattle.arena.specs.Models.{moreOf, leafFresh, branchFresh, topFor, valueBy}
 use Rattle.edit_plan.specs.Models.{eightParts}
 
 -- one place more for the node s; EMPTY: nothing
@@ -28,20 +26,17 @@ oweAll f (k ∷ ks) = oweAll (owe f k) ks
 abbrev pub owedBy : Tables → List ℕ → Tables
 owedBy t ks = tables (t .arena) (t .nodes .kids) (oweAll (t .nodes .facts) ks) (t .find)
 
-unfoldable pub freshBy : Tables → ℕ → List ℕ → ℕ → ℕ → ℕ → ℕ → Out
-freshBy t id ks v up h q =
-    let at = probe (eqb (freshSlot (t .arena))) (t .find) (homeFor (cap t) ks v) in
-    said 0 id (writtenAt t id ks v up h q at)
+-- the first empty cell from the home of the content on: no cell names the fresh slot
+abbrev pub placeFor : Tables → List ℕ → ℕ → ℕ
+placeFor t ks v = probe (eqb (freshSlot (t .arena))) (t .find) (homeFor (cap t) ks v)
 
 unfoldable pub leafAnewBy : Tables → ℕ → ℕ → ℕ → Out
-leafAnewBy t x h q =
-    let s = freshSlot (t .arena) in
-    freshBy t (newLeaf (s % 2 ^ 32) (generationOf (W t s own))) empties x 0 h q
+leafAnewBy t x h q = leafFresh t x h q (placeFor t empties x)
 
 unfoldable pub branchAnewBy : Tables → List ℕ → ℕ → ℕ → Out
 branchAnewBy t ks h q =
-    let s = freshSlot (t .arena) in
-    freshBy t (newBranch (s % 2 ^ 32) (generationOf (W t s own)) (kidTypes ks) (kidMask ks)) ks (valueBy cubeKids (W t) ks) (moreOf (topFor (W t) ks cubeKids)) h q
+    let v = valueBy cubeKids (W t) ks in
+    branchFresh t ks v (moreOf (topFor (W t) ks cubeKids)) h q (placeFor t ks v)
 
 -- the parts ks of a node, number c of them made: the others get their places, then the branch
 unfoldable pub upBy : Out → List ℕ → ℕ → ℕ → ℕ → Out

@@ -7,30 +7,28 @@ use basics::KID_WORDS;
 use basics::Kids;
 use basics::NO_KIDS;
 use edit_plan::parts;
-use find::put_cell;
+use find::number_from;
 use find_hash::home_for;
-use find_remove::number_from;
 use ids::BlockId;
-use new_id::branch_id;
-use new_slot::fresh_slot;
-use new_slot::give;
-use new_slot::leaf_id;
+use new_node::fresh_branch;
+use new_node::fresh_leaf;
+use new_node::fresh_slot;
 use new_value::sums_of;
-use nodes::OWN;
 use nodes::PLACES;
 use nodes::fact;
 use nodes_write::put_fact;
-use nodes_write::write_slot;
 use paths::octant;
 use std::num::wrapping_add_u64;
 ghost use mathlib.Core.Path.{_≡_};
 ghost use Prim.Native.Nat.{_+_, _≤_, _<_};
+ghost use lib.Dec.{eqb};
+ghost use Rattle.find_hash.specs.Hash.{homeFor};
+ghost use Rattle.find.specs.Cells.{probe};
 ghost use Rattle.tree.specs.Cells.{cubePath};
-ghost use Rattle.edit_make.specs.Models.{owe as oweOf, oweAll, freshBy, leafAnewBy, branchAnewBy, upBy, makeBy, makeAt};
-ghost use Rattle.arena.specs.Calls.{madeOf};
+ghost use Rattle.edit_make.specs.Models.{owe as oweOf, oweAll, leafAnewBy, branchAnewBy, upBy, makeBy, makeAt};
+ghost use Rattle.arena.specs.Calls.{madeOf, freshSlot};
 ghost use Rattle.arena.specs.Lent.{before, made};
 
-// Eight EMPTY children.
 // One place more for the node of id; EMPTY: nothing.
 fn owe(facts: &mut [u64], id: u64)
     ensures { λ _. ⌜ now (facts .exit) ≡ oweOf (now (facts .entry)) id ⌝ }
@@ -53,31 +51,11 @@ fn owe_all(facts: &mut [u64], ks: Kids)
     }
 }
 
-// A fresh node of the id, with h holds and q places. Its slot is not named yet, so the search for it ends at the first empty cell from its home on.
-fn fresh_node(
-    a: Arena,
-    kids: &mut [u64],
-    facts: &mut [u64],
-    find: &mut [u16],
-    id: u64,
-    ks: Kids,
-    v: u64,
-    up: u64,
-    h: u64,
-    q: u64,
-) -> Made
-    ensures { λ r. ⌜ made r kids facts find ≡ freshBy (before a kids facts find) id ks v up h q ⌝ }
+// Where a fresh node of this content is named. Its slot is not named yet, so the search for it ends at the first empty cell from its home on.
+fn place_for(a: Arena, find: &[u16], ks: Kids, v: u64) -> usize
+    ensures { λ r. ⌜ r ≡ probe (eqb (freshSlot a)) (now (find .entry)) (homeFor (a .capacity) ks v) ⌝ }
 {
-    let s = fresh_slot(a);
-    let at = number_from(find, s, home_for(a.capacity, ks, v));
-    let b = give(a, facts);
-    write_slot(kids, facts, s, ks, [id, v, up, h, q, 0, 0]);
-    put_cell(find, at, s);
-    Made {
-        no: 0,
-        id: BlockId(id),
-        arena: b,
-    }
+    number_from(find, fresh_slot(a), home_for(a.capacity, ks, v))
 }
 
 fn leaf_anew(
@@ -91,9 +69,8 @@ fn leaf_anew(
 ) -> Made
     ensures { λ r. ⌜ made r kids facts find ≡ leafAnewBy (before a kids facts find) v h q ⌝ }
 {
-    let s = fresh_slot(a);
-    let id = leaf_id(s, fact(facts, s, OWN));
-    fresh_node(a, kids, facts, find, id, NO_KIDS, v, 0, h, q)
+    let at = place_for(a, find, NO_KIDS, v);
+    fresh_leaf(a, kids, facts, find, at, v, h, q)
 }
 
 fn branch_anew(
@@ -107,11 +84,10 @@ fn branch_anew(
 ) -> Made
     ensures { λ r. ⌜ made r kids facts find ≡ branchAnewBy (before a kids facts find) ks h q ⌝ }
 {
-    let s = fresh_slot(a);
-    let id = branch_id(ks, s, fact(facts, s, OWN));
     let sums = sums_of(facts, ks);
     let up = wrapping_add_u64(sums.top, 1);
-    fresh_node(a, kids, facts, find, id, ks, sums.value, up, h, q)
+    let at = place_for(a, find, ks, sums.value);
+    fresh_branch(a, kids, facts, find, at, ks, sums.value, up, h, q)
 }
 
 // The branch over the part `low`, number c, which has its place; the others get theirs.

@@ -8,13 +8,13 @@ use nodes::children;
 use nodes::fact;
 ghost use mathlib.Core.Path.{_≡_};
 ghost use Prim.Native.Nat.{_%_};
+ghost use lib.Dec.{eqb};
 ghost use lib.ListN.{getD, set};
 ghost use Rattle.nodes.specs.Words.{kidOf};
 ghost use Rattle.nodes.specs.Lent.{wordsIn};
 ghost use Rattle.find.specs.Content.{noKids, agree, contentIs};
-ghost use Rattle.find.specs.Cells.{cellOf};
+ghost use Rattle.find.specs.Cells.{cellOf, probe};
 
-// Eight EMPTY children.
 // Where a search ended: the cell, and the slot that it names, 0 for none.
 pub struct Found {
     pub slot: usize,
@@ -47,6 +47,26 @@ pub fn put_cell(find: &mut [u16], at: usize, s: usize)
     if at < find.len() {
         find[at] = (s % 65536) as u16;
     }
+}
+
+// ---- the search for a number
+
+// The first cell from `from` on that is empty or names s, or the table's end.
+pub fn number_from(find: &[u16], s: usize, from: usize) -> usize
+    ensures { λ r. ⌜ r ≡ probe (eqb s) (now (find .entry)) from ⌝ }
+{
+    let mut i = from;
+    while i < find.len() {
+        let x = cell(find, i);
+        if x == 0 {
+            return i;
+        }
+        if s == x {
+            return i;
+        }
+        i += 1;
+    }
+    i
 }
 
 // ---- the search

@@ -1,5 +1,5 @@
-// The cell of a slot number in the finding table, and a slot taken out of it. See specs/Cells.antt of crate `find`.
-use find::cell;
+// A slot taken out of the finding table. See specs/Cells.antt of crate `find`.
+use find::number_from;
 use find_hash::home_for;
 use nodes::VALUE;
 use nodes::children;
@@ -15,24 +15,6 @@ fn home_at(kids: &[u64], facts: &[u64], capacity: usize, s: usize) -> usize
     ensures { λ r. ⌜ r ≡ homeAt capacity (wordsIn kids facts) s ⌝ }
 {
     home_for(capacity, children(kids, s), fact(facts, s, VALUE))
-}
-
-// The first cell from `from` on that is empty or names s, or the table's end.
-pub fn number_from(find: &[u16], s: usize, from: usize) -> usize
-    ensures { λ r. ⌜ r ≡ probe (eqb s) (now (find .entry)) from ⌝ }
-{
-    let mut i = from;
-    while i < find.len() {
-        let x = cell(find, i);
-        if x == 0 {
-            return i;
-        }
-        if s == x {
-            return i;
-        }
-        i += 1;
-    }
-    i
 }
 
 // Cell `at` taken out: what stands above it and can be nearer to its home moves down, so that no search ends too early.

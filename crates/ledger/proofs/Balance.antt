@@ -12,18 +12,17 @@ use borrow.Author.Tests.{eq-eqb, ne-eqb}
 use Rattle.basics.specs.Pick.{pick}
 use Rattle.ids.specs.Ids.{invalid, empty, generationOf}
 use Rattle.nodes.specs.Tally.{Live, occ, tally}
-use Rattle.nodes.specs.Words.{own, holds, places, spare, slot, floor, wordOf}
-use Rattle.nodes.proofs.Access.{put-keeps, put-less, put-slot, within-size}
+use Rattle.nodes.specs.Words.{own, value, holds, places, spare, slot, wordOf}
+use Rattle.nodes.proofs.Access.{put-keeps, put-less, put-slot}
 use Rattle.nodes.proofs.Counts.{live-same, live-inj, live-nonzero, floor-pos}
 use Rattle.nodes.proofs.Sums.{cases, split}
-use Rattle.arena.specs.Calls.{Out, said, heldAt, freshSlot, empties, leafMade, internLeafOf, leafSlot, lessOf, takes, releaseOf, holdOf, freshOf, unheld, placed, branchMade, branchSlot, internBranchOf, fitOf, slotGiven, named, liveOf, countsOf}
-use Rattle.arena.specs.Node.{leafId, branchId, valueFor, heightFor}
+use Rattle.arena.specs.Calls.{Out, said, heldAt, empties, leafMade, internLeafOf, leafSlot, lessOf, takes, releaseOf, holdOf, freshOf, unheld, placed, branchAnew, branchMade, branchSlot, internBranchOf, fitOf, liveOf, countsOf}
+use Rattle.arena.specs.Node.{valueFor}
 use Rattle.arena.specs.Tables.{Tables, tablesOf, cap, W, WellFormed, Sized}
 use Rattle.arena.proofs.Branches.{alive, affords, Placing, placing, unheld-eased}
 use Rattle.arena.proofs.Fits.{live-is, room-yes, sized-fits}
-use Rattle.arena.proofs.Ids.{leaf-slot, leaf-floor, leaf-gen, branch-slot, branch-gen, gen-small}
-use Rattle.arena.proofs.Inv.{wf-inv, sized-within}
-use Rattle.arena.proofs.Make.{fresh-free, id-branch, id-floor}
+use Rattle.arena.proofs.Fresh.{Fresh, fresh-gens, leaf-new, branch-new, value-same}
+use Rattle.arena.proofs.Inv.{wf-inv}
 use Rattle.arena.proofs.Releasing.{Released, release-released}
 use Rattle.arena.proofs.Rows.{empties-length}
 use Rattle.ledger.specs.Ledger.{on, ifAccepted, holdsOn, Balanced}
@@ -31,7 +30,7 @@ use Rattle.ledger.specs.Fates.{Lives, Same, Grew, Has}
 use Rattle.ledger.proofs.Effects.{live-true, by-life, holds-live, holds-dead, on-zero, on-same, on-diff, accepted, unaccepted, counted-holds, was-live}
 use Rattle.ledger.proofs.Found.{leaf-found, branch-found, slot-own}
 use Rattle.ledger.proofs.Ladders.{Fine, branchHeld, leaf-made-no, branch-made-no, leaf-ways, branch-ways, hold-ways, release-ways}
-use Rattle.ledger.proofs.Writes.{held-cap, held-grew, held-balance, unheld-holds, placed-holds, given-cap, new-grew, new-only, new-has, new-gens, new-balance}
+use Rattle.ledger.proofs.Writes.{held-cap, held-grew, held-balance, unheld-holds, placed-holds, new-grew, new-only, new-has, new-gens, new-balance}
 
 -- ---- what each call grants and takes
 
@@ -80,58 +79,25 @@ there-held : (t : Tables) (s id : ℕ) → Sized t → Lives t id → slot id �
 there-held t s id z l e y = omega (arith, accepted (said 0 id (heldAt t s)) (on y id) refl, held-balance t s id z l e y)
 
 module _ (n tallest : ℕ) (t : Tables) (m : n ≤ 8) (w : WellFormed n tallest t) (room : t .arena .live + 1 < cap t) where
-  abbrev spot : ℕ
-  spot = freshSlot (t .arena)
-
-  pub spot-free : (1 ≤ spot) × (spot < cap t) × (W t spot own < floor)
-  spot-free = fresh-free t [] (wf-inv n tallest t m w) room
-
-  pub spot-small : spot < 65536
-  spot-small = let p = spot-free .1 in let q = w .sized .most in omega arith
+  leaf-one : (v : ℕ) → Fresh t (leafMade t v .after) (leafMade t v .id) empties v 1 0
+  unfolding leafMade
+  leaf-one v = leaf-new t (wf-inv n tallest t m w) room v 1 0
 
   pub leaf-grew : (v : ℕ) → Grew t (leafMade t v .after)
-  unfolding leafMade
-  leaf-grew v =
-      let id = leafId spot (generationOf (W t spot own)) in
-      new-grew t (t .nodes) (slotGiven (t .arena) (W t)) (named t empties v spot) empties spot id v 0 empties-length (given-cap t)
-      (spot-free .1) (spot-free .2) (sized-within t spot (w .sized) (spot-free .1)) (λ b f l. refl)
+  leaf-grew v = new-grew t t (leafMade t v .after) (leafMade t v .id) empties v empties-length refl (λ b f l. refl) (leaf-one v)
 
   leaf-balance : (v y : ℕ) → holdsOn (leafMade t v .after) y + 0 ≡ holdsOn t y + on y (leafMade t v .id)
-  unfolding leafMade
-  leaf-balance v y =
-      let id = leafId spot (generationOf (W t spot own)) in
-      let low = spot-small in
-      new-balance t (t .nodes) (slotGiven (t .arena) (W t)) (named t empties v spot) empties spot id v 0 empties-length (given-cap t)
-      (spot-free .1) (spot-free .2) (sized-within t spot (w .sized) (spot-free .1)) (λ b f l. refl)
-      (leaf-slot spot (generationOf (W t spot own)) (omega arith)) (leaf-floor spot (generationOf (W t spot own))) y 0 (λ v. omega arith) (λ d. refl)
+  leaf-balance v y = new-balance t t (leafMade t v .after) (leafMade t v .id) empties v empties-length refl (λ b f l. refl) (leaf-one v) y 0 (λ l. omega arith) (λ d. refl)
 
   -- the only new one; its content; and it was not there before
   pub leaf-adds : (v y : ℕ) → Lives (leafMade t v .after) y → (y ≡ leafMade t v .id) ⊎ Lives t y
-  unfolding leafMade
-  leaf-adds v y l =
-      let id = leafId spot (generationOf (W t spot own)) in
-      let low = spot-small in
-      new-only t (t .nodes) (slotGiven (t .arena) (W t)) (named t empties v spot) empties spot id v 0 empties-length (given-cap t)
-      (spot-free .1) (spot-free .2) (sized-within t spot (w .sized) (spot-free .1)) (λ b f l. refl)
-      (leaf-slot spot (generationOf (W t spot own)) (omega arith)) y l
+  leaf-adds v = new-only t t (leafMade t v .after) (leafMade t v .id) empties v empties-length refl (λ b f l. refl) (leaf-one v)
 
   pub leaf-has : (v : ℕ) → Has (leafMade t v .after) (leafMade t v .id) empties v × (Lives t (leafMade t v .id) → ⊥)
-  unfolding leafMade
-  leaf-has v =
-      let id = leafId spot (generationOf (W t spot own)) in
-      let low = spot-small in
-      new-has t (t .nodes) (slotGiven (t .arena) (W t)) (named t empties v spot) empties spot id v 0 empties-length (given-cap t)
-      (spot-free .1) (spot-free .2) (sized-within t spot (w .sized) (spot-free .1)) (λ b f l. refl)
-      (leaf-slot spot (generationOf (W t spot own)) (omega arith)) (leaf-floor spot (generationOf (W t spot own)))
+  leaf-has v = new-has t t (leafMade t v .after) (leafMade t v .id) empties v empties-length refl (λ b f l. refl) (leaf-one v)
 
   pub leaf-gens : (v b : ℕ) → generationOf (W (leafMade t v .after) b own) ≡ generationOf (W t b own)
-  unfolding leafMade
-  leaf-gens v b =
-      let id = leafId spot (generationOf (W t spot own)) in
-      let low = spot-small in
-      new-gens t (t .nodes) (slotGiven (t .arena) (W t)) (named t empties v spot) empties spot id v 0 empties-length (given-cap t)
-      (spot-free .1) (spot-free .2) (sized-within t spot (w .sized) (spot-free .1)) (λ b f l. refl)
-      (leaf-gen spot (generationOf (W t spot own)) (omega arith) (gen-small (W t spot own))) b
+  leaf-gens v = fresh-gens (leaf-one v)
 
   leaf-made : (v : ℕ) → LeafBalance t (leafMade t v)
   leaf-made v y = omega (arith, accepted (leafMade t v) (on y (leafMade t v .id)) (leaf-made-no t v), leaf-balance v y)
@@ -234,72 +200,36 @@ module _ (n tallest : ℕ) (t : Tables) (m : n ≤ 8) (w : WellFormed n tallest 
   placings = placing (t .arena) (t .find) ks (t .nodes) [] (omega arith) (wf-inv n tallest t m w)
       (λ y z o. (kid-lives y z o, affords (W t) ks (fine .held) y z o))
 
-  placed-word : (b f : ℕ) → f < holds → wordOf (placed (t .nodes) ks) b f ≡ W t b f
+  abbrev put : Tables
+  put = tablesOf (t .arena) (placed (t .nodes) ks) (t .find)
+
+  placed-word : (b f : ℕ) → f < holds → W put b f ≡ W t b f
   placed-word b f l = placings .eased .words b f (omega arith) (omega arith) (omega arith)
 
   module _ (room : t .arena .live + 1 < cap t) where
-    abbrev place : ℕ
-    place = freshSlot (t .arena)
-
-    abbrev called : ℕ
-    called = branchId ks place (generationOf (W t place own))
-
-    called-slot : slot called ≡ place
-    called-slot = let l = spot-small n tallest t m w room in branch-slot ks place (generationOf (W t place own)) (omega arith)
-
-    called-high : floor ≤ called
-    called-high =
-        let l = spot-small n tallest t m w room in
-        let g = generationOf (W t place own) in
-        let h = id-floor ks place g l in
-        subst (λ (x : ℕ). floor ≤ x) (id-branch ks place g (fine .some)) h
+    branch-one : Fresh put (branchMade n t ks .after) (branchMade n t ks .id) ks (valueFor n (W t) ks) 1 0
+    unfolding branchMade
+    branch-one =
+        subst (λ (v : ℕ). Fresh put (branchAnew n put ks 1 0 .after) (branchAnew n put ks 1 0 .id) ks v 1 0)
+        (value-same n (W t) (W put) ks (λ b. placed-word b value (omega arith))) (branch-new n put ks e (fine .some) (placings .inv) room 1 0)
 
     pub branch-grew : Grew t (branchMade n t ks .after)
-    unfolding branchMade
-    branch-grew =
-        let f = spot-free n tallest t m w room in
-        new-grew t (placed (t .nodes) ks) (slotGiven (t .arena) (W t)) (named t ks (valueFor n (W t) ks) place) ks place called (valueFor n (W t) ks) (heightFor n (W t) ks) e
-        (given-cap t) (f .1) (f .2)
-        (within-size (t .nodes) (placed (t .nodes) ks) place (placings .eased .size) (sized-within t place (w .sized) (f .1))) placed-word
+    branch-grew = new-grew t put (branchMade n t ks .after) (branchMade n t ks .id) ks (valueFor n (W t) ks) e refl placed-word branch-one
 
     branch-balance : (y : ℕ) → holdsOn (branchMade n t ks .after) y + used y ≡ holdsOn t y + on y (branchMade n t ks .id)
-    unfolding branchMade
     branch-balance y =
-        let f = spot-free n tallest t m w room in
-        new-balance t (placed (t .nodes) ks) (slotGiven (t .arena) (W t)) (named t ks (valueFor n (W t) ks) place) ks place called (valueFor n (W t) ks) (heightFor n (W t) ks) e
-        (given-cap t) (f .1) (f .2)
-        (within-size (t .nodes) (placed (t .nodes) ks) place (placings .eased .size) (sized-within t place (w .sized) (f .1))) placed-word
-        called-slot called-high y (used y)
+        new-balance t put (branchMade n t ks .after) (branchMade n t ks .id) ks (valueFor n (W t) ks) e refl placed-word branch-one y (used y)
         (λ v. let h = kid-held y v in omega (arith, used-live y v, placed-holds ks (t .nodes) y (live-nonzero v) (apart y v)))
         (used-dead y)
 
     pub branch-adds : (y : ℕ) → Lives (branchMade n t ks .after) y → (y ≡ branchMade n t ks .id) ⊎ Lives t y
-    unfolding branchMade
-    branch-adds y l =
-        let f = spot-free n tallest t m w room in
-        new-only t (placed (t .nodes) ks) (slotGiven (t .arena) (W t)) (named t ks (valueFor n (W t) ks) place) ks place called (valueFor n (W t) ks) (heightFor n (W t) ks) e
-        (given-cap t) (f .1) (f .2)
-        (within-size (t .nodes) (placed (t .nodes) ks) place (placings .eased .size) (sized-within t place (w .sized) (f .1))) placed-word
-        called-slot y l
+    branch-adds = new-only t put (branchMade n t ks .after) (branchMade n t ks .id) ks (valueFor n (W t) ks) e refl placed-word branch-one
 
     pub branch-has : Has (branchMade n t ks .after) (branchMade n t ks .id) ks (valueFor n (W t) ks) × (Lives t (branchMade n t ks .id) → ⊥)
-    unfolding branchMade
-    branch-has =
-        let f = spot-free n tallest t m w room in
-        new-has t (placed (t .nodes) ks) (slotGiven (t .arena) (W t)) (named t ks (valueFor n (W t) ks) place) ks place called (valueFor n (W t) ks) (heightFor n (W t) ks) e
-        (given-cap t) (f .1) (f .2)
-        (within-size (t .nodes) (placed (t .nodes) ks) place (placings .eased .size) (sized-within t place (w .sized) (f .1))) placed-word
-        called-slot called-high
+    branch-has = new-has t put (branchMade n t ks .after) (branchMade n t ks .id) ks (valueFor n (W t) ks) e refl placed-word branch-one
 
     pub branch-gens : (b : ℕ) → generationOf (W (branchMade n t ks .after) b own) ≡ generationOf (W t b own)
-    unfolding branchMade
-    branch-gens b =
-        let f = spot-free n tallest t m w room in
-        let l = spot-small n tallest t m w room in
-        new-gens t (placed (t .nodes) ks) (slotGiven (t .arena) (W t)) (named t ks (valueFor n (W t) ks) place) ks place called (valueFor n (W t) ks) (heightFor n (W t) ks) e
-        (given-cap t) (f .1) (f .2)
-        (within-size (t .nodes) (placed (t .nodes) ks) place (placings .eased .size) (sized-within t place (w .sized) (f .1))) placed-word
-        (branch-gen ks place (generationOf (W t place own)) (omega arith) (gen-small (W t place own))) b
+    branch-gens = new-gens t put (branchMade n t ks .after) (branchMade n t ks .id) ks (valueFor n (W t) ks) e refl placed-word branch-one
 
     branch-made : BranchBalance ks t (branchMade n t ks)
     branch-made y =

@@ -1,14 +1,13 @@
 -- The holds of every node, and what lives on.
-use mathlib.Core.Path.{_≡_, refl, sym, ap, _∙_, subst}
+use mathlib.Core.Path.{_≡_, refl, sym, ap, _∙_}
 use mathlib.Core.Logic.{_≢_}
 use mathlib.Core.Bool.{true, true≢false}
-use Prim.Native.Nat.{ℕ, _+_, _≤_, _<_}
+use Prim.Native.Nat.{ℕ, _+_}
 use native.Mathlib.Decide.{ℕ-discrete}
 use native.Mathlib.Omega.{arith}
 use borrow.Author.Tests.{eq-eqb, ne-eqb, lt-ltb, le-leb}
 use Rattle.nodes.specs.Tally.{same}
 use Rattle.nodes.specs.Words.{own, holds, slot, floor}
-use Rattle.nodes.proofs.Counts.{floor-pos}
 use Rattle.nodes.proofs.Sums.{cases, split, same-refl, same-diff}
 use Rattle.arena.specs.Calls.{Out, liveOf}
 use Rattle.arena.specs.Tables.{Tables, cap, W}
@@ -72,24 +71,3 @@ counted-holds t u e y g k o live dead =
     by-life t y
     (λ v. let h = live v in omega (arith, holds-live t y v, holds-live u y (still-live t u e y o v)))
     (λ d. let h = dead d in omega (arith, holds-dead t y d, holds-dead u y (λ v. d (was-live t u e y o v))))
-
--- a node is made in the dead slot s, with one hold: k taken
-pub made-holds : (t u : Tables) → cap u ≡ cap t → (s id y k : ℕ) → s < cap t → W t s own < floor → W u s own ≡ id → slot id ≡ s → floor ≤ id → W u s holds ≡ 1
-    → (slot y ≢ s → W u (slot y) own ≡ W t (slot y) own) → (slot y ≢ s → Lives t y → W u (slot y) holds + k ≡ W t (slot y) holds) → ((Lives t y → ⊥) → k ≡ 0)
-    → holdsOn u y + k ≡ holdsOn t y + on y id
-made-holds t u e s id y k low dead own-is slot-is high one owns live none =
-    cases (ℕ-discrete (slot y) s)
-    (λ q.
-    let d : Lives t y → ⊥ = (λ v. let a : W t (slot y) own < floor = subst (λ (z : ℕ). W t z own < floor) (sym q) dead in let b = v .is in let c = v .high in omega arith) in
-    let z = none d in
-    let h : W u (slot y) holds ≡ 1 = ap (λ (z : ℕ). W u z holds) q ∙ one in
-    let o : W u (slot y) own ≡ id = ap (λ (z : ℕ). W u z own) q ∙ own-is in
-    cases (ℕ-discrete y id)
-    (λ p. omega (arith, holds-dead t y d, holds-live u y (record { low = omega arith; is = o ∙ sym p; high = omega arith }), on-same y id nonzero p))
-    (λ p. omega (arith, holds-dead t y d, holds-dead u y (λ v. p (sym (v .is) ∙ o)), on-diff y id p)))
-    (λ q.
-    let p = on-diff y id (λ r. q (ap slot r ∙ slot-is)) in
-    counted-holds t u e y (on y id) k (owns q) (λ v. let h = live q v in omega arith) (λ d. let h = none d in omega arith))
-  where
-    nonzero : id ≢ 0
-    nonzero z = let p = floor-pos in omega arith

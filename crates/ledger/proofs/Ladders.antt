@@ -10,17 +10,17 @@ use lib.ListN.{length}
 use borrow.Author.Tests.{eq-eqb, ne-eqb, leb-true, leb-false}
 use Rattle.nodes.specs.Words.{own, holds, slot}
 use Rattle.nodes.proofs.Sums.{cases, split}
-use Rattle.arena.specs.Calls.{Out, said, did, refused, fits, fitOf, liveOf, fullOf, roomOf, heldAt, leafSlot, internLeafNo, leafMade, internLeafOf, takes, releaseNo, releaseOf, holdNo, holdOf, fresh, freshOf, allLive, enough, noneOf, branchSlot, internBranchNo, unheld, branchMade, internBranchOf}
+use Rattle.arena.specs.Calls.{Out, said, did, refused, fits, fitOf, liveOf, fullOf, roomOf, heldAt, freshNode, leafAnew, branchAnew, leafSlot, internLeafNo, leafMade, internLeafOf, takes, releaseNo, releaseOf, holdNo, holdOf, fresh, freshOf, allLive, enough, noneOf, branchSlot, internBranchNo, unheld, branchMade, internBranchOf}
 use Rattle.arena.specs.Node.{heightFor}
 use Rattle.arena.specs.Tables.{Tables, tables, tablesOf, cap, W}
 
 -- a node made is an acceptance
 pub leaf-made-no : (t : Tables) (v : ℕ) → leafMade t v .no ≡ 0
-unfolding leafMade
+unfolding leafMade leafAnew freshNode
 leaf-made-no t v = refl
 
 pub branch-made-no : (n : ℕ) (t : Tables) (ks : List ℕ) → branchMade n t ks .no ≡ 0
-unfolding branchMade
+unfolding branchMade branchAnew freshNode
 branch-made-no n t ks = refl
 
 -- ---- the ways

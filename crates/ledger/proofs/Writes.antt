@@ -5,23 +5,22 @@ use mathlib.Core.List.{List, [], _∷_}
 use Prim.Native.Nat.{ℕ, suc, _+_, _-_, _≤_, _<_}
 use native.Mathlib.Decide.{ℕ-discrete}
 use native.Mathlib.Omega.{arith}
-use lib.ListN.{length, getD}
+use lib.ListN.{length}
 use borrow.Author.Tests.{eq-eqb, ne-eqb}
 use Rattle.ids.specs.Ids.{generationOf}
-use Rattle.nodes.specs.Tally.{occ, kidsOf}
-use Rattle.nodes.specs.Words.{Nodes, own, value, holds, places, slot, floor, wordOf, putOf, written}
-use Rattle.nodes.proofs.Access.{Within, put-same, put-slot, put-field, put-keeps, put-less, written-others, written-kid, written-fact}
-use Rattle.nodes.proofs.Counts.{Others, live-inj, live-nonzero}
+use Rattle.nodes.specs.Tally.{occ, Live}
+use Rattle.nodes.specs.Words.{Nodes, own, holds, places, slot, floor, wordOf, putOf}
+use Rattle.nodes.proofs.Access.{Within, put-same, put-slot, put-field, put-keeps, put-less}
+use Rattle.nodes.proofs.Counts.{live-inj, live-nonzero}
 use Rattle.nodes.proofs.Sums.{cases, occ-nil, occ-cons, occ-here, occ-there}
 use Rattle.find.proofs.Contents.{kids-are}
-use Rattle.arena.specs.Calls.{heldAt, freshFacts, each, unheldKid, placedKid, unheld, placed, slotGiven}
-use Rattle.arena.specs.Tables.{Tables, tablesOf, cap, W, Sized}
-use Rattle.arena.specs.declared.Arena.{Arena}
+use Rattle.arena.specs.Calls.{heldAt, each, unheldKid, placedKid, unheld, placed}
+use Rattle.arena.specs.Tables.{Tables, cap, W, Sized}
+use Rattle.arena.proofs.Fresh.{Fresh, fresh-gens}
 use Rattle.arena.proofs.Inv.{sized-within}
-use Rattle.arena.proofs.Rows.{fresh-length}
 use Rattle.ledger.specs.Ledger.{on, holdsOn}
 use Rattle.ledger.specs.Fates.{Lives, Grew, Has}
-use Rattle.ledger.proofs.Effects.{on-same, on-diff, counted-holds, made-holds, still-live, was-live}
+use Rattle.ledger.proofs.Effects.{on-same, on-diff, holds-live, holds-dead, counted-holds, still-live, was-live}
 
 -- ---- one hold more
 
@@ -125,46 +124,27 @@ module _ (ks : List ℕ) (l : Nodes) (y : ℕ) (d : y ≢ 0) (apart : (k : ℕ) 
       (λ x s. put-field (lessN x s) s places (wordOf x s places + 1) holds (omega arith) ∙ put-less x s holds (omega arith) (omega arith))
       (λ x s b q. put-slot (lessN x s) s places (wordOf x s places + 1) b holds q ∙ put-slot x s holds (wordOf x s holds - 1) b holds q) ks l y d apart
 
--- ---- a fresh node with one hold, in the dead slot s
+-- ---- a fresh node with one hold
 
-pub given-cap : (t : Tables) → slotGiven (t .arena) (W t) .capacity ≡ cap t
-unfolding slotGiven
-given-cap t = refl
+-- p is t but for the counts, and u has the node of id besides
+module _ (t p u : Tables) (id : ℕ) (ks : List ℕ) (v : ℕ) (eight : length ks ≡ 8) (size : cap p ≡ cap t) (words : (b f : ℕ) → f < holds → W p b f ≡ W t b f)
+    (new : Fresh p u id ks v 1 0) where
+  caps : cap u ≡ cap t
+  caps = new .caps ∙ size
 
-module _ (t : Tables) (p : Nodes) (a : Arena) (g ks : List ℕ) (s id v up : ℕ) (eight : length ks ≡ 8) (caps : a .capacity ≡ cap t) (low : s < cap t) (dead : W t s own < floor)
-    (within : Within p s) (words : (b f : ℕ) → f < holds → wordOf p b f ≡ W t b f) where
-  abbrev u : Tables
-  u = tablesOf a (written p s ks (freshFacts id v up 1 0)) g
+  new-lives : Lives u id
+  new-lives = subst (λ (c : ℕ). Live c (W u) id) (sym (new .caps)) (new .live)
 
-  seven : length (freshFacts id v up 1 0) ≡ 7
-  seven = fresh-length id v up 1 0
+  away : (y : ℕ) → Lives t y → slot y ≢ slot id
+  away y l q =
+      let b : W p (slot y) own < floor = subst (λ (z : ℕ). W p z own < floor) (sym q) (new .dead) in
+      let o = words (slot y) own (omega arith) in
+      let i = l .is in
+      let h = l .high in
+      omega arith
 
-  pub new-others : Others s (wordOf p) (W u)
-  new-others = written-others p s ks (freshFacts id v up 1 0) eight seven
-
-  new-fact : (i : ℕ) → i < 7 → W u s (own + i) ≡ getD (freshFacts id v up 1 0) i 0
-  new-fact = written-fact p s ks (freshFacts id v up 1 0) eight seven within
-
-  pub new-kids : kidsOf 8 (W u) s ≡ ks
-  new-kids = kids-are (W u) s ks eight (written-kid p s ks (freshFacts id v up 1 0) eight seven within)
-
-  pub new-own : W u s own ≡ id
-  unfolding freshFacts
-  new-own = new-fact 0 (omega arith)
-
-  pub new-value : W u s value ≡ v
-  unfolding freshFacts
-  new-value = new-fact 1 (omega arith)
-
-  pub new-holds : W u s holds ≡ 1
-  unfolding freshFacts
-  new-holds = new-fact 3 (omega arith)
-
-  away : (y : ℕ) → Lives t y → slot y ≢ s
-  away y l q = let b : W t (slot y) own < floor = subst (λ (z : ℕ). W t z own < floor) (sym q) dead in let i = l .is in let h = l .high in omega arith
-
-  pub new-word : (b f : ℕ) → b ≢ s → f < holds → W u b f ≡ W t b f
-  new-word b f q l = new-others b f q (omega arith) ∙ words b f l
+  new-word : (b f : ℕ) → b ≢ slot id → f < holds → W u b f ≡ W t b f
+  new-word b f q l = new .others b f q (omega arith) ∙ words b f l
 
   pub new-grew : Grew t u
   new-grew = record {
@@ -173,29 +153,29 @@ module _ (t : Tables) (p : Nodes) (a : Arena) (g ks : List ℕ) (s id v up : ℕ
   }
 
   -- the only new one
-  pub new-only : slot id ≡ s → (y : ℕ) → Lives u y → (y ≡ id) ⊎ Lives t y
-  new-only i y l = cases (ℕ-discrete (slot y) s)
-      (λ q. inl (sym (l .is) ∙ ap (λ (z : ℕ). W u z own) q ∙ new-own))
+  pub new-only : (y : ℕ) → Lives u y → (y ≡ id) ⊎ Lives t y
+  new-only y l = cases (ℕ-discrete (slot y) (slot id))
+      (λ q. inl (live-inj l new-lives q))
       (λ q. inr (was-live t u caps y (new-word (slot y) own q (omega arith)) l))
 
   -- it has the content asked for, and was not there before
-  pub new-has : slot id ≡ s → floor ≤ id → Has u id ks v × (Lives t id → ⊥)
-  new-has i h = (
-    record {
-      live = record { low = omega arith; is = ap (λ (z : ℕ). W u z own) i ∙ new-own; high = h };
-      kids = ap (kidsOf 8 (W u)) i ∙ new-kids;
-      worth = ap (λ (z : ℕ). W u z value) i ∙ new-value;
-    },
-    (λ l. away id l i),
-  )
+  pub new-has : Has u id ks v × (Lives t id → ⊥)
+  new-has = (record { live = new-lives; kids = kids-are (W u) (slot id) ks eight (new .kid); worth = new .worth }, (λ l. away id l refl))
 
   -- its slot keeps its generation, and so do all others
-  pub new-gens : generationOf id ≡ generationOf (W t s own) → (b : ℕ) → generationOf (W u b own) ≡ generationOf (W t b own)
-  new-gens g b = cases (ℕ-discrete b s)
-      (λ (q : b ≡ s). subst (λ (z : ℕ). generationOf (W u z own) ≡ generationOf (W t z own)) (sym q) (ap generationOf new-own ∙ g))
-      (λ q. ap generationOf (new-word b own q (omega arith)))
+  pub new-gens : (b : ℕ) → generationOf (W u b own) ≡ generationOf (W t b own)
+  new-gens b = fresh-gens new b ∙ ap generationOf (words b own (omega arith))
 
-  pub new-balance : slot id ≡ s → floor ≤ id → (y k : ℕ) → (Lives t y → wordOf p (slot y) holds + k ≡ W t (slot y) holds) → ((Lives t y → ⊥) → k ≡ 0) → holdsOn u y + k ≡ holdsOn t y + on y id
-  new-balance i h y k live none =
-      made-holds t u caps s id y k low dead new-own i h new-holds (λ q. new-word (slot y) own q (omega arith))
-      (λ q l. let x = live l in let z = new-others (slot y) holds q (omega arith) in omega arith) none
+  -- k holds on y are taken
+  pub new-balance : (y k : ℕ) → (Lives t y → W p (slot y) holds + k ≡ W t (slot y) holds) → ((Lives t y → ⊥) → k ≡ 0) → holdsOn u y + k ≡ holdsOn t y + on y id
+  new-balance y k live none = cases (ℕ-discrete (slot y) (slot id))
+      (λ q.
+      let d : Lives t y → ⊥ = (λ l. away y l q) in
+      let z = none d in
+      cases (ℕ-discrete y id)
+      (λ (e : y ≡ id). omega (arith, holds-dead t y d, holds-live u y (subst (λ (x : ℕ). Lives u x) (sym e) new-lives), ap (λ (b : ℕ). W u b holds) q ∙ new .held, on-same y id (live-nonzero new-lives) e))
+      (λ e. omega (arith, holds-dead t y d, holds-dead u y (λ l. e (live-inj l new-lives q)), on-diff y id e)))
+      (λ q.
+      let e = on-diff y id (λ r. q (ap slot r)) in
+      let o = new .others (slot y) holds q (omega arith) in
+      counted-holds t u caps y (on y id) k (new-word (slot y) own q (omega arith)) (λ l. let h = live l in omega arith) (λ d. let h = none d in omega arith))

@@ -1,7 +1,7 @@
 use Rattle.basics.proofs.Rungs.{rungs}
 use Rattle.arena.specs.Calls.{freshSlot}
-use Rattle.new_slot.proofs.fresh_slot.Statement.{statement}
-use Rattle.new_slot.proofs.fresh_slot.Tie as tie
+use Rattle.new_node.proofs.fresh_slot.Statement.{statement}
+use Rattle.new_node.proofs.fresh_slot.Tie as tie
 
 pub fresh-slot-spec : {M : Type 1} → statement M
 unfolding freshSlot

@@ -5,10 +5,10 @@ use mathlib.Core.List.{List}
 use lib.Dec.{eqb}
 use lib.ListN.{length, getD}
 use borrow.Author.Tests.{eq-eqb, ne-eqb}
-use Rattle.find_remove.proofs.number_from.Tie as tie
+use Rattle.find.proofs.number_from.Tie as tie
 use Rattle.find.specs.Cells.{probe}
 use Rattle.find.proofs.Steps.{stops-empty, stops-same, stops-not, probe-end, probe-here, probe-on}
-use Rattle.find_remove.proofs.number_from.Statement.{statement}
+use Rattle.find.proofs.number_from.Statement.{statement}
 
 module _ (s : ℕ) (t : List ℕ) (h i : ℕ) (e : probe (eqb s) t h ≡ probe (eqb s) t i) where
   on : (x : ℕ) → i < length t → x ≡ getD t i 0 → (x ≡ 0 → ⊥) → (s ≡ x → ⊥) → probe (eqb s) t h ≡ probe (eqb s) t (i + 1)

@@ -7,8 +7,8 @@ use Rattle.nodes.specs.Words.{factOf, link}
 use Rattle.arena.specs.Models.{givenOut, moreOf}
 use Rattle.arena.specs.declared.Arena.{Arena}
 use Rattle.arena.proofs.Outs.{arena-path}
-use Rattle.new_slot.proofs.give.Statement.{statement}
-use Rattle.new_slot.proofs.give.Tie as tie
+use Rattle.new_node.proofs.give.Statement.{statement}
+use Rattle.new_node.proofs.give.Tie as tie
 
 module _ (a : Arena) (f : List ℕ) (l : ℕ) (el : l ≡ moreOf (a .live)) where
   up : (x : ℕ) → a .top ≡ 0 → x ≡ moreOf (a .next) → _≡_ {A = Arena} (record { capacity = a .capacity; next = x; top = 0; live = l }) (givenOut a (factOf f))
