@@ -13,7 +13,8 @@ use lib.Signed.{ltZ, nonNeg, mag}
 use mir.Syntax.{w32}
 use mir.Val.{SFits, Fits, toZ, ofZ}
 use mir.ValLaws.{toZ-ofZ}
-use Rattle.paths.specs.Paths.{low10, inside, whole, coordOf}
+use Rattle.paths.specs.declared.IVec3.{IVec3}
+use Rattle.paths.specs.Paths.{low10, inside, whole, coordOf, cell, toCell}
 
 -- A coordinate as its 32 bits are read back.
 abbrev pub back : ℤ → ℤ
@@ -108,3 +109,12 @@ module _ (x : ℤ) (f : SFits w32 x) where
     inside-plain d m l e =
         let q : 2 ^ d < 2 ^ 32 = lt-of-le-of-lt (pow-mono l) (lit< tt) in
         rw (one-mul (2 ^ d), mod-eq-of-lt q, e, back-is) (sym (ap (inside d) is-plain))
+
+-- the cell at a position, its coordinates read from their bits
+pub cell-is : (p : IVec3) (d x y z : ℕ) → mag (p .x) < 2 ^ 31 → mag (p .y) < 2 ^ 31 → mag (p .z) < 2 ^ 31
+    → x ≡ coordOf (back (p .x)) → y ≡ coordOf (back (p .y)) → z ≡ coordOf (back (p .z)) → cell d x y z ≡ toCell p d
+cell-is p d x y z hx hy hz ex ey ez =
+    let i = back-is (p .x) (record { sfits = hx }) in
+    let j = back-is (p .y) (record { sfits = hy }) in
+    let k = back-is (p .z) (record { sfits = hz }) in
+    rw (ex, ey, ez, i, j, k)

@@ -7,6 +7,7 @@ use Rattle.basics.specs.Limits.{deepest}
 use Rattle.basics.specs.Pick.{pick}
 use Rattle.basics.specs.Bits.{bit}
 use Rattle.paths.specs.declared.IVec3.{IVec3}
+use Rattle.paths.specs.declared.Cell.{Cell}
 use Rattle.paths.specs.declared.ChildIndex.{ChildIndex}
 use Rattle.paths.specs.declared.Decoded.{Decoded}
 
@@ -62,6 +63,13 @@ whole (negsuc n) = 0
 unfoldable pub coordOf : ℤ → ℕ
 coordOf (pos n) = n
 coordOf (negsuc n) = 2 ^ 32 - 1
+
+-- The cell (x, y, z) of the cube of depth d, and the one at a position.
+abbrev pub cell : ℕ → ℕ → ℕ → ℕ → Cell
+cell d x y z = record { x = x; y = y; z = z; depth = d }
+
+abbrev pub toCell : IVec3 → ℕ → Cell
+toCell p d = cell d (coordOf (p .x)) (coordOf (p .y)) (coordOf (p .z))
 
 -- the lowest number that applies
 unfoldable pub childNo : IVec3 → ℕ → ℕ → ℕ

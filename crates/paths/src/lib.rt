@@ -3,7 +3,7 @@ use basics::DEEPEST;
 ghost use mathlib.Core.Path.{_≡_};
 ghost use Prim.Native.Nat.{_^_, _<_, _≤_};
 ghost use lib.Signed.{mag};
-ghost use Rattle.paths.specs.Paths.{low10, interleave, pathOf, gather as gatherOf, decodedOf, inside, whole as wholeOf, coordOf, octant as octantOf, childNo, childIndexOf};
+ghost use Rattle.paths.specs.Paths.{low10, interleave, pathOf, gather as gatherOf, decodedOf, inside, whole as wholeOf, coordOf, toCell, octant as octantOf, childNo, childIndexOf};
 
 const MASK_10_BITS: u32 = 0x3FF;
 
@@ -21,6 +21,14 @@ pub struct IVec3 {
     pub x: i32,
     pub y: i32,
     pub z: i32,
+}
+
+// A cell of the cube of a depth, its coordinates as numbers.
+pub struct Cell {
+    pub x: u32,
+    pub y: u32,
+    pub z: u32,
+    pub depth: u32,
 }
 
 // The number of a child, 0 to 7, or the refusal.
@@ -122,13 +130,25 @@ fn whole(x: i32) -> u32
 }
 
 // A coordinate as a number; one below 0 becomes 2^32 - 1, which no cube has.
-pub fn coord(x: i32) -> u32
+fn coord(x: i32) -> u32
     ensures { λ r. ⌜ r ≡ coordOf x ⌝ }
 {
     if x < 0 {
         return 0xFFFF_FFFF;
     }
     magnitude(x)
+}
+
+// The cell at a position of the cube of the depth; a position outside it becomes a cell outside it.
+pub fn to_cell(position: IVec3, depth: u32) -> Cell
+    ensures { λ r. ⌜ r ≡ toCell position depth ⌝ }
+{
+    Cell {
+        x: coord(position.x),
+        y: coord(position.y),
+        z: coord(position.z),
+        depth: depth,
+    }
 }
 
 // A coordinate is neither below 0 nor at least 2^d.

@@ -11,18 +11,16 @@ use lib.Bits.{bitOr, or-lt, or-add-and, and-le-l, and-le-r}
 use lib.Dec.{ltb, leb, eqb}
 use lib.IntN.{ℤ, pos, negsuc}
 use lib.Pow.{pow-mono}
-use lib.Signed.{mag}
-use mir.Syntax.{w32}
-use mir.ValLaws.{toZ-ofZ}
 use Rattle.basics.specs.Pick.{pick}
 use Rattle.basics.proofs.Rungs.{pick-yes, rung-yes, rung-no, via-yes, via-no, rungs, eq-via, ne-via, past-yes}
 use Rattle.nodes.specs.Words.{Words, nodes, own, kidOf, factOf, wordOf, slot, floor}
 use Rattle.nodes.proofs.Access.{word-fact}
+use Rattle.nodes.proofs.Sums.{cases}
+use Rattle.paths.specs.declared.Cell.{Cell}
 use Rattle.paths.specs.declared.IVec3.{IVec3}
-use Rattle.paths.specs.Paths.{coordOf, inside, whole}
-use Rattle.paths.proofs.Coords.{back}
+use Rattle.paths.specs.Paths.{coordOf, inside, whole, cell, toCell}
 use Rattle.nodes.specs.Values.{valueAt}
-use Rattle.tree.specs.Cells.{cubePath}
+use Rattle.tree.specs.Cells.{pathTo}
 use Rattle.arena.specs.declared.Arena.{Arena}
 use Rattle.arena.specs.Tables.{tables}
 use Rattle.arena.specs.Calls.{fits, liveOf, liveOrEmpty}
@@ -30,7 +28,7 @@ use Rattle.read_cell.specs.declared.End.{End}
 use Rattle.read_cell.specs.declared.Looked.{Looked}
 use Rattle.read_cell.specs.Reading.{descent, endOf, cellOf}
 use Rattle.read_cell.specs.Calls.{lookNo, looked, lookOf}
-use Rattle.read_cell.specs.Models.{val, lookNoAt, lookAt}
+use Rattle.read_cell.specs.Models.{val, within, lookNoAt, lookAt}
 use Rattle.read_cell.proofs.Ends.{look-descent, end-kids, val-facts}
 
 -- ---- sides
@@ -113,68 +111,54 @@ module _ (a : Arena) (ks fs es : List ℕ) (id : ℕ) where
 -- for a ladder whose tests are flags of callees, or orders
 pub ruleset climb = (via-yes, via-no, rung-yes, rung-no, le-leb, lt-leb, all-inside, one-outside, there-facts)
 
-module _ (a : Arena) (ks fs es : List ℕ) (id d : ℕ) where
+module _ (a : Arena) (ks fs es : List ℕ) (id : ℕ) where
   -- ---- lookup
 
-  pub look-refused : (x y z k : ℕ) → k ≡ lookNoAt (tables a ks fs es) id d x y z → (k ≡ 0 → ⊥) → looked k 0 ≡ lookAt (tables a ks fs es) id d x y z
+  pub look-refused : (c : Cell) (k : ℕ) → k ≡ lookNoAt (tables a ks fs es) id c → (k ≡ 0 → ⊥) → looked k 0 ≡ lookAt (tables a ks fs es) id c
   unfolding lookAt
-  look-refused x y z k e h = rung-no _ _ _ _ (ne-via k _ 0 e h) (λ i. looked (e i) 0)
+  look-refused c k e h = rung-no _ _ _ _ (ne-via k _ 0 e h) (λ i. looked (e i) 0)
 
-  pub look-done : (x y z k r : ℕ) (t : End) → k ≡ lookNoAt (tables a ks fs es) id d x y z → k ≡ 0 → t ≡ endOf (kidOf ks) id d x y z
-      → r ≡ val (factOf fs) (t .id .0) → looked 0 r ≡ lookAt (tables a ks fs es) id d x y z
+  pub look-done : (c : Cell) (k r : ℕ) (t : End) → k ≡ lookNoAt (tables a ks fs es) id c → k ≡ 0 → t ≡ endOf (kidOf ks) id c
+      → r ≡ val (factOf fs) (t .id .0) → looked 0 r ≡ lookAt (tables a ks fs es) id c
   unfolding lookAt lookNoAt val endOf
-  look-done x y z k r t e h et er =
+  look-done c k r t e h et er =
       let M = wordOf (nodes ks fs) in
-      let inner : ℕ = pick (ltb x (2 ^ d)) (pick (ltb y (2 ^ d)) (pick (ltb z (2 ^ d)) (pick (liveOrEmpty (a .capacity) (wordOf (nodes ks fs)) id) 0 4) 3) 3) 3 in
-      let l : d ≤ 6 = ladder-deep (fits (tables a ks fs es)) d inner (sym e ∙ h) .0 in
-      let q : t ≡ descent M 0 (cubePath d x y z) id = et ∙ end-kids ks fs id d x y z ∙ pick-yes _ _ _ (le-leb d 6 l) in
-      let m : r ≡ cellOf M d id x y z =
+      let four : ℕ = pick (liveOrEmpty (a .capacity) (wordOf (nodes ks fs)) id) 0 4 in
+      let l : c .depth ≤ 6 = ladder-deep (fits (tables a ks fs es)) (c .depth) (within c four) (sym e ∙ h) .0 in
+      let q : t ≡ descent M 0 (pathTo c) id = et ∙ end-kids ks fs id c ∙ pick-yes _ _ _ (le-leb (c .depth) 6 l) in
+      let m : r ≡ cellOf M (c .depth) id (c .x) (c .y) (c .z) =
       er ∙ val-facts ks fs (t .id .0) ∙ ap (λ (i : End). valueAt M (i .id .0) % 2 ^ 16) q
-      ∙ ap (λ (i : ℕ). i % 2 ^ 16) (sym (look-descent M 0 (cubePath d x y z) id)) in
+      ∙ ap (λ (i : ℕ). i % 2 ^ 16) (sym (look-descent M 0 (pathTo c) id)) in
       rung-yes _ _ _ _ (eq-via k _ 0 e h) (λ i. looked 0 (m i))
 
-  -- the number is the same, of coordinates and of what the code makes of them ..
-  pub look-no-same : (p : IVec3) → lookNoAt (tables a ks fs es) id d (coordOf (p .x)) (coordOf (p .y)) (coordOf (p .z)) ≡ lookNo (tables a ks fs es) id d p
-  unfolding lookNoAt lookNo
-  look-no-same p = go (decLe d 6)
-    where
-      go : Dec (d ≤ 6) → lookNoAt (tables a ks fs es) id d (coordOf (p .x)) (coordOf (p .y)) (coordOf (p .z)) ≡ lookNo (tables a ks fs es) id d p
-      go (yes h) = rw (coord-inside d (p .x) h, coord-inside d (p .y) h, coord-inside d (p .z) h)
-      go (no h) = rw (lt-leb d 6 (omega (arith, h)))
+  module _ (d : ℕ) (p : IVec3) where
+    -- the number is the same, of coordinates and of what the code makes of them ..
+    pub look-no-same : lookNoAt (tables a ks fs es) id (toCell p d) ≡ lookNo (tables a ks fs es) id d p
+    unfolding lookNoAt lookNo
+    look-no-same = cases (decLe d 6)
+        (λ h. rw (coord-inside d (p .x) h, coord-inside d (p .y) h, coord-inside d (p .z) h))
+        (λ h. rw (lt-leb d 6 (omega (arith, h))))
 
-  -- .. and where none is refused so are the coordinates
-  pub look-inside : (p : IVec3) → lookNo (tables a ks fs es) id d p ≡ 0 → (inside d (p .x) ≡ true) × (inside d (p .y) ≡ true) × (inside d (p .z) ≡ true)
-  unfolding lookNo
-  look-inside p e =
-      let four : ℕ = pick (liveOrEmpty (a .capacity) (wordOf (nodes ks fs)) id) 0 4 in
-      let q = ladder-deep (fits (tables a ks fs es)) d (pick (inside d (p .x)) (pick (inside d (p .y)) (pick (inside d (p .z)) four 3) 3) 3) e .1 in
-      let x = past-yes (inside d (p .x)) (pick (inside d (p .y)) (pick (inside d (p .z)) four 3) 3) 3 0 (omega arith) q in
-      let y = past-yes (inside d (p .y)) (pick (inside d (p .z)) four 3) 3 0 (omega arith) (x .1) in
-      let z = past-yes (inside d (p .z)) four 3 0 (omega arith) (y .1) in
-      (x .0, y .0, z .0)
+    -- .. and where none is refused so are the coordinates
+    pub look-inside : lookNo (tables a ks fs es) id d p ≡ 0 → (inside d (p .x) ≡ true) × (inside d (p .y) ≡ true) × (inside d (p .z) ≡ true)
+    unfolding lookNo
+    look-inside e =
+        let four : ℕ = pick (liveOrEmpty (a .capacity) (wordOf (nodes ks fs)) id) 0 4 in
+        let q = ladder-deep (fits (tables a ks fs es)) d (pick (inside d (p .x)) (pick (inside d (p .y)) (pick (inside d (p .z)) four 3) 3) 3) e .1 in
+        let x = past-yes (inside d (p .x)) (pick (inside d (p .y)) (pick (inside d (p .z)) four 3) 3) 3 0 (omega arith) q in
+        let y = past-yes (inside d (p .y)) (pick (inside d (p .z)) four 3) 3 0 (omega arith) (x .1) in
+        let z = past-yes (inside d (p .z)) four 3 0 (omega arith) (y .1) in
+        (x .0, y .0, z .0)
 
-  look-same : (p : IVec3) → lookAt (tables a ks fs es) id d (coordOf (p .x)) (coordOf (p .y)) (coordOf (p .z)) ≡ lookOf (tables a ks fs es) id d p
-  unfolding lookAt lookOf
-  look-same p = rw (look-no-same p) (go (ℕ-discrete (lookNo (tables a ks fs es) id d p) 0))
-    where
-      k : ℕ
-      k = lookNo (tables a ks fs es) id d p
+    pub cell-same : lookNo (tables a ks fs es) id d p ≡ 0 → toCell p d ≡ cell d (whole (p .x)) (whole (p .y)) (whole (p .z))
+    cell-same e =
+        let i = look-inside e in
+        rw (coord-is d (p .x) (i .0), coord-is d (p .y) (i .1), coord-is d (p .z) (i .2))
 
-      cell : (x y z : ℤ) → ℕ
-      cell x y z = cellOf (wordOf (nodes ks fs)) d id (coordOf x) (coordOf y) (coordOf z)
-
-      go : Dec (k ≡ 0) → pick (eqb k 0) (looked 0 (cell (p .x) (p .y) (p .z))) (looked k 0)
-          ≡ pick (eqb k 0) (looked 0 (cellOf (wordOf (nodes ks fs)) d id (whole (p .x)) (whole (p .y)) (whole (p .z)))) (looked k 0)
-      go (yes e) =
-          let i = look-inside p e in
-          rw (coord-is d (p .x) (i .0), coord-is d (p .y) (i .1), coord-is d (p .z) (i .2))
-      go (no e) = rw (ne-eqb k 0 e)
-
-  pub look-whole : (p : IVec3) (x y z : ℕ) (r : Looked) → mag (p .x) < 2 ^ 31 → mag (p .y) < 2 ^ 31 → mag (p .z) < 2 ^ 31
-      → x ≡ coordOf (back (p .x)) → y ≡ coordOf (back (p .y)) → z ≡ coordOf (back (p .z))
-      → r ≡ lookAt (tables a ks fs es) id d x y z → r ≡ lookOf (tables a ks fs es) id d p
-  look-whole p x y z r hx hy hz ex ey ez e =
-      let i : x ≡ coordOf (p .x) = ex ∙ ap coordOf (toZ-ofZ w32 (p .x) (record { sfits = hx })) in
-      let j : y ≡ coordOf (p .y) = ey ∙ ap coordOf (toZ-ofZ w32 (p .y) (record { sfits = hy })) in
-      let k : z ≡ coordOf (p .z) = ez ∙ ap coordOf (toZ-ofZ w32 (p .z) (record { sfits = hz })) in
-      e ∙ cc (i, j, k) ∙ look-same p
+    pub look-same : (c : Cell) (r : Looked) → c ≡ toCell p d → r ≡ lookAt (tables a ks fs es) id c → r ≡ lookOf (tables a ks fs es) id d p
+    unfolding lookAt lookOf
+    look-same c r ec er = er ∙ rw (ec, look-no-same) (cases (ℕ-discrete (lookNo (tables a ks fs es) id d p) 0)
+        (λ e.
+        let i = look-inside e in
+        rw (coord-is d (p .x) (i .0), coord-is d (p .y) (i .1), coord-is d (p .z) (i .2)))
+        (λ e. rw (ne-eqb (lookNo (tables a ks fs es) id d p) 0 e)))

@@ -12,6 +12,7 @@ use Rattle.ids.specs.Ids.{invalid}
 use Rattle.nodes.specs.Words.{Words, nodes, value, kidOf, factOf, wordOf, slot}
 use Rattle.nodes.proofs.Access.{word-kid, word-fact}
 use Rattle.nodes.proofs.Sums.{cases}
+use Rattle.paths.specs.declared.Cell as place
 use Rattle.tree.specs.Tree.{Leaf, Branch, Kind, empty, leaf, branch, kind, Cell, here, down, childOf, look}
 use Rattle.nodes.specs.Values.{valueAt}
 use Rattle.tree.proofs.CellLaws.{cube-cell}
@@ -114,6 +115,6 @@ module _ (ks fs : List ℕ) where
   descent-kids k a here = descent-end (kidOf ks) k a ∙ sym (descent-end (wordOf (nodes ks fs)) k a)
   descent-kids k a (down {c = c} {p = p} h t) = kids-step k c p a h (λ b. descent-kids (k + 1) b t)
 
-  pub end-kids : (id d x y z : ℕ) → endOf (kidOf ks) id d x y z ≡ endOf (wordOf (nodes ks fs)) id d x y z
+  pub end-kids : (id : ℕ) (c : place.Cell) → endOf (kidOf ks) id c ≡ endOf (wordOf (nodes ks fs)) id c
   unfolding endOf
-  end-kids id d x y z = ap (λ (e : End). pick (leb d 6) e (ended invalid 0)) (descent-kids 0 id (cube-cell d x y z))
+  end-kids id c = ap (λ (e : End). pick (leb (c .depth) 6) e (ended invalid 0)) (descent-kids 0 id (cube-cell (c .depth) (c .x) (c .y) (c .z)))

@@ -1,6 +1,6 @@
 -- A path in one word: how it is made, and how it is taken apart level by level.
 use Prim.Native.Nat.{ℕ, zero, suc, _+_, _-_, _*_, _/_, _%_, _^_, _≤_, _<_}
-use native.Mathlib.Nat.{mod-lt, pow-succ', lt-of-le-of-lt}
+use native.Mathlib.Nat.{mod-lt, lt-of-le-of-lt}
 use native.Mathlib.Decide.{ℕ-discrete}
 use native.Mathlib.Omega.{arith}
 use mathlib.Core.Path.{_≡_, _∙_, refl, sym, ap}
@@ -12,6 +12,7 @@ use lib.Pow.{shr-shr}
 use Rattle.basics.specs.Pick.{pick}
 use Rattle.basics.proofs.Rungs.{past-yes}
 use Rattle.nodes.proofs.Sums.{cases}
+use Rattle.paths.specs.declared.Cell.{Cell}
 use Rattle.paths.specs.Paths.{octant}
 use Rattle.paths.proofs.Bits.{bit-mod}
 use Rattle.read_cell.specs.Models.{spaced, pathWord}
@@ -48,58 +49,42 @@ spread-lt v = lt-of-le-of-lt (and-le-r v 0x820820820) (omega arith)
 
 -- ---- the word of six levels from the spaced coordinates, and of fewer levels by a shift
 
-word-sum : (n x y z : ℕ) → pathWord n x y z ≡ spaced n x + 2 * spaced n y + 4 * spaced n z + 64 ^ n
+word-sum : (n : ℕ) (c : Cell) → pathWord n c ≡ spaced n (c .x) + 2 * spaced n (c .y) + 4 * spaced n (c .z)
 unfolding pathWord spaced octant
-word-sum zero x y z = refl
-word-sum (suc n) x y z = let e = word-sum n x y z in rw (pow-succ' 64 n) (omega (arith, e))
+word-sum zero c = refl
+word-sum (suc n) c = let e = word-sum n c in omega (arith, e)
 
-module _ (x y z : ℕ) where
-  octant-lt : (n : ℕ) → octant n x y z < 8
+module _ (c : Cell) where
+  octant-lt : (n : ℕ) → octant n (c .x) (c .y) (c .z) < 8
   unfolding octant
   octant-lt n = omega arith
 
-  pub word-rest : (n : ℕ) → pathWord (suc n) x y z / 64 ≡ pathWord n x y z
+  pub word-rest : (n : ℕ) → pathWord (suc n) c / 64 ≡ pathWord n c
   unfolding pathWord
   word-rest n = omega (arith, octant-lt n)
 
-  pub word-first : (n : ℕ) → pathWord (suc n) x y z % 8 ≡ octant n x y z
+  pub word-first : (n : ℕ) → pathWord (suc n) c % 8 ≡ octant n (c .x) (c .y) (c .z)
   unfolding pathWord
   word-first n = omega (arith, octant-lt n)
 
-  -- how many levels are left is seen by the 1
-  word-pos : (n : ℕ) → 0 < pathWord n x y z
-  unfolding pathWord
-  word-pos zero = omega arith
-  word-pos (suc n) = omega (arith, word-pos n)
-
-  pub word-done : (n : ℕ) → pathWord n x y z ≤ 1 → n ≡ 0
-  unfolding pathWord
-  word-done zero h = refl
-  word-done (suc n) h = absurd (omega (arith, word-pos n))
-
-  pub word-more : (n : ℕ) → 1 < pathWord n x y z → (k : ℕ) × (n ≡ suc k)
-  unfolding pathWord
-  word-more zero h = absurd (omega arith)
-  word-more (suc n) h = (n, refl)
-
-  word-drop : (k n : ℕ) → pathWord (k + n) x y z / 2 ^ (6 * k) ≡ pathWord n x y z
+  word-drop : (k n : ℕ) → pathWord (k + n) c / 2 ^ (6 * k) ≡ pathWord n c
   word-drop zero n = let e : 0 + n ≡ n = omega arith in rw e (omega arith)
   word-drop (suc k) n =
       let e : 6 * suc k ≡ 6 + 6 * k = omega arith in
       let q : suc k + n ≡ suc (k + n) = omega arith in
-      ap (λ (i : ℕ). pathWord (suc k + n) x y z / 2 ^ i) e
-      ∙ sym (shr-shr (pathWord (suc k + n) x y z) 6 (6 * k))
-      ∙ ap (λ (i : ℕ). pathWord i x y z / 2 ^ 6 / 2 ^ (6 * k)) q
+      ap (λ (i : ℕ). pathWord (suc k + n) c / 2 ^ i) e
+      ∙ sym (shr-shr (pathWord (suc k + n) c) 6 (6 * k))
+      ∙ ap (λ (i : ℕ). pathWord i c / 2 ^ 6 / 2 ^ (6 * k)) q
       ∙ ap (λ (i : ℕ). i / 2 ^ (6 * k)) (word-rest (k + n))
       ∙ word-drop k n
 
-  pub word-is : (d a b c : ℕ) → d ≤ 6 → a ≡ 32 * spaced 6 x → b ≡ 32 * spaced 6 y → c ≡ 32 * spaced 6 z
-      → (a + 2 * b + 4 * c + 0x20000000000) / 2 ^ (41 - 6 * d) ≡ pathWord d x y z
-  word-is d a b c h ea eb ec =
+  pub word-is : (d i j k : ℕ) → d ≤ 6 → i ≡ 32 * spaced 6 (c .x) → j ≡ 32 * spaced 6 (c .y) → k ≡ 32 * spaced 6 (c .z)
+      → (i + 2 * j + 4 * k) / 2 ^ (41 - 6 * d) ≡ pathWord d c
+  word-is d i j k h ei ej ek =
       let e : 41 - 6 * d ≡ 5 + 6 * (6 - d) = omega arith in
-      let s : (a + 2 * b + 4 * c + 0x20000000000) / 2 ^ 5 ≡ pathWord 6 x y z = let w = word-sum 6 x y z in omega arith in
+      let s : (i + 2 * j + 4 * k) / 2 ^ 5 ≡ pathWord 6 c = let w = word-sum 6 c in omega arith in
       let q : 6 - d + d ≡ 6 = omega arith in
-      ap (λ (i : ℕ). (a + 2 * b + 4 * c + 0x20000000000) / 2 ^ i) e
-      ∙ sym (shr-shr (a + 2 * b + 4 * c + 0x20000000000) 5 (6 * (6 - d)))
-      ∙ ap (λ (i : ℕ). i / 2 ^ (6 * (6 - d))) (s ∙ ap (λ (i : ℕ). pathWord i x y z) (sym q))
+      ap (λ (n : ℕ). (i + 2 * j + 4 * k) / 2 ^ n) e
+      ∙ sym (shr-shr (i + 2 * j + 4 * k) 5 (6 * (6 - d)))
+      ∙ ap (λ (i : ℕ). i / 2 ^ (6 * (6 - d))) (s ∙ ap (λ (i : ℕ). pathWord i c) (sym q))
       ∙ word-drop (6 - d) d

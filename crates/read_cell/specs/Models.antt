@@ -7,6 +7,7 @@ use Rattle.basics.specs.Pick.{pick}
 use Rattle.basics.specs.Bits.{bit}
 use Rattle.nodes.specs.Words.{Words}
 use Rattle.nodes.specs.Values.{valueAt}
+use Rattle.paths.specs.declared.Cell.{Cell}
 use Rattle.paths.specs.Paths.{octant}
 use Rattle.arena.specs.Tables.{Tables, cap, W}
 use Rattle.arena.specs.Calls.{fits, liveOrEmpty}
@@ -29,18 +30,20 @@ unfoldable pub spaced : ℕ → ℕ → ℕ
 spaced zero x = 0
 spaced (suc n) x = bit n x + 64 * spaced n x
 
--- the child numbers of the n levels down to the cell (x, y, z), six places apart, the first of them first; a 1 after the last
-unfoldable pub pathWord : ℕ → ℕ → ℕ → ℕ → ℕ
-pathWord zero x y z = 1
-pathWord (suc n) x y z = octant n x y z + 64 * pathWord n x y z
+-- the child numbers of the last n levels down to the cell, six places apart, the first of them first
+unfoldable pub pathWord : ℕ → Cell → ℕ
+pathWord zero c = 0
+pathWord (suc n) c = octant n (c .x) (c .y) (c .z) + 64 * pathWord n c
 
--- ## Lookup, of coordinates as numbers
+-- ## Lookup of a cell
 
-unfoldable pub lookNoAt : Tables → ℕ → ℕ → ℕ → ℕ → ℕ → ℕ
-lookNoAt t id d x y z =
-    pick (fits t)
-    (pick (leb d deepest) (pick (ltb x (2 ^ d)) (pick (ltb y (2 ^ d)) (pick (ltb z (2 ^ d)) (pick (liveOrEmpty (cap t) (W t) id) 0 4) 3) 3) 3) 2)
-    1
+-- refusal 3 where a coordinate is not below 2^d, else u
+abbrev pub within : Cell → ℕ → ℕ
+within c u = pick (ltb (c .x) (2 ^ (c .depth))) (pick (ltb (c .y) (2 ^ (c .depth))) (pick (ltb (c .z) (2 ^ (c .depth))) u 3) 3) 3
 
-unfoldable pub lookAt : Tables → ℕ → ℕ → ℕ → ℕ → ℕ → Looked
-lookAt t id d x y z = pick (eqb (lookNoAt t id d x y z) 0) (looked 0 (cellOf (W t) d id x y z)) (looked (lookNoAt t id d x y z) 0)
+unfoldable pub lookNoAt : Tables → ℕ → Cell → ℕ
+lookNoAt t id c = pick (fits t) (pick (leb (c .depth) deepest) (within c (pick (liveOrEmpty (cap t) (W t) id) 0 4)) 2) 1
+
+unfoldable pub lookAt : Tables → ℕ → Cell → Looked
+lookAt t id c =
+    pick (eqb (lookNoAt t id c) 0) (looked 0 (cellOf (W t) (c .depth) id (c .x) (c .y) (c .z))) (looked (lookNoAt t id c) 0)

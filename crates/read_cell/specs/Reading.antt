@@ -7,8 +7,9 @@ use Rattle.basics.specs.Pick.{pick}
 use Rattle.ids.specs.Ids.{invalid}
 use Rattle.nodes.specs.Words.{Words}
 use Rattle.nodes.specs.Tally.{tabFrom}
+use Rattle.paths.specs.declared.Cell.{Cell}
 use Rattle.tree.specs.Tree.{kind, empty, leaf, branch, childOf, look}
-use Rattle.tree.specs.Cells.{cubePath}
+use Rattle.tree.specs.Cells.{cubePath, pathTo}
 use Rattle.read_cell.specs.declared.End.{End}
 
 -- ## The end of a path
@@ -21,9 +22,9 @@ unfoldable pub descent : Words → ℕ → List ℕ → ℕ → End
 descent W k [] a = ended a k
 descent W k (c ∷ p) a = elim (kind a) [ empty _ ↦ ended a k | leaf _ ↦ ended a k | branch _ ↦ descent W (k + 1) p (childOf W a c) ]
 
--- The end at the cell (x, y, z) of depth d, from id as level 0; INVALID of a depth above 6.
-unfoldable pub endOf : Words → ℕ → ℕ → ℕ → ℕ → ℕ → End
-endOf W id d x y z = pick (leb d deepest) (descent W 0 (cubePath d x y z) id) (ended invalid 0)
+-- The end at the cell, from id as level 0; INVALID of a depth above 6.
+unfoldable pub endOf : Words → ℕ → Cell → End
+endOf W id c = pick (leb (c .depth) deepest) (descent W 0 (pathTo c) id) (ended invalid 0)
 
 -- ## The cells of a cube
 

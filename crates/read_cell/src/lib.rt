@@ -8,8 +8,9 @@ use ids::BlockId;
 use nodes::VALUE;
 use nodes::fact;
 use nodes::kid;
+use paths::Cell;
 use paths::IVec3;
-use paths::coord;
+use paths::to_cell;
 ghost use mathlib.Core.Path.{_≡_};
 ghost use Prim.Native.Nat.{_*_, _^_, _<_, _≤_};
 ghost use lib.Dec.{ltb};
@@ -69,19 +70,19 @@ fn spread(x: u32) -> u64
     ((x % 64) as u64 * 0x8_1020_4081) & 0x8_2082_0820
 }
 
-// The child numbers down to the cell (x, y, z) of the depth, the first lowest and each six places above the last, and a 1 above them.
-fn path_word(depth: u32, x: u32, y: u32, z: u32) -> u64
-    requires { ⌜ depth ≤ deepest ⌝ }
-    ensures { λ r. ⌜ r ≡ pathWord depth x y z ⌝ }
+// The child numbers down to the cell, the first lowest and each six places above the last.
+fn path_word(cell: Cell) -> u64
+    requires { ⌜ cell .depth ≤ deepest ⌝ }
+    ensures { λ r. ⌜ r ≡ pathWord (cell .depth) cell ⌝ }
 {
-    (spread(x) + 2 * spread(y) + 4 * spread(z) + 0x200_0000_0000) >> (41 - 6 * depth)
+    (spread(cell.x) + 2 * spread(cell.y) + 4 * spread(cell.z)) >> (41 - 6 * cell.depth)
 }
 
-// Down from id, as level 0, to the cell (x, y, z) of the depth: until EMPTY, a leaf, or level depth. INVALID of a depth above 6.
-pub fn descend(kids: &[u64], id: BlockId, depth: u32, x: u32, y: u32, z: u32) -> End
-    ensures { λ r. ⌜ r ≡ endOf (kidOf (now (kids .entry))) (id .0) depth x y z ⌝ }
+// Down from id, as level 0, to the cell: until EMPTY, a leaf, or the level of its depth. INVALID of a depth above 6.
+pub fn descend(kids: &[u64], id: BlockId, cell: Cell) -> End
+    ensures { λ r. ⌜ r ≡ endOf (kidOf (now (kids .entry))) (id .0) cell ⌝ }
 {
-    if DEEPEST < depth {
+    if DEEPEST < cell.depth {
         return End {
             id: BlockId::INVALID,
             level: 0,
@@ -92,8 +93,8 @@ pub fn descend(kids: &[u64], id: BlockId, depth: u32, x: u32, y: u32, z: u32) ->
     }
     let mut at = id.0;
     let mut level: u32 = 0;
-    let mut word = path_word(depth, x, y, z);
-    while 1 < word {
+    let mut word = path_word(cell);
+    while level < cell.depth {
         at = kid(kids, slot_of(at), (word % 8) as usize);
         level += 1;
         word = word / 64;
@@ -134,22 +135,12 @@ fn is_inside(d: u32, x: u32) -> bool
 // ---- lookup
 
 // The lowest refusal that applies to a lookup, or 0.
-pub fn look_no(
-    arena: Arena,
-    kids: &[u64],
-    facts: &[u64],
-    find: &[u16],
-    id: u64,
-    d: u32,
-    x: u32,
-    y: u32,
-    z: u32,
-) -> u32
-    ensures { λ r. ⌜ r ≡ lookNoAt (before arena kids facts find) id d x y z ⌝ }
+pub fn look_no(arena: Arena, kids: &[u64], facts: &[u64], find: &[u16], id: u64, cell: Cell) -> u32
+    ensures { λ r. ⌜ r ≡ lookNoAt (before arena kids facts find) id cell ⌝ }
 {
     if fit(arena.capacity, kids.len(), facts.len(), find.len()) {
-        if d <= DEEPEST {
-            if is_inside(d, x | y | z) {
+        if cell.depth <= DEEPEST {
+            if is_inside(cell.depth, cell.x | cell.y | cell.z) {
                 if is_there(arena.capacity, facts, id) {
                     return 0;
                 }
@@ -162,25 +153,22 @@ pub fn look_no(
     1
 }
 
-// Lookup of coordinates that are numbers.
+// Lookup of a cell.
 fn look_at(
     arena: Arena,
     kids: &[u64],
     facts: &[u64],
     find: &[u16],
     id: BlockId,
-    d: u32,
-    x: u32,
-    y: u32,
-    z: u32,
+    cell: Cell,
 ) -> Looked
-    ensures { λ r. ⌜ r ≡ lookAt (before arena kids facts find) (id .0) d x y z ⌝ }
+    ensures { λ r. ⌜ r ≡ lookAt (before arena kids facts find) (id .0) cell ⌝ }
 {
-    let no = look_no(arena, kids, facts, find, id.0, d, x, y, z);
+    let no = look_no(arena, kids, facts, find, id.0, cell);
     if no != 0 {
         return Looked { no: no, value: 0 };
     }
-    let end = descend(kids, id, d, x, y, z);
+    let end = descend(kids, id, cell);
     Looked {
         no: 0,
         value: value(facts, end.id.0),
@@ -199,15 +187,5 @@ pub fn get_at_depth(
 ) -> Looked
     ensures { λ r. ⌜ r ≡ lookOf (before arena kids facts find) (id .0) depth position ⌝ }
 {
-    look_at(
-        arena,
-        kids,
-        facts,
-        find,
-        id,
-        depth,
-        coord(position.x),
-        coord(position.y),
-        coord(position.z),
-    )
+    look_at(arena, kids, facts, find, id, to_cell(position, depth))
 }

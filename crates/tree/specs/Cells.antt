@@ -2,6 +2,7 @@
 use mathlib.Core.List.{List, [], _∷_}
 use Prim.Native.Nat.{ℕ, zero, suc, _+_, _*_}
 use Rattle.basics.specs.Bits.{bit}
+use Rattle.paths.specs.declared.Cell.{Cell}
 use Rattle.paths.specs.Paths.{octant}
 
 -- the child number at bit b in a flat sheet, as `octant` in a cube
@@ -19,3 +20,7 @@ cubePath d x y z = pathBy (λ b. octant b x y z) d
 
 abbrev pub sheetPath : ℕ → ℕ → ℕ → List ℕ
 sheetPath d x y = pathBy (λ b. quadrant b x y) d
+
+-- the path of a cell as the code has it
+abbrev pub pathTo : Cell → List ℕ
+pathTo c = cubePath (c .depth) (c .x) (c .y) (c .z)
