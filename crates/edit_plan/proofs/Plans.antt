@@ -1,7 +1,7 @@
 -- What the code reads of the lent lists is what the definitions read of the words, and the steps of the dry run.
 use mathlib.Core.Path.{_≡_, refl, sym, ap, ap₂, _∙_}
 use mathlib.Core.Logic.{inl, inr}
-use mathlib.Core.List.{List}
+use mathlib.Core.List.{List, _∷_}
 use Prim.Native.Nat.{ℕ, zero, suc, _+_, _-_, _<_}
 use native.Mathlib.Omega.{arith}
 use lib.ListN.{getD}
@@ -11,10 +11,11 @@ use Rattle.nodes.specs.Values.{valueAt}
 use Rattle.nodes.proofs.Access.{word-kid}
 use Rattle.nodes.proofs.Sums.{tabFrom-ext}
 use Rattle.tree.specs.Tree.{Kind, empty, leaf, branch, kind}
-use Rattle.tree.specs.Cells.{pathBy, cubePath}
+use Rattle.tree.specs.Cells.{pathBy, cubePath, pathTo}
 use Rattle.tree.specs.Anew.{part}
 use Rattle.tree.proofs.Making.{part-flat, part-branch}
-use Rattle.paths.specs.Paths.{octant}
+use Rattle.paths.specs.declared.Cell.{Cell}
+use Rattle.paths.specs.Paths.{octant, cell}
 use Rattle.arena.specs.Tables.{tables}
 use Rattle.arena.specs.declared.Arena.{Arena}
 use Rattle.edit_plan.specs.Models.{slotPlan, eightParts, cellPlan, upPlan, planBy}
@@ -56,23 +57,19 @@ module _ (k f : List ℕ) where
 
 -- ---- the recursion's steps
 
-module _ (a : Arena) (k f e : List ℕ) (v id x y z : ℕ) where
-  pub plan-end : (left : ℕ) (r : Plan) → left ≡ 0 → r ≡ cellPlan (tables a k f e) v → r ≡ planBy (tables a k f e) v (cubePath left x y z) id
+module _ (a : Arena) (k f e : List ℕ) (v id : ℕ) (c : Cell) where
+  pub plan-end : (r : Plan) → c .depth ≡ 0 → r ≡ cellPlan (tables a k f e) v → r ≡ planBy (tables a k f e) v (pathTo c) id
   unfolding planBy pathBy
-  plan-end zero r l h = h
-  plan-end (suc n) r l h = absurd (omega arith)
+  plan-end r l h = rw l h
 
-  pub plan-step : (left c : ℕ) (ks : List ℕ) (b r : Plan) → (left ≡ 0 → ⊥) → ks ≡ eightParts (kidOf k) id → c ≡ octant (left - 1) x y z → c < 8
-      → b ≡ planBy (tables a k f e) v (cubePath (left - 1) x y z) (getD ks c 0) → r ≡ upPlan (tables a k f e) ks c b
-      → r ≡ planBy (tables a k f e) v (cubePath left x y z) id
+  pub plan-step : (o : ℕ) (ks : List ℕ) (b r : Plan) → (c .depth ≡ 0 → ⊥) → ks ≡ eightParts (kidOf k) id → o ≡ octant (c .depth - 1) (c .x) (c .y) (c .z) → o < 8
+      → b ≡ planBy (tables a k f e) v (pathTo (cell (c .depth - 1) (c .x) (c .y) (c .z))) (getD ks o 0) → r ≡ upPlan (tables a k f e) ks o b
+      → r ≡ planBy (tables a k f e) v (pathTo c) id
   unfolding planBy pathBy
-  plan-step zero c ks b r d ek ec l eb er = absurd (d refl)
-  plan-step (suc n) c ks b r d ek ec l eb er =
-      let q : suc n - 1 ≡ n = omega arith in
+  plan-step o ks b r d ek eo l eb er =
       let W = wordOf (nodes k f) in
-      let at : getD ks c 0 ≡ part W id c = ap (λ (m : List ℕ). getD m c 0) ek ∙ part-at k f id c l in
-      let o : c ≡ octant n x y z = rw q at ec in
-      let b′ : b ≡ planBy (tables a k f e) v (cubePath n x y z) (part W id c) =
-      eb ∙ ap₂ (λ (i s : ℕ). planBy (tables a k f e) v (cubePath i x y z) s) q at in
-      er ∙ ap₂ (λ (m : List ℕ) (s : Plan). upPlan (tables a k f e) m c s) (ek ∙ parts-kids k f id) b′
-      ∙ ap (λ (i : ℕ). upPlan (tables a k f e) (eightParts W id) i (planBy (tables a k f e) v (cubePath n x y z) (part W id i))) o
+      let p : List ℕ = cubePath (c .depth - 1) (c .x) (c .y) (c .z) in
+      let n : suc (c .depth - 1) ≡ c .depth = omega arith in
+      let at : getD ks o 0 ≡ part W id o = ap (λ (m : List ℕ). getD m o 0) ek ∙ part-at k f id o l in
+      er ∙ ap₂ (λ (m : List ℕ) (s : Plan). upPlan (tables a k f e) m o s) (ek ∙ parts-kids k f id) (eb ∙ ap (planBy (tables a k f e) v p) at)
+      ∙ ap (λ (i : ℕ). planBy (tables a k f e) v (i ∷ p) id) eo ∙ ap (λ (i : ℕ). planBy (tables a k f e) v (cubePath i (c .x) (c .y) (c .z)) id) n

@@ -10,7 +10,8 @@ use Rattle.ids.specs.Ids.{isLeaf, invalid}
 use Rattle.nodes.specs.Words.{Words, own}
 use Rattle.nodes.specs.Tally.{tabFrom}
 use Rattle.tree.specs.Tree.{look}
-use Rattle.tree.specs.Cells.{cubePath}
+use Rattle.paths.specs.declared.Cell.{Cell}
+use Rattle.tree.specs.Cells.{pathTo}
 use Rattle.tree.specs.Anew.{part}
 use Rattle.arena.specs.Tables.{Tables, W}
 use Rattle.arena.specs.Calls.{empties, allOf}
@@ -56,6 +57,6 @@ planBy t x (c ∷ p) a = upPlan t (eightParts (W t) a) c (planBy t x p (part (W 
 unfoldable pub rootPlan : Tables → ℕ → List ℕ → ℕ → Plan
 rootPlan t v p root = pick (eqb (look (W t) p root % 2 ^ 16) v) (planned 0 root) (planBy t v p root)
 
--- of the cell (x, y, z) at depth d; INVALID of a depth above 6
-unfoldable pub resultBy : Tables → ℕ → ℕ → ℕ → ℕ → ℕ → ℕ → Plan
-resultBy t v d x y z root = pick (leb d deepest) (rootPlan t v (cubePath d x y z) root) (planned 0 invalid)
+-- INVALID of a depth above 6
+unfoldable pub resultBy : Tables → ℕ → Cell → ℕ → Plan
+resultBy t v c root = pick (leb (c .depth) deepest) (rootPlan t v (pathTo c) root) (planned 0 invalid)

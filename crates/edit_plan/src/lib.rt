@@ -12,6 +12,7 @@ use new_value::value_of;
 use nodes::OWN;
 use nodes::children;
 use nodes::fact;
+use paths::Cell;
 use paths::octant;
 use read_cell::descend;
 use std::num::wrapping_add_u64;
@@ -20,7 +21,7 @@ ghost use Prim.Native.Nat.{_≤_, _<_};
 ghost use lib.Dec.{eqb};
 ghost use Rattle.basics.specs.Limits.{deepest};
 ghost use Rattle.nodes.specs.Words.{kidOf, factOf};
-ghost use Rattle.tree.specs.Cells.{cubePath};
+ghost use Rattle.tree.specs.Cells.{pathTo};
 ghost use Rattle.arena.specs.Calls.{allOf};
 ghost use Rattle.arena.specs.Lent.{before};
 ghost use Rattle.edit_plan.specs.Models.{eightParts, leafKids, slotPlan, cellPlan, needPlan, upPlan, planBy, resultBy};
@@ -62,7 +63,7 @@ fn all_are(ks: Kids, k: u64) -> bool
 }
 
 // Are they eight times one leaf?
-fn all_leaf(ks: Kids) -> bool
+fn all_one_leaf(ks: Kids) -> bool
     ensures { λ r. ⌜ r ≡ leafKids ks ⌝ }
 {
     if BlockId(ks[0]).is_leaf() {
@@ -108,7 +109,7 @@ fn plan_node(a: Arena, kids: &[u64], facts: &[u64], find: &[u16], ks: Kids, s: u
             id: BlockId::EMPTY.0,
         };
     }
-    if all_leaf(ks) {
+    if all_one_leaf(ks) {
         return Plan { new: 0, id: ks[0] };
     }
     let f = search(find, kids, facts, a.capacity, ks, value_of(facts, ks));
@@ -139,55 +140,48 @@ fn plan_up(
     }
 }
 
-// The dry run from the node of id, `left` levels above the cell.
-fn dry_run(
-    a: Arena,
-    kids: &[u64],
-    facts: &[u64],
-    find: &[u16],
-    id: u64,
-    left: u32,
-    x: u32,
-    y: u32,
-    z: u32,
-    v: u64,
-) -> Plan
-    requires { ⌜ left ≤ deepest ⌝ }
-    ensures { λ r. ⌜ r ≡ planBy (before a kids facts find) v (cubePath left x y z) id ⌝ }
+// The dry run from the node of id down to the cell.
+fn dry_run(a: Arena, kids: &[u64], facts: &[u64], find: &[u16], id: u64, cell: Cell, v: u64) -> Plan
+    requires { ⌜ cell .depth ≤ deepest ⌝ }
+    ensures { λ r. ⌜ r ≡ planBy (before a kids facts find) v (pathTo cell) id ⌝ }
 {
-    if left == 0 {
+    if cell.depth == 0 {
         return plan_cell(a, kids, facts, find, v);
     }
     let ks = parts(kids, id);
-    let c = octant(left - 1, x, y, z);
-    let below = dry_run(a, kids, facts, find, ks[c], left - 1, x, y, z, v);
+    let left = cell.depth - 1;
+    let c = octant(left, cell.x, cell.y, cell.z);
+    let rest = Cell {
+        x: cell.x,
+        y: cell.y,
+        z: cell.z,
+        depth: left,
+    };
+    let below = dry_run(a, kids, facts, find, ks[c], rest, v);
     plan_up(a, kids, facts, find, ks, c, below)
 }
 
-// The dry run's result: the old root where the cell already has the value. INVALID of a depth above 6.
-pub fn result(
+// The plan of an edit: the old root where the cell already has the value, else the dry run's. INVALID of a depth above 6.
+pub fn plan_edit(
     a: Arena,
     kids: &[u64],
     facts: &[u64],
     find: &[u16],
     root: u64,
-    d: u32,
-    x: u32,
-    y: u32,
-    z: u32,
+    cell: Cell,
     v: u16,
 ) -> Plan
-    ensures { λ r. ⌜ r ≡ resultBy (before a kids facts find) v d x y z root ⌝ }
+    ensures { λ r. ⌜ r ≡ resultBy (before a kids facts find) v cell root ⌝ }
 {
-    if DEEPEST < d {
+    if DEEPEST < cell.depth {
         return Plan {
             new: 0,
             id: BlockId::INVALID.0,
         };
     }
-    let end = descend(kids, BlockId(root), d, x, y, z);
+    let end = descend(kids, BlockId(root), cell);
     if value_at(facts, end.id.0) % 65536 == v as u64 {
         return Plan { new: 0, id: root };
     }
-    dry_run(a, kids, facts, find, root, d, x, y, z, v as u64)
+    dry_run(a, kids, facts, find, root, cell, v as u64)
 }

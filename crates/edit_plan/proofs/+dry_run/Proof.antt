@@ -14,7 +14,7 @@ use Rattle.edit_plan.proofs.+dry_run.{statement}
 use Rattle.edit_plan.proofs.+dry_run.Tie.{close}
 
 abbrev μ-dry-run : Measures 3 dry-run-kinds.ps ℕ
-μ-dry-run κs a = a .1 .1 .1 .1 .1 .0
+μ-dry-run κs a = a .1 .1 .1 .1 .1 .0 .depth
 
 abbrev dry-run-at : ℕ → In 3 dry-run-kinds.ps
 dry-run-at t = and 3 dry-run-kinds.ps (is 3 dry-run-kinds.ps μ-dry-run t) dry-run.Pre
@@ -38,4 +38,4 @@ pub +dry-run-spec : {M : Type 1} → statement M
     (dry-run-at t)
     dry-run.Post
     (λ c κs. search needs) (λ c. search plan-end) (λ c κs. search needs) (λ c. search needs) (λ c κs. search needs) (λ c. search needs)
-    (λ c. search needs) (λ c. search needs) (λ c κs. search needs) (λ c κs. search needs) (λ c. search plan-step)
+    (λ c. search needs) (λ c κs. search needs) (λ c κs. search needs) (λ c. search plan-step)

@@ -8,8 +8,8 @@ use lib.ListN.{getD}
 use Rattle.ids.specs.Ids.{isLeaf}
 use Rattle.arena.specs.Calls.{allOf}
 use Rattle.edit_plan.specs.Models.{leafKids}
-use Rattle.edit_plan.proofs.all_leaf.Statement.{statement}
-use Rattle.edit_plan.proofs.all_leaf.Tie as tie
+use Rattle.edit_plan.proofs.all_one_leaf.Statement.{statement}
+use Rattle.edit_plan.proofs.all_one_leaf.Tie as tie
 
 module _ (ks : List ℕ) (t : Bool) (et : t ≡ isLeaf (getD ks 0 0)) where
   leaf : (b : Bool) → t ≡ true → b ≡ allOf (eqb (getD ks 0 0)) ks → b ≡ leafKids ks
@@ -22,7 +22,7 @@ module _ (ks : List ℕ) (t : Bool) (et : t ≡ isLeaf (getD ks 0 0)) where
 
 ruleset mine = (leaf, other)
 
-pub all-leaf-spec : {M : Type 1} → statement M
-all-leaf-spec =
+pub all-one-leaf-spec : {M : Type 1} → statement M
+all-one-leaf-spec =
     tie.close
     (tie.spec (λ c. search needs) (λ c κs. search needs) (λ c. search needs) (λ c κs. search needs) (λ c. search mine) (λ c. search mine))
