@@ -8,12 +8,14 @@ use Rattle.basics.specs.Pick.{pick}
 use Rattle.nodes.specs.Words.{factOf, factPut, places, slot}
 use Rattle.find_hash.specs.Hash.{homeFor}
 use Rattle.find.specs.Cells.{probe}
-use Rattle.tree.specs.Cells.{cubePath}
+use Rattle.paths.specs.declared.Cell.{Cell}
+use Rattle.tree.specs.Cells.{pathTo}
 use Rattle.tree.specs.Anew.{part}
 use Rattle.arena.specs.Tables.{Tables, tables, cap, W}
 use Rattle.arena.specs.Calls.{Out, said, refused, freshSlot, empties}
 use Rattle.arena.specs.Models.{moreOf, leafFresh, branchFresh, topFor, valueBy}
-use Rattle.edit_plan.specs.Models.{eightParts}
+use Rattle.edit_plan.specs.Models.{planned, eightParts}
+use Rattle.edit_plan.specs.declared.Plan.{Plan}
 
 -- one place more for the node s; EMPTY: nothing
 unfoldable pub owe : List ℕ → ℕ → List ℕ
@@ -42,13 +44,13 @@ branchAnewBy t ks h q =
 unfoldable pub upBy : Out → List ℕ → ℕ → ℕ → ℕ → Out
 upBy low ks c h q = branchAnewBy (owedBy (low .after) (set ks c 0)) (set ks c (low .id)) h q
 
--- k nodes upward over the part s
-unfoldable pub makeBy : Tables → ℕ → List ℕ → ℕ → ℕ → ℕ → ℕ → ℕ → Out
-makeBy t x [] a k s h q = pick (eqb k 0) (said 0 s (owedBy t (s ∷ []))) (leafAnewBy t x h q)
-makeBy t x (c ∷ p) a k s h q =
-    let low = makeBy t x p (part (W t) a c) (k - 1) s 0 1 in
-    pick (eqb k 0) (said 0 s (owedBy t (s ∷ []))) (upBy low (eightParts (W t) a) c h q)
+-- the plan's new nodes upward over its part
+unfoldable pub makeBy : Tables → ℕ → List ℕ → ℕ → Plan → ℕ → ℕ → Out
+makeBy t x [] a b h q = pick (eqb (b .new) 0) (said 0 (b .id) (owedBy t (b .id ∷ []))) (leafAnewBy t x h q)
+makeBy t x (c ∷ p) a b h q =
+    let low = makeBy t x p (part (W t) a c) (planned (b .new - 1) (b .id)) 0 1 in
+    pick (eqb (b .new) 0) (said 0 (b .id) (owedBy t (b .id ∷ []))) (upBy low (eightParts (W t) a) c h q)
 
--- over the cell (x, y, z) at depth d; refusal 2 of a depth above 6
-unfoldable pub makeAt : Tables → ℕ → ℕ → ℕ → ℕ → ℕ → ℕ → ℕ → ℕ → ℕ → ℕ → Out
-makeAt t v d x y z a k s h q = pick (leb d deepest) (makeBy t v (cubePath d x y z) a k s h q) (refused 2 t)
+-- refusal 2 of a depth above 6
+unfoldable pub makeAt : Tables → ℕ → Cell → ℕ → Plan → ℕ → ℕ → Out
+makeAt t v c a b h q = pick (leb (c .depth) deepest) (makeBy t v (pathTo c) a b h q) (refused 2 t)

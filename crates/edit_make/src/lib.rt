@@ -6,6 +6,7 @@ use basics::DEEPEST;
 use basics::KID_WORDS;
 use basics::Kids;
 use basics::NO_KIDS;
+use edit_plan::Plan;
 use edit_plan::parts;
 use find::number_from;
 use find_hash::home_for;
@@ -17,14 +18,16 @@ use new_value::sums_of;
 use nodes::PLACES;
 use nodes::fact;
 use nodes_write::put_fact;
+use paths::Cell;
 use paths::octant;
 use std::num::wrapping_add_u64;
 ghost use mathlib.Core.Path.{_≡_};
-ghost use Prim.Native.Nat.{_+_, _≤_, _<_};
+ghost use Prim.Native.Nat.{_≤_, _<_};
 ghost use lib.Dec.{eqb};
+ghost use Rattle.basics.specs.Limits.{deepest};
 ghost use Rattle.find_hash.specs.Hash.{homeFor};
 ghost use Rattle.find.specs.Cells.{probe};
-ghost use Rattle.tree.specs.Cells.{cubePath};
+ghost use Rattle.tree.specs.Cells.{pathTo};
 ghost use Rattle.edit_make.specs.Models.{owe as oweOf, oweAll, leafAnewBy, branchAnewBy, upBy, makeBy, makeAt};
 ghost use Rattle.arena.specs.Calls.{madeOf, freshSlot};
 ghost use Rattle.arena.specs.Lent.{before, made};
@@ -112,7 +115,7 @@ fn branch_over(
     branch_anew(low.arena, kids, facts, find, all, h, q)
 }
 
-// The node of id, of depth d over the cell, made anew: `new` nodes upward over the part, which is there; the topmost has h holds and q places.
+// The node of id made anew down to the cell: the plan's new nodes upward over its part, which is there; the topmost has h holds and q places.
 // Refusal 2 of a depth above 6.
 pub fn make(
     a: Arena,
@@ -120,76 +123,64 @@ pub fn make(
     facts: &mut [u64],
     find: &mut [u16],
     id: u64,
-    d: u32,
-    x: u32,
-    y: u32,
-    z: u32,
+    cell: Cell,
     v: u64,
-    new: u64,
-    part: u64,
+    plan: Plan,
     h: u64,
     q: u64,
 ) -> Made
-    ensures { λ r. ⌜ made r kids facts find ≡ makeAt (before a kids facts find) v d x y z id new part h q ⌝ }
+    ensures { λ r. ⌜ made r kids facts find ≡ makeAt (before a kids facts find) v cell id plan h q ⌝ }
 {
-    if DEEPEST < d {
+    if DEEPEST < cell.depth {
         return Made {
             no: 2,
             id: BlockId::INVALID,
             arena: a,
         };
     }
-    if new == 0 {
-        owe(facts, part);
+    if plan.new == 0 {
+        owe(facts, plan.id);
         return Made {
             no: 0,
-            id: BlockId(part),
+            id: BlockId(plan.id),
             arena: a,
         };
     }
-    if d == 0 {
+    if cell.depth == 0 {
         return leaf_anew(a, kids, facts, find, v, h, q);
     }
-    make_over(a, kids, facts, find, id, d - 1, x, y, z, v, new, part, h, q)
+    make_over(a, kids, facts, find, id, cell, v, plan, h, q)
 }
 
-// The branch of id, its part of depth d over the cell, made anew with that part.
+// The branch of id made anew, with the part in which the cell lies.
 fn make_over(
     a: Arena,
     kids: &mut [u64],
     facts: &mut [u64],
     find: &mut [u16],
     id: u64,
-    d: u32,
-    x: u32,
-    y: u32,
-    z: u32,
+    cell: Cell,
     v: u64,
-    new: u64,
-    part: u64,
+    plan: Plan,
     h: u64,
     q: u64,
 ) -> Made
-    requires { ⌜ (d ≤ 5) × (1 ≤ new) ⌝ }
-    ensures { λ r. ⌜ made r kids facts find ≡ makeBy (before a kids facts find) v (cubePath (d + 1) x y z) id new part h q ⌝ }
+    requires { ⌜ (1 ≤ cell .depth) × (cell .depth ≤ deepest) × (1 ≤ plan .new) ⌝ }
+    ensures { λ r. ⌜ made r kids facts find ≡ makeBy (before a kids facts find) v (pathTo cell) id plan h q ⌝ }
 {
     let ks = parts(kids, id);
-    let c = octant(d, x, y, z);
-    let low = make(
-        a,
-        kids,
-        facts,
-        find,
-        ks[c],
-        d,
-        x,
-        y,
-        z,
-        v,
-        new - 1,
-        part,
-        0,
-        1,
-    );
+    let left = cell.depth - 1;
+    let c = octant(left, cell.x, cell.y, cell.z);
+    let rest = Cell {
+        x: cell.x,
+        y: cell.y,
+        z: cell.z,
+        depth: left,
+    };
+    let below = Plan {
+        new: plan.new - 1,
+        id: plan.id,
+    };
+    let low = make(a, kids, facts, find, ks[c], rest, v, below, 0, 1);
     branch_over(low, kids, facts, find, ks, c, h, q)
 }

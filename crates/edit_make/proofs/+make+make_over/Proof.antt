@@ -18,10 +18,10 @@ use Rattle.edit_make.proofs.+make+make_over.Lts-make_over as make-over-
 use Rattle.edit_make.proofs.+make+make_over.Tie.{close}
 
 abbrev μ-make : Measures 3 make-kinds.ps ℕ
-μ-make κs a = 2 * a .1 .1 .1 .1 .1 .0
+μ-make κs a = 2 * a .1 .1 .1 .1 .1 .0 .depth + 1
 
 abbrev μ-make-over : Measures 3 make-over-kinds.ps ℕ
-μ-make-over κs a = 2 * a .1 .1 .1 .1 .1 .0 + 1
+μ-make-over κs a = 2 * a .1 .1 .1 .1 .1 .0 .depth
 
 abbrev make-at : ℕ → In 3 make-kinds.ps
 make-at t = and 3 make-kinds.ps (is 3 make-kinds.ps μ-make t) make.Pre
@@ -48,7 +48,7 @@ pub +make+make-over-spec : {M : Type 1} → statement M
     (make-at t)
     make.Post
     (λ c. search make-deep) (λ c κs. search needs) (λ c. search needs) (λ c. search make-none) (λ c κs. search needs) (λ c. search needs)
-    (λ c. search needs) (λ c. search needs) (λ c. search make-end) (λ c. search needs) (λ c κs. search needs) (λ c. search needs)
+    (λ c. search needs) (λ c. search needs) (λ c. search make-end) (λ c κs. search needs) (λ c. search needs)
     (λ c. search needs) (λ c. search needs) (λ c. search make-up))
     λ t. make-over-lts.spec (
       parts-reads.Asked,
@@ -62,9 +62,12 @@ pub +make+make-over-spec : {M : Type 1} → statement M
     )
     (make-over-at t)
     make-over.Post
-    (λ c κs. search needs) (λ c κs. search needs) (λ c. search needs) (λ c. search needs) (λ c. search needs) (λ c κs. search needs)
-    (λ c κs. search needs) (λ c. search needs) (λ c. search needs) (λ c. search needs)
+    (λ c κs. search needs) (λ c. search needs) (λ c κs. search needs) (λ c. search needs) (λ c. search needs) (λ c. search needs)
+    (λ c κs. search needs) (λ c κs. search needs) (λ c. search needs) (λ c. search needs) (λ c. search needs)
     (λ c.
-    let parts = c .before .before .before .before .before .before .before .before .before .before .before .before .before .before .before .before .before .before .before .before .before .parts .ensures in
-    let asked = c .before .before .before .before .before .before .before .before .before .before .before .before .before .before .before .before .before .before .before .before .before .before .before .before .before .before .pre .1 in
+    let start = c .before .before .before .before .before .before .before .before .before .before .before .before .before .before .before .before in
+    let made = start .make .ensures in
+    let octant = start .before .before .before .before .before .octant .ensures in
+    let parts = start .before .before .before .before .before .before .before .parts .ensures in
+    let asked = start .before .before .before .before .before .before .before .before .before .before .before .before .pre .1 in
     search make-step)
