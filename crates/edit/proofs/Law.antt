@@ -6,9 +6,6 @@ use Prim.Native.Nat.{ℕ, suc, _-_, _%_, _^_, _≤_, _<_}
 use native.Mathlib.Decide.{ℕ-discrete, decLe}
 use native.Mathlib.Omega.{arith}
 use lib.Dec.{eqb, leb}
-use lib.Signed.{mag}
-use mir.Syntax.{w32}
-use mir.ValLaws.{toZ-ofZ}
 use borrow.Author.Tests.{eq-eqb, ne-eqb, le-leb, lt-leb, leb-true}
 use Rattle.nodes.specs.Values.{heightAt}
 use Rattle.basics.specs.Limits.{deepest, cubeKids, largestValue}
@@ -16,9 +13,9 @@ use Rattle.basics.specs.Pick.{pick}
 use Rattle.basics.proofs.Rungs.{past-yes}
 use Rattle.nodes.specs.Words.{wordOf, factOf, putOf, holds, slot}
 use Rattle.nodes.proofs.Sums.{cases, split}
+use Rattle.paths.specs.declared.Cell.{Cell}
 use Rattle.paths.specs.declared.IVec3.{IVec3}
-use Rattle.paths.specs.Paths.{coordOf, inside, whole}
-use Rattle.paths.proofs.Coords.{back}
+use Rattle.paths.specs.Paths.{inside, whole, cell, toCell}
 use Rattle.tree.specs.Tree.{LiveOr0, look}
 use Rattle.tree.specs.Lacks.{Need, have, lack}
 use Rattle.tree.proofs.CellLaws.{cube-cell}
@@ -28,7 +25,7 @@ use Rattle.arena.proofs.Branching.{full-few}
 use Rattle.arena.proofs.Fresh.{more-few}
 use Rattle.read_cell.specs.Calls.{lookNo}
 use Rattle.read_cell.specs.Models.{lookNoAt}
-use Rattle.read_cell.proofs.Calls.{look-no-same, look-inside, coord-is}
+use Rattle.read_cell.proofs.Calls.{look-no-same, cell-same}
 use Rattle.read_cell.proofs.Laws.{there-live, well-small}
 use Rattle.read_cell.proofs.Plain.{cell-whole}
 use Rattle.edit.specs.Edit.{planOf, resultOf, makeOf, grantNo, granted, answerOf, cellNo, editCell, cellAt, editOf}
@@ -68,16 +65,19 @@ unsized-no t root d p u = rw u
 
 -- ---- the two ladders
 
-module _ (t : Tables) (root d x y z v : ℕ) (p : IVec3) (no-same : lookNoAt t root d x y z ≡ lookNo t root d p) where
-  refused-same : lookNo t root d p ≢ 0 → editBy t root d x y z v ≡ editOf t root d p v
+module _ (t : Tables) (root d v : ℕ) (p : IVec3) where
+  no-same : lookNoAt t root (toCell p d) ≡ lookNo t root d p
+  no-same = look-no-same (t .arena) (t .nodes .kids) (t .nodes .facts) (t .find) root d p
+
+  refused-same : lookNo t root d p ≢ 0 → editBy t root (toCell p d) v ≡ editOf t root d p v
   unfolding editBy editOf editNoAt
   refused-same n = rw (no-same, ne-eqb (lookNo t root d p) 0 n, ne-eqb (lookNo t root d p) 0 n)
 
-  tall-same : lookNo t root d p ≡ 0 → leb (heightAt (W t) root) d ≡ false → editBy t root d x y z v ≡ editOf t root d p v
+  tall-same : lookNo t root d p ≡ 0 → leb (heightAt (W t) root) d ≡ false → editBy t root (toCell p d) v ≡ editOf t root d p v
   unfolding editBy editOf editNoAt editCell cellNo
   tall-same n h = rw (no-same, eq-eqb (lookNo t root d p) 0 n, h)
 
-  low-by : lookNo t root d p ≡ 0 → leb (heightAt (W t) root) d ≡ true → editBy t root d x y z v ≡ editPast t v d x y z root (resultBy t v d x y z root)
+  low-by : lookNo t root d p ≡ 0 → leb (heightAt (W t) root) d ≡ true → editBy t root (toCell p d) v ≡ editPast t v (toCell p d) root (resultBy t v (toCell p d) root)
   unfolding editBy editNoAt
   low-by n h = rw (no-same, eq-eqb (lookNo t root d p) 0 n, h)
 
@@ -104,86 +104,63 @@ grant-few t r e d = split (fullOf (W t) (slot r))
     (λ f. absurd (let z : _≡_ {A = ℕ} 10 0 = (rw (ne-eqb r 0 d, f) at e) in omega arith))
     (λ f. full-few t (slot r) f)
 
-have-end : (t : Tables) (v d x y z r root : ℕ) (new : Out) → editPast t v d x y z root (planned 0 r) ≡ ended t (have r) new
+have-end : (t : Tables) (v : ℕ) (c : Cell) (r root : ℕ) (new : Out) → editPast t v c root (planned 0 r) ≡ ended t (have r) new
 unfolding editPast grantBy grantNo answerBy answerOf
-have-end t v d x y z r root new = cases (ℕ-discrete (grantNo t (have r)) 0)
+have-end t v c r root new = cases (ℕ-discrete (grantNo t (have r)) 0)
     (λ e. ap (λ (u : Tables). pick (eqb (grantNo t (have r)) 0) (said 0 r u) (refused (grantNo t (have r)) t)) (grant-same t r (grant-few t r e)))
     (λ e. rw (ne-eqb (grantNo t (have r)) 0 e))
 
-lack-end : (t : Tables) (v d x y z k s root : ℕ) (new : Out) → 1 ≤ k → (k ≤ cap t - 1 - t .arena .live → makeAt t v d x y z root k s 1 0 ≡ new)
-    → editPast t v d x y z root (planned k s) ≡ ended t (lack k) new
+lack-end : (t : Tables) (v : ℕ) (c : Cell) (k s root : ℕ) (new : Out) → 1 ≤ k → (k ≤ cap t - 1 - t .arena .live → makeAt t v c root (planned k s) 1 0 ≡ new)
+    → editPast t v c root (planned k s) ≡ ended t (lack k) new
 unfolding editPast grantBy grantNo answerBy answerOf
-lack-end t v d x y z k s root new one h = cases (decLe k (cap t - 1 - t .arena .live))
+lack-end t v c k s root new one h = cases (decLe k (cap t - 1 - t .arena .live))
     (λ l. rw (ne-eqb k 0 (omega arith), le-leb k (cap t - 1 - t .arena .live) l) (h l))
     (λ l. rw (ne-eqb k 0 (omega arith), lt-leb k (cap t - 1 - t .arena .live) (omega arith)))
 
 -- ---- the whole
 
 module _ (t : Tables) (root d v : ℕ) (p : IVec3) (high : v ≤ largestValue) where
-  abbrev X : ℕ
-  X = whole (p .x)
-
-  abbrev Y : ℕ
-  Y = whole (p .y)
-
-  abbrev Z : ℕ
-  Z = whole (p .z)
+  abbrev C : Cell
+  C = cell d (whole (p .x)) (whole (p .y)) (whole (p .z))
 
   result-same : WellFormed cubeKids deepest t → lookNo t root d p ≡ 0 → heightAt (W t) root ≤ d
-      → editPast t v d X Y Z root (resultBy t v d X Y Z root) ≡ ended t (resultOf cubeKids t v (cellAt d p) root) (makeOf cubeKids t v (cellAt d p) root 1 0)
+      → editPast t v C root (resultBy t v C root) ≡ ended t (resultOf cubeKids t v (cellAt d p) root) (makeOf cubeKids t v (cellAt d p) root 1 0)
   unfolding resultBy rootPlan resultOf
   result-same w n low =
       let l = le-leb d deepest (deep t root d p n) in
-      let whole-look : look (W t) (cellAt d p) root % 2 ^ 16 ≡ look (W t) (cellAt d p) root = cell-whole (W t) (well-small cubeKids deepest t w) d root X Y Z in
+      let whole-look : look (W t) (cellAt d p) root % 2 ^ 16 ≡ look (W t) (cellAt d p) root = cell-whole (W t) (well-small cubeKids deepest t w) d root (C .x) (C .y) (C .z) in
       cases (ℕ-discrete (look (W t) (cellAt d p) root) v)
-      (λ z. rw (l, whole-look, eq-eqb (look (W t) (cellAt d p) root) v z) (have-end t v d X Y Z root root (makeOf cubeKids t v (cellAt d p) root 1 0)))
+      (λ z. rw (l, whole-look, eq-eqb (look (W t) (cellAt d p) root) v z) (have-end t v C root root (makeOf cubeKids t v (cellAt d p) root 1 0)))
       (λ z. rw (l, whole-look, ne-eqb (look (W t) (cellAt d p) root) v z)
       (go w n low (planBy t v (cellAt d p) root) (planOf cubeKids t v (cellAt d p) root) refl refl
-      (plan-agree deepest t w v high root (let h = deep t root d p n in omega arith) (cube-cell d X Y Z))))
+      (plan-agree deepest t w v high root (let h = deep t root d p n in omega arith) (cube-cell d (C .x) (C .y) (C .z)))))
     where
       go : WellFormed cubeKids deepest t → lookNo t root d p ≡ 0 → heightAt (W t) root ≤ d → (b : planning.Plan) (r : Need) → planBy t v (cellAt d p) root ≡ b
-          → planOf cubeKids t v (cellAt d p) root ≡ r → Agree (suc d) b r → editPast t v d X Y Z root b ≡ ended t r (makeOf cubeKids t v (cellAt d p) root 1 0)
-      go w n low b r eb er (agree-have {r = s}) = have-end t v d X Y Z s root (makeOf cubeKids t v (cellAt d p) root 1 0)
+          → planOf cubeKids t v (cellAt d p) root ≡ r → Agree (suc d) b r → editPast t v C root b ≡ ended t r (makeOf cubeKids t v (cellAt d p) root 1 0)
+      go w n low b r eb er (agree-have {r = s}) = have-end t v C s root (makeOf cubeKids t v (cellAt d p) root 1 0)
       go w n low b r eb er (agree-lack {k = k} {s = s} one most) =
-          lack-end t v d X Y Z k s root (makeOf cubeKids t v (cellAt d p) root 1 0) one
-          (λ l. make-path t v d X Y Z root k s 1 0 (deep t root d p n)
-          ∙ ap (λ (i : planning.Plan). makeBy t v (cellAt d p) root (i .new) (i .id) 1 0) (sym eb)
-          ∙ make-same deepest (omega arith) t w v high root k 1 0 (root-there t root d p n) low (deep t root d p n) (cube-cell d X Y Z) er
+          lack-end t v C k s root (makeOf cubeKids t v (cellAt d p) root 1 0) one
+          (λ l. make-path t v C root (planned k s) 1 0 (deep t root d p n)
+          ∙ ap (λ (i : planning.Plan). makeBy t v (cellAt d p) root i 1 0) (sym eb)
+          ∙ make-same deepest (omega arith) t w v high root k 1 0 (root-there t root d p n) low (deep t root d p n) (cube-cell d (C .x) (C .y) (C .z)) er
           (let z = w .sized .least in omega arith) (omega arith) (omega arith))
 
-  module _ (x y z : ℕ) (ex : x ≡ coordOf (p .x)) (ey : y ≡ coordOf (p .y)) (ez : z ≡ coordOf (p .z)) where
-    -- a cell that is not refused is inside, where a coordinate's number is the coordinate
-    past-same : lookNo t root d p ≡ 0 → editPast t v d x y z root (resultBy t v d x y z root) ≡ editPast t v d X Y Z root (resultBy t v d X Y Z root)
-    past-same n =
-        let i = look-inside (t .arena) (t .nodes .kids) (t .nodes .facts) (t .find) root d p n in
-        let a = ex ∙ coord-is d (p .x) (i .0) in
-        let b = ey ∙ coord-is d (p .y) (i .1) in
-        let c = ez ∙ coord-is d (p .z) (i .2) in
-        ap₂ (λ (j k : ℕ). editPast t v d j k z root (resultBy t v d j k z root)) a b
-        ∙ ap (λ (k : ℕ). editPast t v d X Y k root (resultBy t v d X Y k root)) c
+  -- a cell that is not refused is inside, where a coordinate's number is the coordinate
+  past-same : lookNo t root d p ≡ 0 → editPast t v (toCell p d) root (resultBy t v (toCell p d) root) ≡ editPast t v C root (resultBy t v C root)
+  past-same n = ap (λ (c : Cell). editPast t v c root (resultBy t v c root)) (cell-same (t .arena) (t .nodes .kids) (t .nodes .facts) (t .find) root d p n)
 
-    no-at : lookNoAt t root d x y z ≡ lookNo t root d p
-    no-at =
-        ap₂ (λ (i j : ℕ). lookNoAt t root d i j z) ex ey ∙ ap (lookNoAt t root d (coordOf (p .x)) (coordOf (p .y))) ez
-        ∙ look-no-same (t .arena) (t .nodes .kids) (t .nodes .facts) (t .find) root d p
+  well-same : WellFormed cubeKids deepest t → editBy t root (toCell p d) v ≡ editOf t root d p v
+  well-same w = cases (ℕ-discrete (lookNo t root d p) 0)
+      (λ n. cases (decLe (heightAt (W t) root) d)
+      (λ l. low-by t root d v p n (le-leb (heightAt (W t) root) d l) ∙ past-same n
+      ∙ result-same w n l ∙ sym (low-of t root d v p n (le-leb (heightAt (W t) root) d l)))
+      (λ l. tall-same t root d v p n (lt-leb (heightAt (W t) root) d (omega arith))))
+      (λ n. refused-same t root d v p n)
 
-    well-same : WellFormed cubeKids deepest t → editBy t root d x y z v ≡ editOf t root d p v
-    well-same w = cases (ℕ-discrete (lookNo t root d p) 0)
-        (λ n. cases (decLe (heightAt (W t) root) d)
-        (λ l. low-by t root d x y z v p no-at n (le-leb (heightAt (W t) root) d l) ∙ past-same n
-        ∙ result-same w n l ∙ sym (low-of t root d v p n (le-leb (heightAt (W t) root) d l)))
-        (λ l. tall-same t root d x y z v p no-at n (lt-leb (heightAt (W t) root) d (omega arith))))
-        (λ n. refused-same t root d x y z v p no-at n)
-
-    edit-same : Fair cubeKids deepest t → editBy t root d x y z v ≡ editOf t root d p v
-    edit-same (inl u) = refused-same t root d x y z v p no-at (λ n. let e = unsized-no t root d p u in omega arith)
-    edit-same (inr w) = well-same w
+  edit-same : Fair cubeKids deepest t → editBy t root (toCell p d) v ≡ editOf t root d p v
+  edit-same (inl u) = refused-same t root d v p (λ n. let e = unsized-no t root d p u in omega arith)
+  edit-same (inr w) = well-same w
 
 -- the contract of the code
-pub voxel-law : (t : Tables) (root d : ℕ) (p : IVec3) (v x y z : ℕ) (r : Out) → v < 65536 → mag (p .x) < 2 ^ 31 → mag (p .y) < 2 ^ 31 → mag (p .z) < 2 ^ 31
-    → x ≡ coordOf (back (p .x)) → y ≡ coordOf (back (p .y)) → z ≡ coordOf (back (p .z)) → r ≡ editBy t root d x y z v → Fair cubeKids deepest t → r ≡ editOf t root d p v
-voxel-law t root d p v x y z r hv hx hy hz ex ey ez er fair =
-    let i : x ≡ coordOf (p .x) = ex ∙ ap coordOf (toZ-ofZ w32 (p .x) (record { sfits = hx })) in
-    let j : y ≡ coordOf (p .y) = ey ∙ ap coordOf (toZ-ofZ w32 (p .y) (record { sfits = hy })) in
-    let k : z ≡ coordOf (p .z) = ez ∙ ap coordOf (toZ-ofZ w32 (p .z) (record { sfits = hz })) in
-    er ∙ edit-same t root d v p (omega arith) x y z i j k fair
+pub voxel-law : (t : Tables) (root d : ℕ) (p : IVec3) (v : ℕ) (c : Cell) (r : Out) → v < 65536 → c ≡ toCell p d → r ≡ editBy t root c v → Fair cubeKids deepest t → r ≡ editOf t root d p v
+voxel-law t root d p v c r hv ec er fair = er ∙ ap (λ (i : Cell). editBy t root i v) ec ∙ edit-same t root d v p (omega arith) fair

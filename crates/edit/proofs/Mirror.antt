@@ -253,16 +253,16 @@ lack-plan tallest t w x d z = rw (ne-eqb x 0 d, find-leaf tallest t w x d, eq-eq
 
 -- ---- the making
 
-make-zero : (t : Tables) (x : ℕ) (p : List ℕ) (a s h q : ℕ) → makeBy t x p a 0 s h q ≡ said 0 s (owedBy t (s ∷ []))
+make-zero : (t : Tables) (x : ℕ) (p : List ℕ) (a s h q : ℕ) → makeBy t x p a (planned 0 s) h q ≡ said 0 s (owedBy t (s ∷ []))
 unfolding makeBy
 make-zero t x [] a s h q = refl
 make-zero t x (c ∷ p) a s h q = refl
 
-make-more : (t : Tables) (x c : ℕ) (p : List ℕ) (a k s h q : ℕ) → makeBy t x (c ∷ p) a (suc k) s h q ≡ upBy (makeBy t x p (part (W t) a c) k s 0 1) (eightParts (W t) a) c h q
+make-more : (t : Tables) (x c : ℕ) (p : List ℕ) (a k s h q : ℕ) → makeBy t x (c ∷ p) a (planned (suc k) s) h q ≡ upBy (makeBy t x p (part (W t) a c) (planned k s) 0 1) (eightParts (W t) a) c h q
 unfolding makeBy
 make-more t x c p a k s h q = let e : suc k - 1 ≡ k = omega arith in rw (e, ne-eqb (suc k) 0 (omega arith))
 
-make-leaf : (t : Tables) (x a k s h q : ℕ) → makeBy t x [] a (suc k) s h q ≡ leafAnewBy t x h q
+make-leaf : (t : Tables) (x a k s h q : ℕ) → makeBy t x [] a (planned (suc k) s) h q ≡ leafAnewBy t x h q
 unfolding makeBy
 make-leaf t x a k s h q = rw (ne-eqb (suc k) 0 (omega arith))
 
@@ -310,21 +310,21 @@ module _ (tallest : ℕ) (high : tallest ≤ 900) (t : Tables) (w : WellFormed c
     owed-live s (inr z) y e o = cases (ℕ-discrete y s) (λ q. subst (λ (i : ℕ). Live (cap t) (W t) i) (sym q) z) (λ q. absurd (omega (arith, occ-there y s [] q, occ-nil y)))
 
     step-have : (s : ℕ) → Plan cubeKids (cap t) (W t) x p (part (W t) a c) (have s) → needOf cubeKids t (replace (part (W t) a) c s) ≡ lack k
-        → makeBy t x (c ∷ p) a (upPlan t (eightParts (W t) a) c (planned 0 s) .new) (upPlan t (eightParts (W t) a) c (planned 0 s) .id) h q
+        → makeBy t x (c ∷ p) a (upPlan t (eightParts (W t) a) c (planned 0 s)) h q
         ≡ over cubeKids tallest t kids-fit two w x small c a h q (said 0 s (owed t s))
     step-have s u e =
         let r = low-have cubeKids tallest t kids-fit two w x small d c a s k p l low b cell u e in
         let one = r .1 in
         let f = replace (part (W t) a) c s in
         let z : upPlan t (eightParts (W t) a) c (planned 0 s) ≡ planned 1 s = up-have tallest t w x small a c s b ∙ ⊎-elim (λ y. absurd (have-lack (sym (y .1) ∙ e))) (λ y. y .1) (need-by tallest t w f s) in
-        let o : makeBy t x p (part (W t) a c) 0 s 0 1 ≡ said 0 s (owed t s) =
+        let o : makeBy t x p (part (W t) a c) (planned 0 s) 0 1 ≡ said 0 s (owed t s) =
         make-zero t x p (part (W t) a c) s 0 1
         ∙ ap (said 0 s) (each-same tallest (s ∷ []) t [] (omega arith) inv (wf-content cubeKids tallest t w) (owed-live s (part-s s u)) ∙ each-cons t s [] ∙ each-nil (owed t s)) in
         rw z (make-more t x c p a 0 s h q ∙ ap (λ (y : Out). upBy y (eightParts (W t) a) c h q) o
         ∙ over-same d c a 0 h q p (said 0 s (owed t s)) l low b cell tall (omega arith) few held (r .0))
 
-    step-lack : (j s : ℕ) → 1 ≤ j → j ≤ 1000 → suc j ≡ k → Done cubeKids tallest t x p (part (W t) a c) j 0 1 new → makeBy t x p (part (W t) a c) j s 0 1 ≡ new
-        → makeBy t x (c ∷ p) a (upPlan t (eightParts (W t) a) c (planned j s) .new) (upPlan t (eightParts (W t) a) c (planned j s) .id) h q
+    step-lack : (j s : ℕ) → 1 ≤ j → j ≤ 1000 → suc j ≡ k → Done cubeKids tallest t x p (part (W t) a c) j 0 1 new → makeBy t x p (part (W t) a c) (planned j s) 0 1 ≡ new
+        → makeBy t x (c ∷ p) a (upPlan t (eightParts (W t) a) c (planned j s)) h q
         ≡ over cubeKids tallest t kids-fit two w x small c a h q new
     step-lack j s one top e done ih =
         rw (up-lack tallest t w x small a c j s one top) (make-more t x c p a j s h q ∙ ap (λ (y : Out). upBy y (eightParts (W t) a) c h q) ih
@@ -332,19 +332,19 @@ module _ (tallest : ℕ) (high : tallest ≤ 900) (t : Tables) (w : WellFormed c
 
     step-same : (B : ℕ) (bp : planning.Plan) (r : Need) → B ≤ 1000 → Agree B bp r → Plan cubeKids (cap t) (W t) x p (part (W t) a c) r
         → ((j : ℕ) → r ≡ lack j → t .arena .live + j < cap t → Done cubeKids tallest t x p (part (W t) a c) j 0 1 new)
-        → ((j : ℕ) → r ≡ lack j → t .arena .live + j < cap t → makeBy t x p (part (W t) a c) (bp .new) (bp .id) 0 1 ≡ new)
+        → ((j : ℕ) → r ≡ lack j → t .arena .live + j < cap t → makeBy t x p (part (W t) a c) bp 0 1 ≡ new)
         → upNeed (λ s. needOf cubeKids t (replace (part (W t) a) c s)) r ≡ lack k
-        → makeBy t x (c ∷ p) a (upPlan t (eightParts (W t) a) c bp .new) (upPlan t (eightParts (W t) a) c bp .id) h q ≡ over cubeKids tallest t kids-fit two w x small c a h q (lowOf t r new)
+        → makeBy t x (c ∷ p) a (upPlan t (eightParts (W t) a) c bp) h q ≡ over cubeKids tallest t kids-fit two w x small c a h q (lowOf t r new)
     unfolding upNeed lowOf
     step-same B bp r top (agree-have {r = s}) u done ih e = step-have s u e
     step-same B bp r top (agree-lack {k = j} {s = s} one most) u done ih e =
         let z : suc j ≡ k = lack-inj e in
         step-lack j s one (omega arith) z (done j refl (omega arith)) (ih j refl (omega arith))
 
-  leaf-case : (a k h q : ℕ) → cellNeed t x ≡ lack k → t .arena .live + k < cap t → makeBy t x [] a (cellPlan t x .new) (cellPlan t x .id) h q ≡ leafAnew t x h q
+  leaf-case : (a k h q : ℕ) → cellNeed t x ≡ lack k → t .arena .live + k < cap t → makeBy t x [] a (cellPlan t x) h q ≡ leafAnew t x h q
   leaf-case a k h q e room = go (cell-came cubeKids tallest t kids-fit kids-some w x) (cell-agree tallest t w x small)
     where
-      go : Cell-came cubeKids t x → Agree 1 (cellPlan t x) (cellNeed t x) → makeBy t x [] a (cellPlan t x .new) (cellPlan t x .id) h q ≡ leafAnew t x h q
+      go : Cell-came cubeKids t x → Agree 1 (cellPlan t x) (cellNeed t x) → makeBy t x [] a (cellPlan t x) h q ≡ leafAnew t x h q
       go (cell-none z r) g = absurd (have-lack (sym r ∙ e))
       go (cell-leaf r d y s) g = absurd (have-lack (sym s ∙ e))
       go (cell-lack d z y s) g =
@@ -353,7 +353,7 @@ module _ (tallest : ℕ) (high : tallest ≤ 900) (t : Tables) (w : WellFormed c
 
   pub make-same : {d : ℕ} {p : List ℕ} (a k h q : ℕ) → LiveOr0 (cap t) (W t) a → heightAt (W t) a ≤ d → d ≤ tallest → Cell cubeKids d p
       → planOf cubeKids t x p a ≡ lack k → t .arena .live + k < cap t → h ≤ mostHolds → 1 ≤ h + q
-      → makeBy t x p a (planBy t x p a .new) (planBy t x p a .id) h q ≡ makeOf cubeKids t x p a h q
+      → makeBy t x p a (planBy t x p a) h q ≡ makeOf cubeKids t x p a h q
   unfolding planBy planOf makeOf
   make-same a k h q l low tall here e room few held = leaf-case a k h q e room
   make-same a k h q l low tall (down {d = d} {c = c} {p = p} b cell) e room few held =

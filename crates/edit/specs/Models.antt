@@ -5,6 +5,7 @@ use lib.Dec.{eqb, leb}
 use Rattle.basics.specs.Pick.{pick}
 use Rattle.nodes.specs.Words.{factOf, factPut, holds, slot}
 use Rattle.nodes.specs.Values.{heightAt}
+use Rattle.paths.specs.declared.Cell.{Cell}
 use Rattle.arena.specs.Tables.{Tables, tables, W}
 use Rattle.arena.specs.Calls.{Out, said, refused, fullOf, freeSlots}
 use Rattle.arena.specs.Models.{moreOf}
@@ -19,25 +20,25 @@ grantBy t b =
     pick (eqb (b .new) 0) (pick (eqb (b .id) 0) 0 (pick (fullOf (W t) (slot (b .id))) 10 0))
     (pick (leb (b .new) (freeSlots (t .arena))) 0 11)
 
--- refusals 1, 2, 3, 4 and 8, of coordinates as numbers
-unfoldable pub editNoAt : Tables → ℕ → ℕ → ℕ → ℕ → ℕ → ℕ
-editNoAt t root d x y z =
-    pick (eqb (lookNoAt t root d x y z) 0) (pick (leb (heightAt (W t) root) d) 0 8) (lookNoAt t root d x y z)
+-- refusals 1, 2, 3, 4 and 8
+unfoldable pub editNoAt : Tables → ℕ → Cell → ℕ
+editNoAt t root c =
+    pick (eqb (lookNoAt t root c) 0) (pick (leb (heightAt (W t) root) (c .depth)) 0 8) (lookNoAt t root c)
 
 -- one hold more; EMPTY: nothing
 unfoldable pub grantOf : List ℕ → ℕ → List ℕ
 grantOf f s = pick (eqb s 0) f (factPut f (slot s) holds (moreOf (factOf f (slot s) holds)))
 
 -- a result that is there gets a hold; else it is made
-unfoldable pub answerBy : Tables → ℕ → ℕ → ℕ → ℕ → ℕ → ℕ → Plan → Out
-answerBy t v d x y z root b =
+unfoldable pub answerBy : Tables → ℕ → Cell → ℕ → Plan → Out
+answerBy t v c root b =
     pick (eqb (b .new) 0) (said 0 (b .id) (tables (t .arena) (t .nodes .kids) (grantOf (t .nodes .facts) (b .id)) (t .find)))
-    (makeAt t v d x y z root (b .new) (b .id) 1 0)
+    (makeAt t v c root b 1 0)
 
 -- once the refusals before 10 are past
-unfoldable pub editPast : Tables → ℕ → ℕ → ℕ → ℕ → ℕ → ℕ → Plan → Out
-editPast t v d x y z root b = pick (eqb (grantBy t b) 0) (answerBy t v d x y z root b) (refused (grantBy t b) t)
+unfoldable pub editPast : Tables → ℕ → Cell → ℕ → Plan → Out
+editPast t v c root b = pick (eqb (grantBy t b) 0) (answerBy t v c root b) (refused (grantBy t b) t)
 
-unfoldable pub editBy : Tables → ℕ → ℕ → ℕ → ℕ → ℕ → ℕ → Out
-editBy t root d x y z v =
-    pick (eqb (editNoAt t root d x y z) 0) (editPast t v d x y z root (resultBy t v d x y z root)) (refused (editNoAt t root d x y z) t)
+unfoldable pub editBy : Tables → ℕ → Cell → ℕ → Out
+editBy t root c v =
+    pick (eqb (editNoAt t root c) 0) (editPast t v c root (resultBy t v c root)) (refused (editNoAt t root c) t)

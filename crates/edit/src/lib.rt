@@ -6,15 +6,16 @@ use arena::slot_of;
 use basics::MOST_HOLDS;
 use edit_make::make;
 use edit_plan::Plan;
-use edit_plan::result;
+use edit_plan::plan_edit;
 use ids::BlockId;
 use new_node::free_slots;
 use new_value::height_at;
 use nodes::HOLDS;
 use nodes::fact;
 use nodes_write::put_fact;
+use paths::Cell;
 use paths::IVec3;
-use paths::coord;
+use paths::to_cell;
 use read_cell::look_no;
 use std::num::wrapping_add_u64;
 ghost use mathlib.Core.Path.{_≡_};
@@ -43,25 +44,15 @@ fn grant_no(a: Arena, kids: &[u64], facts: &[u64], find: &[u16], p: Plan) -> u32
     11
 }
 
-// Refusals 1, 2, 3, 4 and 8.
-fn edit_no(
-    a: Arena,
-    kids: &[u64],
-    facts: &[u64],
-    find: &[u16],
-    root: u64,
-    d: u32,
-    x: u32,
-    y: u32,
-    z: u32,
-) -> u32
-    ensures { λ r. ⌜ r ≡ editNoAt (before a kids facts find) root d x y z ⌝ }
+// Refusals 1, 2, 3, 4 and 8, which are told before the dry run.
+fn early_no(a: Arena, kids: &[u64], facts: &[u64], find: &[u16], root: u64, cell: Cell) -> u32
+    ensures { λ r. ⌜ r ≡ editNoAt (before a kids facts find) root cell ⌝ }
 {
-    let no = look_no(a, kids, facts, find, root, d, x, y, z);
+    let no = look_no(a, kids, facts, find, root, cell);
     if no != 0 {
         return no;
     }
-    if height_at(facts, root) <= d as u64 {
+    if height_at(facts, root) <= cell.depth as u64 {
         return 0;
     }
     8
@@ -79,20 +70,17 @@ fn grant(facts: &mut [u64], id: u64)
 }
 
 // The answer: a result that is there gets a hold; else it is made.
-fn answer(
+fn hold_or_make(
     a: Arena,
     kids: &mut [u64],
     facts: &mut [u64],
     find: &mut [u16],
     root: u64,
-    d: u32,
-    x: u32,
-    y: u32,
-    z: u32,
+    cell: Cell,
     v: u64,
     p: Plan,
 ) -> Made
-    ensures { λ r. ⌜ made r kids facts find ≡ answerBy (before a kids facts find) v d x y z root p ⌝ }
+    ensures { λ r. ⌜ made r kids facts find ≡ answerBy (before a kids facts find) v cell root p ⌝ }
 {
     if p.new == 0 {
         grant(facts, p.id);
@@ -102,24 +90,21 @@ fn answer(
             arena: a,
         };
     }
-    make(a, kids, facts, find, root, d, x, y, z, v, p.new, p.id, 1, 0)
+    make(a, kids, facts, find, root, cell, v, p, 1, 0)
 }
 
-// The edit once the refusals before 10 are past.
-fn edit_past(
+// The edit by its plan, once the refusals before 10 are past.
+fn edit_planned(
     a: Arena,
     kids: &mut [u64],
     facts: &mut [u64],
     find: &mut [u16],
     root: u64,
-    d: u32,
-    x: u32,
-    y: u32,
-    z: u32,
+    cell: Cell,
     v: u64,
     p: Plan,
 ) -> Made
-    ensures { λ r. ⌜ made r kids facts find ≡ editPast (before a kids facts find) v d x y z root p ⌝ }
+    ensures { λ r. ⌜ made r kids facts find ≡ editPast (before a kids facts find) v cell root p ⌝ }
 {
     let no = grant_no(a, kids, facts, find, p);
     if no != 0 {
@@ -129,25 +114,22 @@ fn edit_past(
             arena: a,
         };
     }
-    answer(a, kids, facts, find, root, d, x, y, z, v, p)
+    hold_or_make(a, kids, facts, find, root, cell, v, p)
 }
 
-// The edit of a cell given by numbers, on any tables.
-fn edit_any(
+// The edit of a cell, on any tables.
+fn edit_cell(
     a: Arena,
     kids: &mut [u64],
     facts: &mut [u64],
     find: &mut [u16],
     root: u64,
-    d: u32,
-    x: u32,
-    y: u32,
-    z: u32,
+    cell: Cell,
     v: u16,
 ) -> Made
-    ensures { λ r. ⌜ made r kids facts find ≡ editBy (before a kids facts find) root d x y z v ⌝ }
+    ensures { λ r. ⌜ made r kids facts find ≡ editBy (before a kids facts find) root cell v ⌝ }
 {
-    let no = edit_no(a, kids, facts, find, root, d, x, y, z);
+    let no = early_no(a, kids, facts, find, root, cell);
     if no != 0 {
         return Made {
             no: no,
@@ -155,8 +137,8 @@ fn edit_any(
             arena: a,
         };
     }
-    let p = result(a, kids, facts, find, root, d, x, y, z, v);
-    edit_past(a, kids, facts, find, root, d, x, y, z, v as u64, p)
+    let p = plan_edit(a, kids, facts, find, root, cell, v);
+    edit_planned(a, kids, facts, find, root, cell, v as u64, p)
 }
 
 // The root with the cell at the position set to the value, or a refusal: 1, 2, 3, 4, 8, 10 or 11. The root is not used up; the answer has one new
@@ -174,16 +156,13 @@ pub fn set_voxel(
     ensures { λ r. ⌜ (Fair cubeKids deepest (before arena kids facts find)
         → made r kids facts find ≡ editOf (before arena kids facts find) (root .0) depth position value) ⌝ }
 {
-    edit_any(
+    edit_cell(
         arena,
         kids,
         facts,
         find,
         root.0,
-        depth,
-        coord(position.x),
-        coord(position.y),
-        coord(position.z),
+        to_cell(position, depth),
         value,
     )
 }

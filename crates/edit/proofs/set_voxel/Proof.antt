@@ -6,10 +6,5 @@ use Rattle.edit.proofs.set_voxel.Tie as tie
 pub set-voxel-spec : {M : Type 1} → statement M
 set-voxel-spec =
     tie.close
-    (tie.spec (λ c κs. search needs) (λ c κs. search needs) (λ c κs. search needs) (λ c κs. search needs) (λ c. search needs)
-    (λ c. search needs) (λ c. search needs)
-    (λ c.
-    let start = c .before .before .before .before .before .before .before .before .before .before .before .before .before .before .before .before .before .before .before in
-    let position = start .good .1 .1 .1 .1 .1 .1 .0 in
-    let value = start .fits .value in
-    search voxel-law))
+    (tie.spec (λ c κs. search needs) (λ c κs. search needs) (λ c. search needs) (λ c. search needs) (λ c. search needs)
+    (λ c. search voxel-law))

@@ -3,26 +3,27 @@ use mathlib.Core.Path.{_≡_, ap}
 use mathlib.Core.List.{List}
 use Prim.Native.Nat.{ℕ}
 use Rattle.basics.proofs.Rungs.{eq-via, ne-via}
+use Rattle.paths.specs.declared.Cell.{Cell}
 use Rattle.arena.specs.Calls.{Out, refused}
 use Rattle.arena.specs.Tables.{tables}
 use Rattle.arena.specs.declared.Arena.{Arena}
 use Rattle.edit.specs.Models.{grantBy, answerBy, editPast}
 use Rattle.edit_plan.specs.declared.Plan.{Plan}
-use Rattle.edit.proofs.edit_past.Statement.{statement}
-use Rattle.edit.proofs.edit_past.Tie as tie
+use Rattle.edit.proofs.edit_planned.Statement.{statement}
+use Rattle.edit.proofs.edit_planned.Tie as tie
 
-module _ (a : Arena) (k f e : List ℕ) (v d x y z root : ℕ) (b : Plan) (o : ℕ) (eo : o ≡ grantBy (tables a k f e) b) where
-  no-hold : (o ≡ 0 → ⊥) → refused o (tables a k f e) ≡ editPast (tables a k f e) v d x y z root b
+module _ (a : Arena) (k f e : List ℕ) (v root : ℕ) (c : Cell) (b : Plan) (o : ℕ) (eo : o ≡ grantBy (tables a k f e) b) where
+  no-hold : (o ≡ 0 → ⊥) → refused o (tables a k f e) ≡ editPast (tables a k f e) v c root b
   unfolding editPast
   no-hold n = rw (ne-via o (grantBy (tables a k f e) b) 0 eo n) (ap (λ (i : ℕ). refused i (tables a k f e)) eo)
 
-  past : (r : Out) → o ≡ 0 → r ≡ answerBy (tables a k f e) v d x y z root b → r ≡ editPast (tables a k f e) v d x y z root b
+  past : (r : Out) → o ≡ 0 → r ≡ answerBy (tables a k f e) v c root b → r ≡ editPast (tables a k f e) v c root b
   unfolding editPast
   past r n er = rw (eq-via o (grantBy (tables a k f e) b) 0 eo n) er
 
 ruleset mine = (no-hold, past)
 
-pub edit-past-spec : {M : Type 1} → statement M
-edit-past-spec =
+pub edit-planned-spec : {M : Type 1} → statement M
+edit-planned-spec =
     tie.close
     (tie.spec (λ c κs. search needs) (λ c. search needs) (λ c. search needs) (λ c. search needs) (λ c. search mine) (λ c κs. search needs) (λ c. search needs) (λ c. search needs) (λ c. search needs) (λ c. search mine))

@@ -3,27 +3,28 @@ use mathlib.Core.Path.{_≡_, ap}
 use mathlib.Core.List.{List}
 use Prim.Native.Nat.{ℕ}
 use borrow.Author.Tests.{eq-eqb, ne-eqb}
+use Rattle.paths.specs.declared.Cell.{Cell}
 use Rattle.arena.specs.Calls.{Out, said}
 use Rattle.arena.specs.Tables.{tables}
 use Rattle.arena.specs.declared.Arena.{Arena}
 use Rattle.edit_make.specs.Models.{makeAt}
 use Rattle.edit.specs.Models.{grantOf, answerBy}
 use Rattle.edit_plan.specs.declared.Plan.{Plan}
-use Rattle.edit.proofs.answer.Statement.{statement}
-use Rattle.edit.proofs.answer.Tie as tie
+use Rattle.edit.proofs.hold_or_make.Statement.{statement}
+use Rattle.edit.proofs.hold_or_make.Tie as tie
 
-module _ (a : Arena) (k f e : List ℕ) (v d x y z root : ℕ) (b : Plan) where
-  there : (g : List ℕ) → b .new ≡ 0 → g ≡ grantOf f (b .id) → said 0 (b .id) (tables a k g e) ≡ answerBy (tables a k f e) v d x y z root b
+module _ (a : Arena) (k f e : List ℕ) (v root : ℕ) (c : Cell) (b : Plan) where
+  there : (g : List ℕ) → b .new ≡ 0 → g ≡ grantOf f (b .id) → said 0 (b .id) (tables a k g e) ≡ answerBy (tables a k f e) v c root b
   unfolding answerBy
   there g n eg = rw (eq-eqb (b .new) 0 n) (ap (λ (i : List ℕ). said 0 (b .id) (tables a k i e)) eg)
 
-  anew : (r : Out) → (b .new ≡ 0 → ⊥) → r ≡ makeAt (tables a k f e) v d x y z root (b .new) (b .id) 1 0 → r ≡ answerBy (tables a k f e) v d x y z root b
+  anew : (r : Out) → (b .new ≡ 0 → ⊥) → r ≡ makeAt (tables a k f e) v c root b 1 0 → r ≡ answerBy (tables a k f e) v c root b
   unfolding answerBy
   anew r n er = rw (ne-eqb (b .new) 0 n) er
 
 ruleset mine = (there, anew)
 
-pub answer-spec : {M : Type 1} → statement M
-answer-spec =
+pub hold-or-make-spec : {M : Type 1} → statement M
+hold-or-make-spec =
     tie.close
     (tie.spec (λ c κs. search needs) (λ c. search needs) (λ c. search mine) (λ c κs. search needs) (λ c. search needs) (λ c. search needs) (λ c. search needs) (λ c. search mine))

@@ -1,0 +1,32 @@
+use borrow.Author.Needs.{needs}
+use mathlib.Core.Path.{_≡_, ap, _∙_}
+use mathlib.Core.List.{List}
+use Prim.Native.Nat.{ℕ}
+use Rattle.basics.proofs.Rungs.{eq-via, ne-via}
+use Rattle.paths.specs.declared.Cell.{Cell}
+use Rattle.arena.specs.Calls.{Out, refused}
+use Rattle.arena.specs.Tables.{tables}
+use Rattle.arena.specs.declared.Arena.{Arena}
+use Rattle.edit_plan.specs.Models.{resultBy}
+use Rattle.edit_plan.specs.declared.Plan.{Plan}
+use Rattle.edit.specs.Models.{editNoAt, editPast, editBy}
+use Rattle.edit.proofs.edit_cell.Statement.{statement}
+use Rattle.edit.proofs.edit_cell.Tie as tie
+
+module _ (a : Arena) (k f e : List ℕ) (root v : ℕ) (c : Cell) (o : ℕ) (eo : o ≡ editNoAt (tables a k f e) root c) where
+  no-edit : (o ≡ 0 → ⊥) → refused o (tables a k f e) ≡ editBy (tables a k f e) root c v
+  unfolding editBy
+  no-edit n = rw (ne-via o (editNoAt (tables a k f e) root c) 0 eo n) (ap (λ (i : ℕ). refused i (tables a k f e)) eo)
+
+  past : (b : Plan) (r : Out) → o ≡ 0 → b ≡ resultBy (tables a k f e) v c root → r ≡ editPast (tables a k f e) v c root b
+      → r ≡ editBy (tables a k f e) root c v
+  unfolding editBy
+  past b r n eb er = rw (eq-via o (editNoAt (tables a k f e) root c) 0 eo n) (er ∙ ap (editPast (tables a k f e) v c root) eb)
+
+ruleset mine = (no-edit, past)
+
+pub edit-cell-spec : {M : Type 1} → statement M
+edit-cell-spec =
+    tie.close
+    (tie.spec (λ c κs. search needs) (λ c. search needs) (λ c. search needs) (λ c. search needs) (λ c. search mine) (λ c κs. search needs)
+    (λ c κs. search needs) (λ c. search needs) (λ c. search needs) (λ c. search needs) (λ c. search mine))
