@@ -1,6 +1,6 @@
 -- A path in one word: how it is made, and how it is taken apart level by level.
 use Prim.Native.Nat.{ℕ, zero, suc, _+_, _-_, _*_, _/_, _%_, _^_, _≤_, _<_}
-use native.Mathlib.Nat.{mod-lt, lt-of-le-of-lt}
+use native.Mathlib.Nat.{mod-lt, pow-succ', lt-of-le-of-lt}
 use native.Mathlib.Decide.{ℕ-discrete}
 use native.Mathlib.Omega.{arith}
 use mathlib.Core.Path.{_≡_, _∙_, refl, sym, ap}
@@ -49,10 +49,10 @@ spread-lt v = lt-of-le-of-lt (and-le-r v 0x820820820) (omega arith)
 
 -- ---- the word of six levels from the spaced coordinates, and of fewer levels by a shift
 
-word-sum : (n : ℕ) (c : Cell) → pathWord n c ≡ spaced n (c .x) + 2 * spaced n (c .y) + 4 * spaced n (c .z)
+word-sum : (n : ℕ) (c : Cell) → pathWord n c ≡ spaced n (c .x) + 2 * spaced n (c .y) + 4 * spaced n (c .z) + 64 ^ n
 unfolding pathWord spaced octant
 word-sum zero c = refl
-word-sum (suc n) c = let e = word-sum n c in omega (arith, e)
+word-sum (suc n) c = let e = word-sum n c in rw (pow-succ' 64 n) (omega (arith, e))
 
 module _ (c : Cell) where
   octant-lt : (n : ℕ) → octant n (c .x) (c .y) (c .z) < 8
@@ -67,6 +67,22 @@ module _ (c : Cell) where
   unfolding pathWord
   word-first n = omega (arith, octant-lt n)
 
+  -- how many levels are left is seen by the 1
+  word-pos : (n : ℕ) → 0 < pathWord n c
+  unfolding pathWord
+  word-pos zero = omega arith
+  word-pos (suc n) = omega (arith, word-pos n)
+
+  pub word-done : (n : ℕ) → pathWord n c ≤ 1 → n ≡ 0
+  unfolding pathWord
+  word-done zero h = refl
+  word-done (suc n) h = absurd (omega (arith, word-pos n))
+
+  pub word-more : (n : ℕ) → 1 < pathWord n c → 0 < n
+  unfolding pathWord
+  word-more zero h = absurd (omega arith)
+  word-more (suc n) h = omega arith
+
   word-drop : (k n : ℕ) → pathWord (k + n) c / 2 ^ (6 * k) ≡ pathWord n c
   word-drop zero n = let e : 0 + n ≡ n = omega arith in rw e (omega arith)
   word-drop (suc k) n =
@@ -79,12 +95,12 @@ module _ (c : Cell) where
       ∙ word-drop k n
 
   pub word-is : (d i j k : ℕ) → d ≤ 6 → i ≡ 32 * spaced 6 (c .x) → j ≡ 32 * spaced 6 (c .y) → k ≡ 32 * spaced 6 (c .z)
-      → (i + 2 * j + 4 * k) / 2 ^ (41 - 6 * d) ≡ pathWord d c
+      → (i + 2 * j + 4 * k + 0x20000000000) / 2 ^ (41 - 6 * d) ≡ pathWord d c
   word-is d i j k h ei ej ek =
       let e : 41 - 6 * d ≡ 5 + 6 * (6 - d) = omega arith in
-      let s : (i + 2 * j + 4 * k) / 2 ^ 5 ≡ pathWord 6 c = let w = word-sum 6 c in omega arith in
+      let s : (i + 2 * j + 4 * k + 0x20000000000) / 2 ^ 5 ≡ pathWord 6 c = let w = word-sum 6 c in omega arith in
       let q : 6 - d + d ≡ 6 = omega arith in
-      ap (λ (n : ℕ). (i + 2 * j + 4 * k) / 2 ^ n) e
-      ∙ sym (shr-shr (i + 2 * j + 4 * k) 5 (6 * (6 - d)))
+      ap (λ (n : ℕ). (i + 2 * j + 4 * k + 0x20000000000) / 2 ^ n) e
+      ∙ sym (shr-shr (i + 2 * j + 4 * k + 0x20000000000) 5 (6 * (6 - d)))
       ∙ ap (λ (i : ℕ). i / 2 ^ (6 * (6 - d))) (s ∙ ap (λ (i : ℕ). pathWord i c) (sym q))
       ∙ word-drop (6 - d) d

@@ -15,7 +15,7 @@ use Rattle.read_cell.specs.declared.End.{End}
 use Rattle.read_cell.specs.Reading.{ended, descent, endOf}
 use Rattle.read_cell.specs.Models.{endsAt, pathWord}
 use Rattle.read_cell.proofs.Ends.{descent-end, descent-stop, descent-on}
-use Rattle.read_cell.proofs.PathWord.{word-rest, word-first}
+use Rattle.read_cell.proofs.PathWord.{word-done, word-more, word-rest, word-first}
 
 stops : (W : Words) (k : ℕ) (p : List ℕ) (a : ℕ) → endsAt a ≡ true → descent W k p a ≡ ended a k
 stops W k [] a e = descent-end W k a
@@ -52,32 +52,40 @@ module _ (W : Words) (c : Cell) (id : ℕ) where
   pub walk-first : (t : Bool) → c .depth ≤ 6 → t ≡ endsAt id → t ≡ true → ended id 0 ≡ endOf W id c
   walk-first t l e u = walk-stop 0 id t l e u walk-start
 
-  pub walk-end : (level a : ℕ) → Walked level a → c .depth ≤ 6 → c .depth ≤ level → ended a level ≡ endOf W id c
-  unfolding pathBy
-  walk-end level a k l h =
-      let q : c .depth - level ≡ 0 = omega arith in
-      walk-is (ended a level) l (sym (k ∙ ap (λ (i : ℕ). descent W level (last c i) a) q ∙ descent-end W level a))
+  module _ (level a w : ℕ) (e : w ≡ pathWord (c .depth - level) c) (k : Walked level a) where
+    pub walk-end : level ≤ c .depth → c .depth ≤ 6 → w ≤ 1 → ended a (c .depth) ≡ endOf W id c
+    unfolding pathBy
+    walk-end b l h =
+        let q : c .depth - level ≡ 0 = word-done c (c .depth - level) (subst (λ (i : ℕ). i ≤ 1) e h) in
+        let m : c .depth ≡ level = omega arith in
+        walk-is (ended a (c .depth)) l (ap (ended a) m ∙ sym (k ∙ ap (λ (i : ℕ). descent W level (last c i) a) q ∙ descent-end W level a))
 
-  module _ (level a w : ℕ) (e : w ≡ pathWord (c .depth - level) c) (k : Walked level a) (h : level < c .depth) where
-    left : c .depth - level ≡ suc (c .depth - (level + 1))
-    left = omega arith
+    module _ (h : 1 < w) where
+      more : 0 < c .depth - level
+      more = word-more c (c .depth - level) (subst (λ (i : ℕ). 1 < i) e h)
 
-    word : w ≡ pathWord (suc (c .depth - (level + 1))) c
-    word = e ∙ ap (λ (i : ℕ). pathWord i c) left
+      left : c .depth - level ≡ suc (c .depth - (level + 1))
+      left = omega (arith, more)
 
-    pub walk-rest : w / 64 ≡ pathWord (c .depth - (level + 1)) c
-    walk-rest = ap (λ (i : ℕ). i / 64) word ∙ word-rest c (c .depth - (level + 1))
+      word : w ≡ pathWord (suc (c .depth - (level + 1))) c
+      word = e ∙ ap (λ (i : ℕ). pathWord i c) left
 
-    module _ (b s : ℕ) (f : endsAt a ≡ false) (es : s ≡ slot a) (eb : b ≡ W s (w % 8)) where
-      pub walk-on : Walked (level + 1) b
-      unfolding pathBy
-      walk-on =
-          let n : ℕ = c .depth - (level + 1) in
-          let o : w % 8 ≡ octant n (c .x) (c .y) (c .z) = ap (λ (i : ℕ). i % 8) word ∙ word-first c n in
-          let m : b ≡ W (slot a) (octant n (c .x) (c .y) (c .z)) = eb ∙ ap (λ (i : ℕ). W i (w % 8)) es ∙ ap (W (slot a)) o in
-          k ∙ ap (λ (i : ℕ). descent W level (last c i) a) left
-          ∙ descent-on W level (octant n (c .x) (c .y) (c .z)) (last c n) a f
-          ∙ ap (descent W (level + 1) (last c n)) (sym m)
+      pub walk-below : level + 1 ≤ c .depth
+      walk-below = omega (arith, more)
 
-      pub walk-last : (t : Bool) → c .depth ≤ 6 → t ≡ endsAt b → t ≡ true → ended b (level + 1) ≡ endOf W id c
-      walk-last t l i u = walk-stop (level + 1) b t l i u walk-on
+      pub walk-rest : w / 64 ≡ pathWord (c .depth - (level + 1)) c
+      walk-rest = ap (λ (i : ℕ). i / 64) word ∙ word-rest c (c .depth - (level + 1))
+
+      module _ (b s : ℕ) (f : endsAt a ≡ false) (es : s ≡ slot a) (eb : b ≡ W s (w % 8)) where
+        pub walk-on : Walked (level + 1) b
+        unfolding pathBy
+        walk-on =
+            let n : ℕ = c .depth - (level + 1) in
+            let o : w % 8 ≡ octant n (c .x) (c .y) (c .z) = ap (λ (i : ℕ). i % 8) word ∙ word-first c n in
+            let m : b ≡ W (slot a) (octant n (c .x) (c .y) (c .z)) = eb ∙ ap (λ (i : ℕ). W i (w % 8)) es ∙ ap (W (slot a)) o in
+            k ∙ ap (λ (i : ℕ). descent W level (last c i) a) left
+            ∙ descent-on W level (octant n (c .x) (c .y) (c .z)) (last c n) a f
+            ∙ ap (descent W (level + 1) (last c n)) (sym m)
+
+        pub walk-last : (t : Bool) → c .depth ≤ 6 → t ≡ endsAt b → t ≡ true → ended b (level + 1) ≡ endOf W id c
+        walk-last t l i u = walk-stop (level + 1) b t l i u walk-on

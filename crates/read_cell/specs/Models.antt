@@ -30,9 +30,9 @@ unfoldable pub spaced : ℕ → ℕ → ℕ
 spaced zero x = 0
 spaced (suc n) x = bit n x + 64 * spaced n x
 
--- the child numbers of the last n levels down to the cell, six places apart, the first of them first
+-- the child numbers of the last n levels down to the cell, six places apart, the first of them first; a 1 after the last
 unfoldable pub pathWord : ℕ → Cell → ℕ
-pathWord zero c = 0
+pathWord zero c = 1
 pathWord (suc n) c = octant n (c .x) (c .y) (c .z) + 64 * pathWord n c
 
 -- ## Lookup of a cell

@@ -70,12 +70,13 @@ fn spread(x: u32) -> u64
     ((x % 64) as u64 * 0x8_1020_4081) & 0x8_2082_0820
 }
 
-// The child numbers down to the cell, the first lowest and each six places above the last.
+// The child numbers down to the cell, the first lowest and each six places above the last, and a 1 above them.
 fn path_word(cell: Cell) -> u64
     requires { ⌜ cell .depth ≤ deepest ⌝ }
     ensures { λ r. ⌜ r ≡ pathWord (cell .depth) cell ⌝ }
 {
-    (spread(cell.x) + 2 * spread(cell.y) + 4 * spread(cell.z)) >> (41 - 6 * cell.depth)
+    let sum = spread(cell.x) + 2 * spread(cell.y) + 4 * spread(cell.z) + 0x200_0000_0000;
+    sum >> (41 - 6 * cell.depth)
 }
 
 // Down from id, as level 0, to the cell: until EMPTY, a leaf, or the level of its depth. INVALID of a depth above 6.
@@ -94,7 +95,7 @@ pub fn descend(kids: &[u64], id: BlockId, cell: Cell) -> End
     let mut at = id.0;
     let mut level: u32 = 0;
     let mut word = path_word(cell);
-    while level < cell.depth {
+    while 1 < word {
         at = kid(kids, slot_of(at), (word % 8) as usize);
         level += 1;
         word = word / 64;
@@ -107,14 +108,14 @@ pub fn descend(kids: &[u64], id: BlockId, cell: Cell) -> End
     }
     End {
         id: BlockId(at),
-        level: level,
+        level: cell.depth,
     }
 }
 
 // ---- refusals
 
 // Not refusal 4: EMPTY, or in all 64 bits the id of a node now in the arena.
-pub fn is_there(c: usize, facts: &[u64], id: u64) -> bool
+pub fn is_live_or_empty(c: usize, facts: &[u64], id: u64) -> bool
     ensures { λ r. ⌜ r ≡ liveOrEmpty c (factOf (now (facts .entry))) id ⌝ }
 {
     if id == BlockId::EMPTY.0 {
@@ -141,7 +142,7 @@ pub fn look_no(arena: Arena, kids: &[u64], facts: &[u64], find: &[u16], id: u64,
     if fit(arena.capacity, kids.len(), facts.len(), find.len()) {
         if cell.depth <= DEEPEST {
             if is_inside(cell.depth, cell.x | cell.y | cell.z) {
-                if is_there(arena.capacity, facts, id) {
+                if is_live_or_empty(arena.capacity, facts, id) {
                     return 0;
                 }
                 return 4;

@@ -71,11 +71,11 @@ plane-fits at n w row plane y p c c₀ h q k e = let m : suc y * plane ≤ n * p
 
 -- ---- an octant's offset
 
-pub upto-no : (b W : ℕ) → b ≡ 0 → 0 ≡ b * W
-upto-no b W e = rw e (omega arith)
+pub times-no : (b W : ℕ) → b ≡ 0 → 0 ≡ b * W
+times-no b W e = rw e (omega arith)
 
-pub upto-yes : (b W : ℕ) → (b ≡ 0 → ⊥) → b < 2 → W ≡ b * W
-upto-yes b W h k = let e : b ≡ 1 = omega arith in rw e (omega arith)
+pub times-yes : (b W : ℕ) → (b ≡ 0 → ⊥) → b < 2 → W ≡ b * W
+times-yes b W h k = let e : b ≡ 1 = omega arith in rw e (omega arith)
 
 pub offset-sum : (row plane h c i j k m n : ℕ) → i ≡ c % 2 * h → m ≡ h * plane → j ≡ c / 2 % 2 * m → n ≡ h * row → k ≡ c / 4 * n → i + j + k ≡ offset row plane h c
 unfolding offset

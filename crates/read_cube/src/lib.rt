@@ -7,7 +7,7 @@ use ids::BlockId;
 use nodes::VALUE;
 use nodes::fact;
 use nodes::kid;
-use read_cell::is_there;
+use read_cell::is_live_or_empty;
 ghost use mathlib.Core.Path.{_≡_};
 ghost use Prim.Native.Nat.{_+_, _*_, _^_, _<_, _≤_};
 ghost use lib.Dec.{eqb};
@@ -83,7 +83,7 @@ fn fill_block(cube: &mut [u16], at: usize, n: usize, row: usize, plane: usize, v
 // ---- octants
 
 // v where the bit is 1, else 0.
-fn upto(bit: usize, v: usize) -> usize
+fn times_bit(bit: usize, v: usize) -> usize
     requires { ⌜ bit < 2 ⌝ }
     ensures { λ r. ⌜ (r ≡ bit * v) × (r ≤ v) ⌝ }
 {
@@ -95,7 +95,7 @@ fn offset(c: usize, h: usize, row: usize, plane: usize) -> usize
     requires { ⌜ (c < 8) × (h ≤ 64) × (row ≤ 64) × (plane ≤ 4096) ⌝ }
     ensures { λ r. ⌜ (r ≡ offsetOf row plane h c) × (r ≤ h * plane + h * row + h) ⌝ }
 {
-    upto(c % 2, h) + upto(c / 2 % 2, mul(h, plane)) + upto(c / 4, mul(h, row))
+    times_bit(c % 2, h) + times_bit(c / 2 % 2, mul(h, plane)) + times_bit(c / 4, mul(h, row))
 }
 
 // The stored value of child c.
@@ -241,7 +241,7 @@ fn expand_no(
 {
     if fit(arena.capacity, kids.len(), facts.len(), find.len()) {
         if depth <= DEEPEST_CUBE {
-            if is_there(arena.capacity, facts, id) {
+            if is_live_or_empty(arena.capacity, facts, id) {
                 if is_cube(depth, n) {
                     return 0;
                 }
