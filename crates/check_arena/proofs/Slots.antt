@@ -21,7 +21,7 @@ use Rattle.arena.specs.Models.{valueBy, topFor}
 use Rattle.arena.specs.Node.{leafId, branchId, LeafNode, BranchNode, Node}
 use Rattle.arena.specs.Tables.{Cleared}
 use Rattle.arena.proofs.Branches.{some-kid}
-use Rattle.arena.proofs.Branching.{sum-wraps}
+use Rattle.arena.proofs.Fresh.{sum-wraps}
 use Rattle.arena.proofs.Ids.{new-leaf, new-branch, value-node, value-zero, max-ext}
 use Rattle.new_value.proofs.Facts.{sum-facts, top-facts}
 use Rattle.check_freed.specs.Models.{allIn}
