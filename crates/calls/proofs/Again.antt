@@ -1,6 +1,6 @@
 -- After 32,766 recyclings an old id does match again: in an arena of two slots, interning one leaf and releasing it, over and over.
 use mathlib.Core.Path.{_≡_, refl, sym, ap, _∙_, subst}
-use mathlib.Core.Logic.{⊎-elim}
+use mathlib.Core.Logic.{inr, ⊎-elim}
 use mathlib.Core.Bool.{true, true≢false}
 use mathlib.Core.List.{List}
 use Prim.Native.Nat.{ℕ, zero, suc, _+_, _*_, _≤_, _<_}
@@ -22,16 +22,17 @@ use Rattle.ledger.specs.Ledger.{on, ifAccepted, holdsOn}
 use Rattle.ledger.specs.Fates.{Lives, Has, ended}
 use Rattle.ledger.proofs.Balance.{fresh-bare}
 use Rattle.ledger.proofs.Contents.{leaf-interned}
-use Rattle.ledger.proofs.Effects.{live-true, holds-live, holds-dead, on-same, accepted}
+use Rattle.ledger.proofs.Effects.{holds-dead, on-same, accepted}
 use Rattle.ledger.proofs.Found.{kid-word, slot-lives, not-ground, leaf-found}
 use Rattle.ledger.proofs.Generations.{ended-none, ended-one}
 use Rattle.ledger.proofs.Going.{leaf-makes-one, release-makes-none}
-use Rattle.ledger.proofs.Ladders.{leaf-made-no, leaf-ways, release-ways}
+use Rattle.ledger.proofs.Ladders.{leaf-made-no, leaf-ways}
 use Rattle.ledger.proofs.Refusals.{room-no}
 use Rattle.calls.specs.Does.{Does, Stepping, Since, now, then}
 use Rattle.calls.proofs.Arena.{leaf-does, release-does}
 use Rattle.calls.proofs.Compose.{since-does}
 use Rattle.calls.proofs.Follows.{gone-exactly, matches-again}
+use Rattle.calls.proofs.Living.{held-released}
 
 -- nothing is live
 abbrev Bare : Tables → Type 0
@@ -107,13 +108,7 @@ module _ (n tallest : ℕ) (m : n ≤ kidWords) where
       }
 
   release-taken : (t : Tables) (z : ℕ) → One n tallest t z → releaseOf tallest t z .no ≡ 0
-  release-taken t z o =
-      release-ways tallest t z
-      (λ f e. absurd (let s = sized-fits t (o .well .sized) in true≢false (sym s ∙ f)))
-      (λ f q e. ap (λ (x : Out). x .no) e)
-      (λ f q l e. absurd (let s = live-true t z (o .has .live) in true≢false (sym s ∙ l)))
-      (λ f q l r e. absurd (let s = holds-live t z (o .has .live) in let k = o .once in omega arith))
-      (λ f q l r k e. ap (λ (x : Out). x .no) e)
+  release-taken t z o = held-released n tallest m t (o .well) z (inr (let k = o .once in omega arith))
 
   module _ (t : Tables) (z : ℕ) (o : One n tallest t z) where
     abbrev after : Tables

@@ -5,3 +5,4 @@ pub mod Follows
 pub mod Expanding
 pub mod Roots
 pub mod Again
+pub mod Living

@@ -1,2 +1,3 @@
 pub mod Does
 pub mod Cells
+pub mod Living

@@ -2,3 +2,4 @@ pub mod Puts
 pub mod Steps
 pub mod Blocks
 pub mod Whole
+pub mod Holding

@@ -25,7 +25,7 @@ use Rattle.edit_listing.proofs.Steps.{step-accepted, step-refused}
 
 -- ---- well formed after each record
 
-value-small : (b : List ℕ) → Bytes b → (i : ℕ) → valueIn b i ≤ largestValue
+pub value-small : (b : List ℕ) → Bytes b → (i : ℕ) → valueIn b i ≤ largestValue
 unfolding valueIn word
 value-small b h i = omega (arith, h (8 * i + 6), h (8 * i + 6 + 1))
 
