@@ -10,8 +10,8 @@ use Rattle.paths.specs.declared.IVec3.{IVec3}
 use Rattle.nodes.specs.Words.{putsFrom}
 use Rattle.arena.specs.Tables.{tables}
 use Rattle.arena.specs.Calls.{Fair}
-use Rattle.edit_listing.specs.Listing.{State, stateOf, cellIn, valueIn, lineOf, stateAt, lineAt, linesAt, takenOf, Told, toldOf}
-use Rattle.edit_listing.specs.Models.{Stepped, steppedOf, lineFor, Kept, kept, oneOf, keptAt}
+use Rattle.edit_listing.specs.Listing.{State, Stepped, stateOf, cellIn, valueIn, lineOf, stateAt, lineAt, linesAt, takenOf, Told, toldOf}
+use Rattle.edit_listing.specs.Models.{steppedOf, lineFor, Kept, kept, oneOf, keptAt}
 use Rattle.edit_listing.specs.declared.Run.{Run}
 use Rattle.edit_listing.specs.declared.Step.{Step}
 use Rattle.edit_listing.specs.declared.Lined.{Lined}
@@ -61,11 +61,10 @@ module _ (run now : Run) (k₀ f₀ e₀ o₀ k f e o b : List ℕ) (i len : ℕ
         y .1 ∙ ap (λ (z : Kept). oneOf z b i) (x .1) ∙ kept-more (stateOf run k₀ f₀ e₀) b o₀ i ∙ ap (keptAt (stateOf run k₀ f₀ e₀) b o₀) (sym (add-one i)),
       )
 
-  pub told-is : (n : ℕ) → i ≡ n → Fair cubeKids deepest (tables (run .arena) k₀ f₀ e₀)
-      → _≡_ {A = Told} (record { state = stateOf now k f e; records = i; len = len; out = o }) (toldOf (stateOf run k₀ f₀ e₀) b o₀ n)
+  pub told-is : Fair cubeKids deepest (tables (run .arena) k₀ f₀ e₀)
+      → _≡_ {A = Told} (record { state = stateOf now k f e; records = i; len = len; out = o }) (toldOf (stateOf run k₀ f₀ e₀) b o₀ i)
   unfolding toldOf keptAt
-  told-is n q fair =
-      ap (λ (x : Kept). record { state = x .state; records = i; len = x .len; out = x .out }) (inv fair .1) ∙ ap (toldOf (stateOf run k₀ f₀ e₀) b o₀) q
+  told-is fair = ap (λ (x : Kept). record { state = x .state; records = i; len = x .len; out = x .out }) (inv fair .1)
 
 -- ---- how many
 

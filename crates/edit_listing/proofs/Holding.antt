@@ -87,19 +87,19 @@ module _ (s : State) (w : WellFormed cubeKids deepest (s .tables)) (alone : Alon
 -- ---- from a fresh arena
 
 module _ (c : ℕ) (k f e : List ℕ) (fit : fitOf c (length k) (length f) (length e) ≡ true) where
-  start-alone : Alone (startOf c k f e)
+  start-alone : Alone (startOf c k f e .state)
   unfolding startOf freshOf
   start-alone y = fresh-made cubeKids deepest m8 (fresh c k f e (rw fit)) .1 y ∙ sym (on-zero y 0 refl)
 
-  entered-alone : {b lines : List ℕ} {t : State} → Entered (startOf c k f e) b t lines → Bytes b → Alone t
+  entered-alone : {b lines : List ℕ} {t : State} → Entered (startOf c k f e .state) b t lines → Bytes b → Alone t
   entered-alone {b} r h =
-      subst Alone (sym (entered-stands r .state)) (records-alone (startOf c k f e) (start-well c k f e fit) start-alone b h (length b / 8))
+      subst Alone (sym (entered-stands r .state)) (records-alone (startOf c k f e .state) (start-well c k f e fit) start-alone b h (length b / 8))
 
   -- Over any blocks of whole records, and n records into the next block: no hold has leaked ..
-  pub run-holds-root : {b lines : List ℕ} {t : State} → Entered (startOf c k f e) b t lines → Bytes b → (x : List ℕ) → Bytes x → (n : ℕ) → HoldsRoot (stateAt t x n)
+  pub run-holds-root : {b lines : List ℕ} {t : State} → Entered (startOf c k f e .state) b t lines → Bytes b → (x : List ℕ) → Bytes x → (n : ℕ) → HoldsRoot (stateAt t x n)
   run-holds-root {b} {lines} {t} r h x i n = holds-root t (entered-well r h (start-well c k f e fit)) (entered-alone r h) x i n
 
   -- .. and if record n is accepted, so is the release of the old root.
-  pub run-releases : {b lines : List ℕ} {t : State} → Entered (startOf c k f e) b t lines → Bytes b → (x : List ℕ) → Bytes x → (n : ℕ)
+  pub run-releases : {b lines : List ℕ} {t : State} → Entered (startOf c k f e .state) b t lines → Bytes b → (x : List ℕ) → Bytes x → (n : ℕ)
       → OldReleased (stateAt t x n) (cellIn x n) (valueIn x n)
   run-releases {b} {lines} {t} r h x i n = releases t (entered-well r h (start-well c k f e fit)) (entered-alone r h) x i n

@@ -13,29 +13,29 @@ use borrow.Author.Tests.{eq-eqb, ne-eqb}
 use Rattle.basics.specs.Limits.{deepest, cubeKids, kidWords}
 use Rattle.paths.specs.declared.IVec3.{IVec3}
 use Rattle.arena.specs.Tables.{Tables, tables}
-use Rattle.arena.specs.Calls.{Out, Fair, fits, madeOf, answeredOf, releaseNo, releaseOf, freshOf}
+use Rattle.arena.specs.Calls.{Out, refused, Fair, fits, madeOf, answeredOf, releaseNo, releaseOf, freshOf}
 use Rattle.arena.specs.declared.Made.{Made}
 use Rattle.arena.specs.declared.Answer.{Answer}
 use Rattle.arena.proofs.Releasing.{release-well}
 use Rattle.read_cell.specs.Calls.{lookNo}
 use Rattle.edit.specs.Edit.{editOf}
 use Rattle.edit.proofs.Edits.{edit-well}
-use Rattle.edit_listing.specs.Listing.{State, stateOf, word, cellIn, counted, editIn, stepTo, stepOf, startOf}
-use Rattle.edit_listing.specs.Models.{Stepped, steppedOf}
+use Rattle.edit_listing.specs.Listing.{State, Stepped, stateOf, word, cellIn, counted, editIn, stepTo, stepOf, startOf}
+use Rattle.edit_listing.specs.Models.{steppedOf}
 use Rattle.edit_listing.specs.declared.Run.{Run}
 
 -- ---- tables that are not sized stay as they are
 
-edit-unsized : (t : Tables) (root d : ℕ) (p : IVec3) (v : ℕ) → fits t ≡ false → editOf t root d p v .after ≡ t
+pub edit-unfit : (t : Tables) (root d : ℕ) (p : IVec3) (v : ℕ) → fits t ≡ false → editOf t root d p v ≡ refused 1 t
 unfolding editOf lookNo
-edit-unsized t root d p v f = rw f
+edit-unfit t root d p v f = rw f
 
 release-unsized : (t : Tables) (id : ℕ) → fits t ≡ false → releaseOf deepest t id .after ≡ t
 unfolding releaseOf releaseNo
 release-unsized t id f = rw f
 
 pub edit-fair : (t : Tables) (root d : ℕ) (p : IVec3) (v : ℕ) → v < 65536 → Fair cubeKids deepest t → Fair cubeKids deepest (editOf t root d p v .after)
-edit-fair t root d p v h (inl f) = inl (ap fits (edit-unsized t root d p v f) ∙ f)
+edit-fair t root d p v h (inl f) = inl (ap (λ (o : Out). fits (o .after)) (edit-unfit t root d p v f) ∙ f)
 edit-fair t root d p v h (inr w) = inr (edit-well t w root d p v (omega arith))
 
 pub release-fair : (t : Tables) (id : ℕ) → Fair cubeKids deepest t → Fair cubeKids deepest (releaseOf deepest t id .after)
@@ -109,6 +109,6 @@ unfolding cellIn
 cell-is b i x y z ex hx ey hy ez hz = rw (coord-is x (word b (8 * i)) ex hx, coord-is y (word b (8 * i + 2)) ey hy, coord-is z (word b (8 * i + 4)) ez hz)
 
 pub start-is : (a : Answer) (c : ℕ) (k f e k₁ f₁ e₁ : List ℕ) → answeredOf a k₁ f₁ e₁ ≡ freshOf c k f e
-    → _≡_ {A = State} (record { tables = tables (a .arena) k₁ f₁ e₁; root = 0; count = 0 }) (startOf c k f e)
+    → _≡_ {A = Stepped} (record { state = record { tables = tables (a .arena) k₁ f₁ e₁; root = 0; count = 0 }; no = a .no }) (startOf c k f e)
 unfolding startOf
-start-is a c k f e k₁ f₁ e₁ h = ap (λ (o : Out). record { tables = o .after; root = 0; count = 0 }) h
+start-is a c k f e k₁ f₁ e₁ h = ap (λ (o : Out). record { state = record { tables = o .after; root = 0; count = 0 }; no = o .no }) h

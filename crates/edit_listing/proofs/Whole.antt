@@ -1,7 +1,7 @@
 -- The whole run: from a fresh arena every state is well formed, so that the calls' contracts determine all of it, and however the input comes in blocks
 -- of whole records, the lines are those of the whole input.
 use mathlib.Core.Path.{_≡_, refl, sym, ap, ap₂, _∙_, subst}
-use mathlib.Core.Bool.{true}
+use mathlib.Core.Bool.{true, false}
 use mathlib.Core.List.{List, [], _∷_, _++_, append-assoc, append-nil}
 use Prim.Native.Nat.{ℕ, zero, suc, _+_, _*_, _/_, _%_, _^_, _≤_, _<_}
 use native.Mathlib.Decide.{ℕ-discrete}
@@ -14,14 +14,14 @@ use Rattle.nodes.proofs.Sums.{cases}
 use Rattle.nodes.specs.Words.{putsFrom}
 use Rattle.paths.specs.declared.IVec3.{IVec3}
 use Rattle.arena.specs.Tables.{WellFormed}
-use Rattle.arena.specs.Calls.{Out, fitOf}
+use Rattle.arena.specs.Calls.{Out, fitOf, fits, freshOf}
 use Rattle.arena.proofs.Holding.{fresh-well}
 use Rattle.arena.proofs.Releasing.{release-well}
 use Rattle.edit.specs.Edit.{editOf}
 use Rattle.edit.proofs.Edits.{edit-well}
 use Rattle.edit_listing.specs.Listing.{State, word, cellIn, valueIn, counted, editIn, stepTo, stepOf, stateAt, lineOf, lineAt, linesAt, startOf, decimal, endingOf, listingOf, Entered, begun, block, Bytes}
 use Rattle.edit_listing.proofs.Puts.{text-short, digits-short, puts-there}
-use Rattle.edit_listing.proofs.Steps.{step-accepted, step-refused}
+use Rattle.edit_listing.proofs.Steps.{edit-unfit, step-accepted, step-refused}
 
 -- ---- well formed after each record
 
@@ -43,9 +43,33 @@ records-well s b h w (suc n) =
     step-well t (editOf (t .tables) (t .root) deepest (cellIn b n) (valueIn b n)) (edit-well (t .tables) (records-well s b h w n) (t .root) deepest (cellIn b n) (valueIn b n) (value-small b h n))
 
 -- so are those of a fresh arena over tables that fit
-pub start-well : (c : ℕ) (k f e : List ℕ) → fitOf c (length k) (length f) (length e) ≡ true → WellFormed cubeKids deepest (startOf c k f e .tables)
+pub start-well : (c : ℕ) (k f e : List ℕ) → fitOf c (length k) (length f) (length e) ≡ true → WellFormed cubeKids deepest (startOf c k f e .state .tables)
 unfolding startOf
 start-well c k f e z = fresh-well cubeKids deepest c k f e z
+
+-- over tables that do not fit the start answers 1, and so does every record
+unfit-stays : (s : State) → fits (s .tables) ≡ false → (b : List ℕ) (n : ℕ) → stateAt s b n .tables ≡ s .tables
+unfolding stateAt stepOf editIn
+unfit-stays s f b zero = refl
+unfit-stays s f b (suc n) =
+    let t = stateAt s b n in
+    let e = unfit-stays s f b n in
+    let g : fits (t .tables) ≡ false = ap fits e ∙ f in
+    let o = editOf (t .tables) (t .root) deepest (cellIn b n) (valueIn b n) in
+    let no = edit-unfit (t .tables) (t .root) deepest (cellIn b n) (valueIn b n) g in
+    ap (λ (u : State). u .tables) (step-refused t o (λ z. omega (arith, ap (λ (x : Out). x .no) no))) ∙ ap (λ (x : Out). x .after) no ∙ e
+
+pub start-unfit : (c : ℕ) (k f e : List ℕ) → fitOf c (length k) (length f) (length e) ≡ false
+    → (startOf c k f e .no ≡ 1) × ((b : List ℕ) (n : ℕ) → editIn (stateAt (startOf c k f e .state) b n) (cellIn b n) (valueIn b n) .no ≡ 1)
+unfolding startOf editIn freshOf
+start-unfit c k f e z = (
+  rw z,
+  (λ b n.
+      let s = startOf c k f e .state in
+      let t = stateAt s b n in
+      let u : fits (s .tables) ≡ false = rw z z in
+      ap (λ (x : Out). x .no) (edit-unfit (t .tables) (t .root) deepest (cellIn b n) (valueIn b n) (ap fits (unfit-stays s u b n) ∙ u))),
+)
 
 count-plain : (n : ℕ) → n + 1 < 2 ^ 64 → counted n ≡ n + 1
 unfolding counted

@@ -16,7 +16,6 @@ use Rattle.arena.specs.Tables.{Tables, tables}
 use Rattle.arena.specs.Calls.{Out, freshOf, releaseOf}
 use Rattle.edit.specs.Edit.{editOf}
 use Rattle.edit_listing.specs.declared.Run.{Run}
-use Rattle.edit_listing.specs.declared.Ran.{Ran}
 
 -- ## The lines
 
@@ -106,9 +105,16 @@ linesAt s b (suc n) = linesAt s b n ++ lineAt s b n
 
 -- ## The calls
 
--- a fresh arena with nothing in it, before the first record
-unfoldable pub startOf : ℕ → List ℕ → List ℕ → List ℕ → State
-startOf c k f e = record { tables = freshOf c k f e .after; root = empty; count = 0 }
+-- what the start and one edit come to: the state, and the refusal
+pub record Stepped : Type 0 where
+  pub state : State
+  pub no : ℕ
+
+-- a fresh arena with nothing in it, before the first record; refusal 1 where the tables do not fit
+unfoldable pub startOf : ℕ → List ℕ → List ℕ → List ℕ → Stepped
+startOf c k f e =
+    let o = freshOf c k f e in
+    record { state = record { tables = o .after; root = empty; count = 0 }; no = o .no }
 
 -- a line has at most so many bytes: 20 digits and a space, twice, a text of 41 bytes and the end of the line
 abbrev pub widest : ℕ
@@ -122,15 +128,12 @@ takenOf bytes room = min (bytes / 8) (room / widest)
 abbrev pub stateOf : Run → List ℕ → List ℕ → List ℕ → State
 stateOf r k f e = record { tables = tables (r .arena) k f e; root = r .root .0; count = r .count }
 
--- what a call comes to: the state, the records taken, how many bytes were written, and the bytes lent for them
+-- what a block comes to: the state, the records taken, how many bytes were written, and the bytes lent for them
 pub record Told : Type 0 where
   pub state : State
   pub records : ℕ
   pub len : ℕ
   pub out : List ℕ
-
-abbrev pub told : Ran → List ℕ → List ℕ → List ℕ → List ℕ → Told
-told r k f e o = record { state = stateOf (r .run) k f e; records = r .records; len = r .len; out = o }
 
 -- the first n records of b, their lines at the start of o
 unfoldable pub toldOf : State → List ℕ → List ℕ → ℕ → Told

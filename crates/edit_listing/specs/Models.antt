@@ -4,17 +4,9 @@ use Prim.Native.Nat.{ℕ, _+_}
 use lib.ListN.{length}
 use Rattle.paths.specs.declared.IVec3.{IVec3}
 use Rattle.nodes.specs.Words.{putsFrom}
-use Rattle.edit_listing.specs.declared.Step.{Step}
-use Rattle.edit_listing.specs.Listing.{State, stateOf, editIn, stepOf, cellIn, valueIn, lineOf, stateAt, linesAt}
+use Rattle.edit_listing.specs.Listing.{State, Stepped, editIn, stepOf, cellIn, valueIn, lineOf, stateAt, linesAt}
 
--- one edit: the state afterwards, and the refusal
-pub record Stepped : Type 0 where
-  pub state : State
-  pub no : ℕ
-
-abbrev pub stepped : Step → List ℕ → List ℕ → List ℕ → Stepped
-stepped r k f e = record { state = stateOf (r .run) k f e; no = r .no }
-
+-- one edit
 unfoldable pub steppedOf : State → IVec3 → ℕ → Stepped
 steppedOf s p v = record { state = stepOf s p v; no = editIn s p v .no }
 

@@ -16,17 +16,15 @@ ghost use Rattle.basics.specs.Limits.{deepest, cubeKids};
 ghost use Rattle.ids_text.specs.Text.{textOf};
 ghost use Rattle.nodes.specs.Words.{putsFrom};
 ghost use Rattle.arena.specs.Calls.{Fair};
-ghost use Rattle.arena.specs.Lent.{before, after};
-ghost use Rattle.edit_listing.specs.Listing.{digitsOf, decimal, lineOf, shortOf, endingOf, word as wordIn, cellIn, valueIn, startOf, takenOf, stateOf, told, toldOf};
-ghost use Rattle.edit_listing.specs.Models.{stepped, steppedOf, kept, oneOf};
+ghost use Rattle.edit_listing.specs.Lent.{before, after, stepped, told};
+ghost use Rattle.edit_listing.specs.Listing.{digitsOf, decimal, lineOf, shortOf, endingOf, word as wordIn, cellIn, valueIn, startOf, takenOf, toldOf};
+ghost use Rattle.edit_listing.specs.Models.{steppedOf, kept, oneOf};
 
 // A line has at most so many bytes.
 const WIDEST: usize = 84;
 
 // A record has so many bytes.
 const RECORD: usize = 8;
-
-// The depth of the edits.
 
 // What stands between two records: the arena's state, the root, and how many records there were.
 pub struct Run {
@@ -42,10 +40,10 @@ pub struct Ran {
     pub len: usize,
 }
 
-// What one edit came to.
-struct Step {
-    run: Run,
-    no: u32,
+// What the start and one edit came to: the run, and the refusal, 0 if there is none.
+pub struct Step {
+    pub run: Run,
+    pub no: u32,
 }
 
 // What one record came to, and where its line ends.
@@ -202,9 +200,9 @@ fn edit_once(
     cell: IVec3,
     value: u16,
 ) -> Step
-    ensures { λ r. ⌜ (Fair cubeKids deepest (before (run .arena) kids facts find)
-        → Fair cubeKids deepest (after (r .run .arena) kids facts find)
-        × (stepped r (now (kids .exit)) (now (facts .exit)) (now (find .exit)) ≡ steppedOf (stateOf run (now (kids .entry)) (now (facts .entry)) (now (find .entry))) cell value)) ⌝ }
+    ensures { λ r. ⌜ (Fair cubeKids deepest (before run kids facts find .tables)
+        → Fair cubeKids deepest (after (r .run) kids facts find .tables)
+        × (stepped r kids facts find ≡ steppedOf (before run kids facts find) cell value)) ⌝ }
 {
     let count = wrapping_add_u64(run.count, 1);
     let root = run.root;
@@ -260,10 +258,10 @@ fn one(
 ) -> Lined
     requires { ⌜ (8 * i + 8 ≤ length (now bytes)) × (len + 84 < 2 ^ 64) ⌝ }
     ensures { λ r. ⌜ (r .len ≤ len + 84)
-        × (Fair cubeKids deepest (before (run .arena) kids facts find)
-        → Fair cubeKids deepest (after (r .run .arena) kids facts find)
-        × (kept (stateOf (r .run) (now (kids .exit)) (now (facts .exit)) (now (find .exit))) (r .len) (now (out .exit))
-        ≡ oneOf (kept (stateOf run (now (kids .entry)) (now (facts .entry)) (now (find .entry))) len (now (out .entry))) (now (bytes .entry)) i)) ⌝ }
+        × (Fair cubeKids deepest (before run kids facts find .tables)
+        → Fair cubeKids deepest (after (r .run) kids facts find .tables)
+        × (kept (after (r .run) kids facts find) (r .len) (now (out .exit))
+        ≡ oneOf (kept (before run kids facts find) len (now (out .entry))) (now (bytes .entry)) i)) ⌝ }
 {
     let cell = cell_in(bytes, i);
     let value = value_in(bytes, i);
@@ -277,16 +275,19 @@ fn least(x: usize, y: usize) -> usize
     if x < y { x } else { y }
 }
 
-// A fresh arena over the tables, with nothing in it, before the first record. Where the tables do not fit the capacity, every record is refused.
-pub fn start(capacity: usize, kids: &mut [u64], facts: &mut [u64], find: &mut [u16]) -> Run
-    ensures { λ r. ⌜ stateOf r (now (kids .exit)) (now (facts .exit)) (now (find .exit)) ≡ startOf capacity (now (kids .entry)) (now (facts .entry)) (now (find .entry)) ⌝ }
+// A fresh arena over the tables, with nothing in it, before the first record. Where the tables do not fit the capacity it answers 1, and so does every record.
+pub fn start(capacity: usize, kids: &mut [u64], facts: &mut [u64], find: &mut [u16]) -> Step
+    ensures { λ r. ⌜ stepped r kids facts find ≡ startOf capacity (now (kids .entry)) (now (facts .entry)) (now (find .entry)) ⌝ }
 {
     let fresh = arena_hold::fresh(capacity, kids, facts, find);
     let arena = fresh.arena;
-    Run {
-        arena: arena,
-        root: BlockId::EMPTY,
-        count: 0,
+    Step {
+        run: Run {
+            arena: arena,
+            root: BlockId::EMPTY,
+            count: 0,
+        },
+        no: fresh.no,
     }
 }
 
@@ -300,8 +301,8 @@ pub fn edit_records(
     out: &mut [u8],
 ) -> Ran
     ensures { λ r. ⌜ (r .records ≡ takenOf (length (now (bytes .entry))) (length (now (out .entry))))
-        × (Fair cubeKids deepest (before (run .arena) kids facts find)
-        → told r (now (kids .exit)) (now (facts .exit)) (now (find .exit)) (now (out .exit)) ≡ toldOf (stateOf run (now (kids .entry)) (now (facts .entry)) (now (find .entry))) (now (bytes .entry)) (now (out .entry)) (takenOf (length (now (bytes .entry))) (length (now (out .entry))))) ⌝ }
+        × (Fair cubeKids deepest (before run kids facts find .tables)
+        → told r kids facts find out ≡ toldOf (before run kids facts find) (now (bytes .entry)) (now (out .entry)) (r .records)) ⌝ }
 {
     let most = least(bytes.len() / RECORD, out.len() / WIDEST);
     let mut now = run;

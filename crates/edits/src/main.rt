@@ -3,7 +3,8 @@
 // Reads 8-byte records (x, y, z and the value, 16 bits each, low byte first) from the file that its argument names, or from standard input where there
 // is none. Each record is an edit at depth 6, the first one of EMPTY, in an arena of 512 slots; after an accepted edit the old root is released. Writes
 // a line for each record: its number, the refusal, the root. Then `short K` for a cut last record of K bytes, and last `live N`, the nodes that live.
-// Where the file can't be opened or read, or a line can't be written, it says so on standard error and writes no `live` line.
+// Where the file can't be opened or read, or a line can't be written, or the tables do not fit the slots, it says so on standard error and writes no
+// `live` line.
 ghost use Prim.Native.Nat.{_+_, _≤_};
 ghost use lib.ListN.{length};
 use edit_listing::Run;
@@ -153,7 +154,12 @@ fn list(fd: i32) {
     let mut kids = [0u64; KIDS];
     let mut facts = [0u64; FACTS];
     let mut find = [0u16; CELLS];
-    let run = edit_listing::start(SLOTS, &mut kids, &mut facts, &mut find);
+    let start = edit_listing::start(SLOTS, &mut kids, &mut facts, &mut find);
+    if start.no != 0 {
+        io::write_all(STDERR_FILENO, b"edits: the tables do not fit\n");
+        return;
+    }
+    let run = start.run;
     list_blocks(fd, run, &mut kids, &mut facts, &mut find);
 }
 

@@ -47,8 +47,7 @@ loop-again c =
 returns : tie.Need-returns Inv-loop μ-loop
 returns c =
     let at = c .before .loop in
-    let all = all-taken _ _ _ _ (at .inv .0) (c .loop-test .left) (at .inv .2) in
-    (all, told-is (c .before .before .before .before .before .before .before .before .args .run) (at .now) _ _ _ _ _ _ _ _ _ _ _ (at .inv .8) _ all)
+    (all-taken _ _ _ _ (at .inv .0) (c .loop-test .left) (at .inv .2), told-is (c .before .before .before .before .before .before .before .before .args .run) (at .now) _ _ _ _ _ _ _ _ _ _ _ (at .inv .8))
 
 pub edit-records-spec : {M : Type 1} → statement M
 edit-records-spec =
