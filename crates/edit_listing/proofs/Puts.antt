@@ -89,9 +89,10 @@ digits-low l o at n left z h e =
     let d : digitsOf left n ≡ (48 + n) ∷ [] = ap (λ (j : ℕ). digitsOf j n) k ∙ low-digits n (left - 1) h in
     (e ∙ sym (puts-one l at (48 + n)) ∙ ap (putsFrom l at) (sym d), ap length (sym d), s)
 
-pub digits-high : (l m o : List ℕ) (at n left r : ℕ) → (left ≡ 0 → ⊥) → 10 ≤ n → m ≡ putsFrom l at (digitsOf (left - 1) (n / 10)) → r ≡ length (digitsOf (left - 1) (n / 10)) → r ≤ left - 1
+pub digits-high : (l m o : List ℕ) (at n left r : ℕ) → (left ≡ 0 → ⊥) → 10 ≤ n
+    → (m ≡ putsFrom l at (digitsOf (left - 1) (n / 10))) × (r ≡ length (digitsOf (left - 1) (n / 10))) × (r ≤ left - 1)
     → o ≡ set m (at + r) (48 + n % 10) → (o ≡ putsFrom l at (digitsOf left n)) × (r + 1 ≡ length (digitsOf left n)) × (r + 1 ≤ left)
-digits-high l m o at n left r z h e k b q =
+digits-high l m o at n left r z h (e, k, b) q =
     let s : 1 ≤ left = cases (ℕ-discrete left 0) (λ x. absurd (z x)) (λ x. omega arith) in
     let j : left ≡ suc (left - 1) = omega arith in
     let d : digitsOf left n ≡ digitsOf (left - 1) (n / 10) ++ ((48 + n % 10) ∷ []) = ap (λ (i : ℕ). digitsOf i n) j ∙ high-digits n (left - 1) h in (

@@ -1,148 +1,24 @@
 use Prim.Native.Nat.{ℕ, _<_}
 use native.Mathlib.Omega.{arith}
 use borrow.Author.Needs.{needs}
-use Rattle.edit_listing.proofs.Puts.{digits-none, digits-low, digits-high}
 use borrow.Fn.Kinds.{In}
 use borrow.Fn.PlainCycle.{Measures, is, falls, and}
+use Rattle.edit_listing.proofs.Puts.{digits-none, digits-low, digits-high}
+use Rattle.edit_listing.proofs.put.Reads as put-reads
 use Rattle.edit_listing.proofs.put_digits.Reads as put-digits
 use Rattle.edit_listing.proofs.put_digits.Kinds as put-digits-kinds
-use Rattle.edit_listing.proofs.+put_digits.Lts-put_digits as put-digits-lts
-use Rattle.edit_listing.proofs.put.Reads as put-reads
 use Rattle.edit_listing.proofs.+put_digits.{statement}
+use Rattle.edit_listing.proofs.+put_digits.Lts-put_digits as put-digits-lts
 use Rattle.edit_listing.proofs.+put_digits.Tie.{close}
 
 abbrev μ-put-digits : Measures 1 put-digits-kinds.ps ℕ
 μ-put-digits κs a = a .1 .1 .1 .0
 
 abbrev put-digits-at : ℕ → In 1 put-digits-kinds.ps
-put-digits-at t =
-    and 1 put-digits-kinds.ps (is 1 put-digits-kinds.ps μ-put-digits t) put-digits.Pre
+put-digits-at t = and 1 put-digits-kinds.ps (is 1 put-digits-kinds.ps μ-put-digits t) put-digits.Pre
 
 abbrev put-digits-below : ℕ → In 1 put-digits-kinds.ps
-put-digits-below t =
-    and 1 put-digits-kinds.ps (falls 1 put-digits-kinds.ps _<_ μ-put-digits t) put-digits.Pre
-
-put-digits-returns : (t : ℕ) → put-digits-lts.Need-returns (
-  put-reads.Asked,
-  put-reads.Learnt,
-  put-digits-below t,
-  put-digits.Post,
-) (put-digits-at t) put-digits.Post
-put-digits-returns t c = digits-none _ _ _ _ (omega arith)
-
-put-digits-add-put : (t : ℕ) → put-digits-lts.Need-add-put (
-  put-reads.Asked,
-  put-reads.Learnt,
-  put-digits-below t,
-  put-digits.Post,
-) (put-digits-at t) put-digits.Post
-put-digits-add-put t c = search needs
-
-put-digits-cast-put : (t : ℕ) → put-digits-lts.Need-cast-put (
-  put-reads.Asked,
-  put-reads.Learnt,
-  put-digits-below t,
-  put-digits.Post,
-) (put-digits-at t) put-digits.Post
-put-digits-cast-put t c = search needs
-
-put-digits-put-requires : (t : ℕ) → put-digits-lts.Need-put-requires (
-  put-reads.Asked,
-  put-reads.Learnt,
-  put-digits-below t,
-  put-digits.Post,
-) (put-digits-at t) put-digits.Post
-put-digits-put-requires t c κs = search needs
-
-put-digits-same-length : (t : ℕ) → put-digits-lts.Need-same-length (
-  put-reads.Asked,
-  put-reads.Learnt,
-  put-digits-below t,
-  put-digits.Post,
-) (put-digits-at t) put-digits.Post
-put-digits-same-length t c = search needs
-
-put-digits-returns-2 : (t : ℕ) → put-digits-lts.Need-returns-2 (
-  put-reads.Asked,
-  put-reads.Learnt,
-  put-digits-below t,
-  put-digits.Post,
-) (put-digits-at t) put-digits.Post
-put-digits-returns-2 t c = digits-low _ _ _ _ _ (c .before .before .before .before .before .if1 .left) (c .before .before .before .before .if2 .taken) (c .before .before .put .ensures)
-
-put-digits-sub-put-digits : (t : ℕ) → put-digits-lts.Need-sub-put-digits (
-  put-reads.Asked,
-  put-reads.Learnt,
-  put-digits-below t,
-  put-digits.Post,
-) (put-digits-at t) put-digits.Post
-put-digits-sub-put-digits t c = search needs
-
-put-digits-put-digits-requires : (t : ℕ) → put-digits-lts.Need-put-digits-requires (
-  put-reads.Asked,
-  put-reads.Learnt,
-  put-digits-below t,
-  put-digits.Post,
-) (put-digits-at t) put-digits.Post
-put-digits-put-digits-requires t c κs = search needs
-
-put-digits-add-put-2 : (t : ℕ) → put-digits-lts.Need-add-put-2 (
-  put-reads.Asked,
-  put-reads.Learnt,
-  put-digits-below t,
-  put-digits.Post,
-) (put-digits-at t) put-digits.Post
-put-digits-add-put-2 t c = search needs
-
-put-digits-add-put-3 : (t : ℕ) → put-digits-lts.Need-add-put-3 (
-  put-reads.Asked,
-  put-reads.Learnt,
-  put-digits-below t,
-  put-digits.Post,
-) (put-digits-at t) put-digits.Post
-put-digits-add-put-3 t c = search needs
-
-put-digits-cast-put-2 : (t : ℕ) → put-digits-lts.Need-cast-put-2 (
-  put-reads.Asked,
-  put-reads.Learnt,
-  put-digits-below t,
-  put-digits.Post,
-) (put-digits-at t) put-digits.Post
-put-digits-cast-put-2 t c = search needs
-
-put-digits-put-requires-2 : (t : ℕ) → put-digits-lts.Need-put-requires-2 (
-  put-reads.Asked,
-  put-reads.Learnt,
-  put-digits-below t,
-  put-digits.Post,
-) (put-digits-at t) put-digits.Post
-put-digits-put-requires-2 t c κs = search needs
-
-put-digits-add-result : (t : ℕ) → put-digits-lts.Need-add-result (
-  put-reads.Asked,
-  put-reads.Learnt,
-  put-digits-below t,
-  put-digits.Post,
-) (put-digits-at t) put-digits.Post
-put-digits-add-result t c = search needs
-
-put-digits-same-length-2 : (t : ℕ) → put-digits-lts.Need-same-length-2 (
-  put-reads.Asked,
-  put-reads.Learnt,
-  put-digits-below t,
-  put-digits.Post,
-) (put-digits-at t) put-digits.Post
-put-digits-same-length-2 t c = search needs
-
-put-digits-returns-3 : (t : ℕ) → put-digits-lts.Need-returns-3 (
-  put-reads.Asked,
-  put-reads.Learnt,
-  put-digits-below t,
-  put-digits.Post,
-) (put-digits-at t) put-digits.Post
-put-digits-returns-3 t c =
-    let front = c .before .before .before .before .before .before .put-digits in
-    digits-high _ _ _ _ _ _ _ (c .before .before .before .before .before .before .before .before .before .if1 .left) (c .before .before .before .before .before .before .before .before .if2 .left) (front .ensures .0) (front .ensures .1) (front .ensures .2) (c .before .before .put2 .ensures)
+put-digits-below t = and 1 put-digits-kinds.ps (falls 1 put-digits-kinds.ps _<_ μ-put-digits t) put-digits.Pre
 
 pub +put-digits-spec : {M : Type 1} → statement M
 +put-digits-spec = close μ-put-digits λ t. put-digits-lts.spec (
@@ -153,18 +29,13 @@ pub +put-digits-spec : {M : Type 1} → statement M
 )
     (put-digits-at t)
     put-digits.Post
-    (put-digits-returns t)
-    (put-digits-add-put t)
-    (put-digits-cast-put t)
-    (put-digits-put-requires t)
-    (put-digits-same-length t)
-    (put-digits-returns-2 t)
-    (put-digits-sub-put-digits t)
-    (put-digits-put-digits-requires t)
-    (put-digits-add-put-2 t)
-    (put-digits-add-put-3 t)
-    (put-digits-cast-put-2 t)
-    (put-digits-put-requires-2 t)
-    (put-digits-add-result t)
-    (put-digits-same-length-2 t)
-    (put-digits-returns-3 t)
+    (λ c. digits-none _ _ _ _ (omega arith)) (λ c. search needs) (λ c. search needs) (λ c κs. search needs) (λ c. search needs)
+    (λ c.
+    let low = c .before .before .before .before in
+    digits-low _ _ _ _ _ (low .before .if1 .left) (low .if2 .taken) (c .before .before .put .ensures))
+    (λ c. search needs) (λ c κs. search needs) (λ c. search needs) (λ c. search needs) (λ c. search needs) (λ c κs. search needs)
+    (λ c. search needs) (λ c. search needs)
+    (λ c.
+    let front = c .before .before .before .before .before .before in
+    let high = front .before .before in
+    digits-high _ _ _ _ _ _ _ (high .before .if1 .left) (high .if2 .left) (front .put-digits .ensures) (c .before .before .put2 .ensures))
