@@ -16,8 +16,7 @@ use Rattle.ids.proofs.Fields.{types-leaf, types-branch, mask-leaf, mask-branch,
 use Rattle.ids.proofs.Packing.{Has, packed-fields}
 use Rattle.nodes.specs.Tally.{oneIf, kidsOf, Live}
 use Rattle.nodes.specs.Words.{Words, own, slot}
-use Rattle.nodes.proofs.Sums.{split, tabFrom-length}
-use Rattle.find.proofs.Contents.{tab-at}
+use Rattle.nodes.proofs.Sums.{split, tabFrom-length, tab-at}
 use Rattle.arena.specs.Node.{bitsOf, kidMask, kidTypes, branchId, Node}
 use Rattle.arena.specs.Tables.{Tables, cap, W, WellFormed}
 use Rattle.arena.proofs.Ids.{gen-small, node-leaf, node-branch}

@@ -3,3 +3,4 @@ pub mod Pick
 pub mod Bits
 pub mod Codes
 pub mod Sums
+pub mod Puts

@@ -9,10 +9,10 @@ use lib.ListN.{length, getD, List·getD-eq-default}
 use Rattle.nodes.specs.Words.{Words, own, value, nodes, kidOf, factOf, wordOf, floor}
 use Rattle.nodes.specs.Tally.{kidsOf}
 use Rattle.nodes.proofs.Access.{word-fact, kids-word}
-use Rattle.nodes.proofs.Sums.{cases, tabFrom-length}
+use Rattle.nodes.proofs.Sums.{cases, tabFrom-length, tab-at}
 use Rattle.find.specs.Cells.{cell, probe, cellOf, Reach}
 use Rattle.find.specs.Content.{contentIs, homeAt}
-use Rattle.find.proofs.Contents.{content-true, content-words, tab-at}
+use Rattle.find.proofs.Contents.{content-true, content-words}
 use Rattle.find.proofs.Probing.{Ended, ended}
 use Rattle.arena.specs.declared.Arena.{Arena}
 use Rattle.check_freed.specs.Models.{allIn}

@@ -15,9 +15,9 @@ use Rattle.ids.specs.Ids.{isLeaf}
 use Rattle.nodes.specs.Words.{Words, own, value, places, slot, wordOf, factOf, putOf}
 use Rattle.nodes.specs.Tally.{tabFrom, occ, Live}
 use Rattle.nodes.proofs.Counts.{total-append, total-bound}
-use Rattle.nodes.proofs.Sums.{cases, split, sumTo-ext, tabFrom-ext, tabFrom-length, occ-nil, occ-cons, occ-here, occ-there}
+use Rattle.nodes.proofs.Sums.{cases, split, sumTo-ext, tabFrom-ext, tabFrom-length, tab-list, occ-nil, occ-cons, occ-here, occ-there}
 use Rattle.find.specs.Content.{contentIs}
-use Rattle.find.proofs.Contents.{content-true, content-words, tab-list}
+use Rattle.find.proofs.Contents.{content-true, content-words}
 use Rattle.tree.specs.Tree.{LiveOr0, WellMade, Cell, here, down}
 use Rattle.tree.specs.Anew.{part, replace}
 use Rattle.tree.specs.Lacks.{Need, have, lack, Plan}

@@ -7,22 +7,21 @@ use native.Mathlib.Omega.{arith}
 use lib.ListN.{length, length-append}
 use Rattle.basics.specs.Limits.{deepest, cubeKids}
 use Rattle.paths.specs.declared.IVec3.{IVec3}
-use Rattle.nodes.specs.Words.{putsFrom}
+use Rattle.basics.specs.Puts.{putsFrom}
+use Rattle.basics.proofs.Puts.{puts-append}
 use Rattle.arena.specs.Tables.{tables}
 use Rattle.arena.specs.Calls.{Fair}
-use Rattle.edit_listing.specs.Listing.{State, Stepped, stateOf, cellIn, valueIn, lineOf, stateAt, lineAt, linesAt, takenOf, Told, toldOf}
-use Rattle.edit_listing.specs.Models.{steppedOf, lineFor, Kept, kept, oneOf, keptAt}
+use Rattle.edit_listing.specs.Listing.{State, Stepped, stateOf, cellIn, valueIn, stateAt, lineAt, linesAt, takenOf, Told, toldOf}
+use Rattle.edit_listing.specs.Models.{steppedOf, lineFor, lineBy, Kept, kept, oneOf, keptAt}
 use Rattle.edit_listing.specs.declared.Run.{Run}
 use Rattle.edit_listing.specs.declared.Step.{Step}
 use Rattle.edit_listing.specs.declared.Lined.{Lined}
-use Rattle.edit_listing.proofs.Puts.{puts-append}
 
 -- ---- one record
 
 pub one-is : (run : Run) (k f e b o : List ℕ) (i len : ℕ) (p : IVec3) (v : ℕ) → p ≡ cellIn b i → (v ≡ valueIn b i) × (v < 65536) → (step : Step) (k₁ f₁ e₁ : List ℕ) (r : Lined) (o₁ : List ℕ)
     → (Fair cubeKids deepest (tables (run .arena) k f e) → Fair cubeKids deepest (tables (step .run .arena) k₁ f₁ e₁) × (record { state = stateOf (step .run) k₁ f₁ e₁; no = step .no } ≡ steppedOf (stateOf run k f e) p v))
-    → r .run ≡ step .run → r .len ≡ len + length (lineOf (step .run .count) (step .no) (step .run .root .0))
-    → o₁ ≡ putsFrom o len (lineOf (step .run .count) (step .no) (step .run .root .0))
+    → r .run ≡ step .run → r .len ≡ len + length (lineBy step) → o₁ ≡ putsFrom o len (lineBy step)
     → Fair cubeKids deepest (tables (run .arena) k f e)
     → Fair cubeKids deepest (tables (r .run .arena) k₁ f₁ e₁) × (kept (stateOf (r .run) k₁ f₁ e₁) (r .len) o₁ ≡ oneOf (kept (stateOf run k f e) len o) b i)
 unfolding oneOf

@@ -4,68 +4,20 @@ use mathlib.Core.Bool.{Bool, true, false}
 use mathlib.Core.List.{List, [], _∷_, _++_}
 use Prim.Native.Nat.{ℕ, zero, suc, _+_, _-_, _/_, _%_, _≤_, _<_}
 use native.Mathlib.Decide.{ℕ-discrete, decLt}
-use native.Mathlib.Numerals.{add-one}
 use native.Mathlib.Omega.{arith}
 use lib.Dec.{eqb}
-use lib.ListN.{length, getD, set, take, drop, replicate, length-append, length-replicate}
-use lib.Seq.{take-suc, length-take-le, take-append-seam, sets, sets-eq}
+use lib.ListN.{length, set, take, replicate, length-append, length-replicate}
+use lib.Seq.{take-append-seam}
 use borrow.Author.Tests.{ne-eqb, lt-ltb, le-ltb}
 use Rattle.basics.specs.Pick.{pick}
+use Rattle.basics.specs.Puts.{putsFrom}
+use Rattle.basics.proofs.Puts.{puts-one, puts-then, puts-end, length-end}
 use Rattle.ids.specs.Ids.{empty, invalid, isLeaf}
 use Rattle.ids_text.specs.Text.{textOf, leafText, branchText, hex, padded, idTextOf}
 use Rattle.ids_text.specs.declared.IdText.{IdText}
 use Rattle.basics.specs.Codes.{codes}
 use Rattle.nodes.proofs.Sums.{cases}
-use Rattle.nodes.specs.Words.{putsFrom}
 use Rattle.edit_listing.specs.Listing.{digitsOf, decimal, lineOf, shortOf, liveLine, endingOf}
-
--- a text after a text
-pub puts-append : (s u l : List ℕ) (at : ℕ) → putsFrom l at (s ++ u) ≡ putsFrom (putsFrom l at s) (at + length s) u
-unfolding putsFrom
-puts-append [] u l at = let e : at + 0 ≡ at = omega arith in rw e
-puts-append (x ∷ s) u l at =
-    let e : suc at + length s ≡ at + suc (length s) = omega arith in
-    puts-append s u (set l at x) (suc at) ∙ ap (λ (k : ℕ). putsFrom (putsFrom (set l at x) (suc at) s) k u) e
-
-pub puts-one : (l : List ℕ) (at v : ℕ) → putsFrom l at (v ∷ []) ≡ set l at v
-unfolding putsFrom
-puts-one l at v = refl
-
-puts-sets : (s l : List ℕ) (at : ℕ) → putsFrom l at s ≡ sets l at s
-unfolding putsFrom
-puts-sets [] l at = refl
-puts-sets (x ∷ s) l at = puts-sets s (set l at x) (suc at)
-
--- where there is room, the text stands at the start
-pub puts-there : (l s : List ℕ) → length s ≤ length l → take (length s) (putsFrom l 0 s) ≡ s
-puts-there l s h = ap (take (length s)) (puts-sets s l 0 ∙ sets-eq s l 0 (omega arith)) ∙ take-append-seam s (drop (0 + length s) l)
-
-module _ (l m : List ℕ) (at n : ℕ) (s : List ℕ) (e : m ≡ putsFrom l at s) (k : n ≡ length s) where
-  pub puts-then : (o u : List ℕ) → o ≡ putsFrom m (at + n) u → o ≡ putsFrom l at (s ++ u)
-  puts-then o u h = h ∙ ap (λ (i : ℕ). putsFrom m (at + i) u) k ∙ ap (λ (x : List ℕ). putsFrom x (at + length s) u) e ∙ sym (puts-append s u l at)
-
-  -- one byte more
-  pub puts-end : (o : List ℕ) (v : ℕ) → o ≡ set m (at + n) v → o ≡ putsFrom l at (s ++ (v ∷ []))
-  puts-end o v h = puts-then o (v ∷ []) (h ∙ sym (puts-one m (at + n) v))
-
-pub length-end : (s : List ℕ) (n v : ℕ) → n ≡ length s → n + 1 ≡ length (s ++ (v ∷ []))
-length-end s n v e = omega (arith, length-append s (v ∷ []))
-
--- ---- the first bytes of a text
-
-pub text-none : (l : List ℕ) (at : ℕ) (text : List ℕ) → l ≡ putsFrom l at (take 0 text)
-unfolding putsFrom
-text-none l at text = refl
-
-pub text-more : (l m : List ℕ) (at i n : ℕ) (text o : List ℕ) → m ≡ putsFrom l at (take i text) → i < n → n ≤ length text
-    → o ≡ set m (at + i) (getD text i 0) → o ≡ putsFrom l at (take (i + 1) text)
-text-more l m at i n text o e h b q =
-    let s : i < length text = omega arith in
-    let k : i ≡ length (take i text) = sym (length-take-le i text (omega arith)) in
-    puts-end l m at i (take i text) e k o (getD text i 0) q ∙ ap (putsFrom l at) (sym (take-suc text i 0 s) ∙ ap (λ (j : ℕ). take j text) (sym (add-one i)))
-
-pub text-all : (l m : List ℕ) (at i n : ℕ) (text : List ℕ) → m ≡ putsFrom l at (take i text) → i ≤ n → n ≤ i → m ≡ putsFrom l at (take n text)
-text-all l m at i n text e h k = let q : i ≡ n = omega arith in e ∙ ap (λ (j : ℕ). putsFrom l at (take j text)) q
 
 -- ---- the digits of a number
 

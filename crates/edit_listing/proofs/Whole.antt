@@ -11,7 +11,8 @@ use lib.Seq.{getD-append-add}
 use Rattle.basics.specs.Limits.{deepest, cubeKids, largestValue}
 use Rattle.ids_text.specs.Text.{textOf}
 use Rattle.nodes.proofs.Sums.{cases}
-use Rattle.nodes.specs.Words.{putsFrom}
+use Rattle.basics.specs.Puts.{putsFrom}
+use Rattle.basics.proofs.Puts.{puts-there}
 use Rattle.paths.specs.declared.IVec3.{IVec3}
 use Rattle.arena.specs.Tables.{WellFormed}
 use Rattle.arena.specs.Calls.{Out, fitOf, fits, freshOf}
@@ -20,7 +21,7 @@ use Rattle.arena.proofs.Releasing.{release-well}
 use Rattle.edit.specs.Edit.{editOf}
 use Rattle.edit.proofs.Edits.{edit-well}
 use Rattle.edit_listing.specs.Listing.{State, word, cellIn, valueIn, counted, editIn, stepTo, stepOf, stateAt, lineOf, lineAt, linesAt, startOf, decimal, endingOf, listingOf, Entered, begun, block, Bytes}
-use Rattle.edit_listing.proofs.Puts.{text-short, digits-short, puts-there}
+use Rattle.edit_listing.proofs.Puts.{text-short, digits-short}
 use Rattle.edit_listing.proofs.Steps.{edit-unfit, step-accepted, step-refused}
 
 -- ---- well formed after each record

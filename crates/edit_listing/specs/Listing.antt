@@ -11,7 +11,7 @@ use Rattle.ids.specs.Ids.{empty}
 use Rattle.ids_text.specs.Text.{textOf}
 use Rattle.paths.specs.declared.IVec3.{IVec3}
 use Rattle.paths.specs.Paths.{place}
-use Rattle.nodes.specs.Words.{putsFrom}
+use Rattle.basics.specs.Puts.{putsFrom}
 use Rattle.arena.specs.Tables.{Tables, tables}
 use Rattle.arena.specs.Calls.{Out, freshOf, releaseOf}
 use Rattle.edit.specs.Edit.{editOf}

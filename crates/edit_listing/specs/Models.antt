@@ -3,16 +3,20 @@ use mathlib.Core.List.{List}
 use Prim.Native.Nat.{ℕ, _+_}
 use lib.ListN.{length}
 use Rattle.paths.specs.declared.IVec3.{IVec3}
-use Rattle.nodes.specs.Words.{putsFrom}
+use Rattle.basics.specs.Puts.{putsFrom}
+use Rattle.edit_listing.specs.declared.Step.{Step}
 use Rattle.edit_listing.specs.Listing.{State, Stepped, editIn, stepOf, cellIn, valueIn, lineOf, stateAt, linesAt}
 
 -- one edit
 unfoldable pub steppedOf : State → IVec3 → ℕ → Stepped
 steppedOf s p v = record { state = stepOf s p v; no = editIn s p v .no }
 
--- the line of an edit
+-- the line of an edit, from what it comes to and from the code's answer
 abbrev pub lineFor : Stepped → List ℕ
 lineFor r = lineOf (r .state .count) (r .no) (r .state .root)
+
+abbrev pub lineBy : Step → List ℕ
+lineBy r = lineOf (r .run .count) (r .no) (r .run .root .0)
 
 -- where a block stands: the state, how many bytes were written, and the bytes lent for them
 pub record Kept : Type 0 where

@@ -13,12 +13,12 @@ ghost use Prim.Native.Nat.{_+_, _*_, _<_, _≤_, _^_, min};
 ghost use mathlib.Core.List.{[], _∷_, _++_};
 ghost use lib.ListN.{length, set, take};
 ghost use Rattle.basics.specs.Limits.{deepest, cubeKids};
+ghost use Rattle.basics.specs.Puts.{putsFrom};
 ghost use Rattle.ids_text.specs.Text.{textOf};
-ghost use Rattle.nodes.specs.Words.{putsFrom};
 ghost use Rattle.arena.specs.Calls.{Fair};
 ghost use Rattle.edit_listing.specs.Lent.{before, after, stepped, told};
 ghost use Rattle.edit_listing.specs.Listing.{digitsOf, decimal, lineOf, shortOf, endingOf, word as wordIn, cellIn, valueIn, startOf, takenOf, toldOf};
-ghost use Rattle.edit_listing.specs.Models.{steppedOf, kept, oneOf};
+ghost use Rattle.edit_listing.specs.Models.{steppedOf, lineBy, kept, oneOf};
 
 // A line has at most so many bytes.
 const WIDEST: usize = 84;
@@ -234,8 +234,7 @@ fn edit_once(
 // The line of an edit, from `len` on.
 fn with_line(step: Step, out: &mut [u8], len: usize) -> Lined
     requires { ⌜ len + 84 < 2 ^ 64 ⌝ }
-    ensures { λ r. ⌜ (r .run ≡ step .run) × (r .len ≡ len + length (lineOf (step .run .count) (step .no) (step .run .root .0)))
-        × (now (out .exit) ≡ putsFrom (now (out .entry)) len (lineOf (step .run .count) (step .no) (step .run .root .0))) × (r .len ≤ len + 84) ⌝ }
+    ensures { λ r. ⌜ (r .run ≡ step .run) × (r .len ≡ len + length (lineBy step)) × (now (out .exit) ≡ putsFrom (now (out .entry)) len (lineBy step)) × (r .len ≤ len + 84) ⌝ }
 {
     let run = step.run;
     let line = put_line(out, len, run.count, step.no, run.root);

@@ -1,5 +1,5 @@
 -- A content compared, and the homes: a slot's home depends on its content alone.
-use mathlib.Core.Path.{_≡_, refl, sym, ap, ap₂, _∙_, subst}
+use mathlib.Core.Path.{_≡_, refl, sym, ap, _∙_, subst}
 use mathlib.Core.Logic.{_≢_}
 use mathlib.Core.Bool.{Bool, true, false, true≢false}
 use mathlib.Core.List.{List, [], _∷_}
@@ -15,30 +15,14 @@ use Rattle.nodes.specs.Tally.{tabFrom, kidsOf}
 use Rattle.nodes.specs.Words.{Words, nodes, kidOf, factOf, wordOf, value, own, height}
 use Rattle.nodes.proofs.Access.{word-fact}
 use Rattle.nodes.proofs.Counts.{kids-same}
-use Rattle.nodes.proofs.Sums.{cases}
+use Rattle.nodes.proofs.Sums.{cases, tab-at, tab-list}
 use Rattle.find.specs.Cells.{stops, probeN, probe, cell}
 use Rattle.find.specs.Content.{noKids, agree, contentIs, homeAt}
-
--- an element of a table
-pub tab-at : (k i : ℕ) (f : ℕ → ℕ) (j : ℕ) → j < k → getD (tabFrom k i f) j 0 ≡ f (i + j)
-unfolding tabFrom
-tab-at zero i f j h = absurd (omega arith)
-tab-at (suc k) i f zero h = let e : i + 0 ≡ i = omega arith in ap f (sym e)
-tab-at (suc k) i f (suc j) h = let e : suc i + j ≡ i + suc j = omega arith in tab-at k (suc i) f j (omega arith) ∙ ap f e
 
 -- the children of slot s, read at once
 pub own-at : (j : ℕ) → j < 8 → (U : Words) (s : ℕ) (own : List ℕ) → own ≡ kidsOf 8 U s → getD own j 0 ≡ U s j
 unfolding kidsOf
 own-at j l U s own is = let z : 0 + j ≡ j = omega arith in ap (λ (x : List ℕ). getD x j 0) is ∙ tab-at 8 0 (U s) j l ∙ ap (U s) z
-
--- a list is the table of its elements
-pub tab-list : (ks : List ℕ) (i : ℕ) (f : ℕ → ℕ) → ((j : ℕ) → j < length ks → f (i + j) ≡ getD ks j 0) → tabFrom (length ks) i f ≡ ks
-unfolding tabFrom
-tab-list [] i f h = refl
-tab-list (a ∷ ks) i f h =
-    let e : i + 0 ≡ i = omega arith in
-    ap₂ (λ (z : ℕ) (l : List ℕ). z ∷ l) (ap f (sym e) ∙ h 0 (omega arith))
-    (tab-list ks (suc i) f (λ j l. let e : suc i + j ≡ i + suc j = omega arith in ap f e ∙ h (suc j) (omega arith)))
 
 -- ---- the content compared
 

@@ -2,7 +2,7 @@
 use mathlib.Core.List.{List, [], _∷_, _++_}
 use Prim.Native.Nat.{ℕ, zero, suc, _+_, _-_, _/_, _%_, _^_}
 use lib.Dec.{eqb, ltb}
-use lib.ListN.{length, replicate, set}
+use lib.ListN.{length, replicate}
 use Rattle.basics.specs.Pick.{pick}
 use Rattle.basics.specs.Codes.{codes}
 use Rattle.ids_text.specs.declared.IdText.{IdText}
@@ -39,8 +39,3 @@ padded s = record { bytes = s ++ replicate (41 - length s) 0; len = length s }
 
 abbrev pub idTextOf : ℕ → IdText
 idTextOf raw = padded (textOf raw)
-
--- A list with s written over it from `at` on. (Private functions write so: no reader of `textOf` needs it.)
-unfoldable pub overwritten : List ℕ → ℕ → List ℕ → List ℕ
-overwritten l at [] = l
-overwritten l at (x ∷ s) = set (overwritten l (at + 1) s) at x

@@ -2,7 +2,8 @@
 ghost use mathlib.Core.Path.{_≡_};
 ghost use Prim.Native.Nat.{_+_, _<_, _≤_};
 ghost use Rattle.basics.specs.Codes.{codes};
-ghost use Rattle.ids_text.specs.Text.{digit as digitOf, hex, leafText, branchText, overwritten, padded, idTextOf};
+ghost use Rattle.basics.specs.Puts.{putsFrom};
+ghost use Rattle.ids_text.specs.Text.{digit as digitOf, hex, leafText, branchText, padded, idTextOf};
 use ids::BlockId;
 
 // A text of at most 41 bytes; those from `len` on are 0.
@@ -83,7 +84,7 @@ fn digit(d: u32) -> u8
 // The last n hex digits of v, written from `at` on.
 fn put_hex(bytes: [u8; 41], at: usize, n: usize, v: u32) -> [u8; 41]
     requires { ⌜ at + n ≤ 41 ⌝ }
-    ensures { λ r. ⌜ r ≡ overwritten bytes at (hex n v) ⌝ }
+    ensures { λ r. ⌜ r ≡ putsFrom bytes at (hex n v) ⌝ }
 {
     let mut out = bytes;
     let mut rest = v;

@@ -3,16 +3,16 @@ use mathlib.Core.Path.{_≡_, sym, ap, _∙_}
 use mathlib.Core.Logic.{_≢_, ⊎-elim}
 use mathlib.Core.Bool.{true, false, true≢false}
 use mathlib.Core.List.{List}
-use Prim.Native.Nat.{ℕ, zero, suc, _+_, _/_, _≤_, _<_}
+use Prim.Native.Nat.{ℕ, _+_, _/_, _≤_, _<_}
 use native.Mathlib.Omega.{arith}
 use lib.Dec.{eqb, leb}
 use lib.ListN.{length, getD}
 use borrow.Author.Tests.{eq-eqb, eqb-true, leb-true, le-leb}
 use Rattle.ids.specs.Ids.{generationOf, isLeaf}
-use Rattle.nodes.specs.Tally.{kidsOf, tabFrom}
+use Rattle.nodes.specs.Tally.{kidsOf}
 use Rattle.nodes.specs.Words.{Words, own, value, slot, floor, wordOf}
 use Rattle.nodes.proofs.Counts.{floor-pos}
-use Rattle.nodes.proofs.Sums.{sumTo-ext, tabFrom-length}
+use Rattle.nodes.proofs.Sums.{sumTo-ext, tabFrom-length, tab-at}
 use Rattle.find.specs.Content.{agree}
 use Rattle.find.proofs.Contents.{agree-true, agree-words, kids-are}
 use Rattle.arena.specs.Calls.{empties, leafIn, leafSlot, noneOf, branchIn, branchSlot}
@@ -25,12 +25,6 @@ use Rattle.arena.proofs.Ids.{flag-floor, leaf-flag, node-leaf, node-slot, gen-s
 use Rattle.arena.proofs.Rows.{empties-length, empties-at}
 use Rattle.arena.proofs.Scan.{find-hit, find-miss}
 use Rattle.ledger.specs.Fates.{Lives, Has}
-
-tab-at : (k i : ℕ) (f : ℕ → ℕ) (j : ℕ) → j < k → getD (tabFrom k i f) j 0 ≡ f (i + j)
-unfolding tabFrom
-tab-at zero i f j l = absurd (omega arith)
-tab-at (suc k) i f zero l = let e : i ≡ i + 0 = omega arith in ap f e
-tab-at (suc k) i f (suc j) l = let e : suc i + j ≡ i + suc j = omega arith in tab-at k (suc i) f j (omega arith) ∙ ap f e
 
 pub kid-word : (U : Words) (s i : ℕ) → i < 8 → U s i ≡ getD (kidsOf 8 U s) i 0
 unfolding kidsOf

@@ -1,15 +1,17 @@
 -- The laws of access: what a write leaves of each word. After these the addressing is not opened again.
 use mathlib.Core.Path.{_≡_, refl, sym, ap, _∙_}
 use mathlib.Core.Logic.{_≢_}
-use mathlib.Core.List.{List, [], _∷_}
-use Prim.Native.Nat.{ℕ, zero, suc, _+_, _-_, _*_, _≤_, _<_}
+use mathlib.Core.List.{List}
+use Prim.Native.Nat.{ℕ, _+_, _-_, _*_, _≤_, _<_}
 use native.Mathlib.Decide.{ℕ-discrete, decLt}
 use native.Mathlib.Omega.{arith}
 use lib.ListN.{length, getD, set, length-set, List·getD-eq-default}
-use lib.Seq.{getD-set-same, getD-set-other, set-out, set-set, set-comm, set-getD}
+use lib.Seq.{getD-set-same, getD-set-other, set-out, set-set, set-getD}
 use borrow.Author.Tests.{lt-ltb, le-ltb, le-leb, lt-leb}
+use Rattle.basics.specs.Puts.{putsFrom}
+use Rattle.basics.proofs.Puts.{puts-length, puts-other, puts-at, puts-over}
 use Rattle.nodes.specs.Tally.{kidsOf}
-use Rattle.nodes.specs.Words.{own, spare, Nodes, nodes, kidOf, factOf, wordOf, factPut, putOf, putsFrom, written}
+use Rattle.nodes.specs.Words.{own, spare, Nodes, nodes, kidOf, factOf, wordOf, factPut, putOf, written}
 use Rattle.nodes.proofs.Counts.{Others}
 use Rattle.nodes.proofs.Sums.{cases, tabFrom-ext}
 
@@ -192,37 +194,6 @@ put-less x s f h k =
   where
     v : ℕ
     v = wordOf x s f - 1
-
--- ---- a row written
-
-pub puts-length : (l : List ℕ) (at : ℕ) (vs : List ℕ) → length (putsFrom l at vs) ≡ length l
-unfolding putsFrom
-puts-length l at [] = refl
-puts-length l at (v ∷ vs) = puts-length (set l at v) (suc at) vs ∙ length-set l at v
-
-puts-other : (l : List ℕ) (at : ℕ) (vs : List ℕ) (p : ℕ) → (at ≤ p → p < at + length vs → ⊥) → getD (putsFrom l at vs) p 0 ≡ getD l p 0
-unfolding putsFrom
-puts-other l at [] p h = refl
-puts-other l at (v ∷ vs) p h =
-    puts-other (set l at v) (suc at) vs p (λ a b. h (omega arith) (omega arith)) ∙ getD-set-other l at p v 0 (λ e. h (omega arith) (omega arith))
-
-puts-at : (l : List ℕ) (at : ℕ) (vs : List ℕ) (k : ℕ) → at + length vs ≤ length l → k < length vs → getD (putsFrom l at vs) (at + k) 0 ≡ getD vs k 0
-unfolding putsFrom
-puts-at l at [] k m h = absurd (omega arith)
-puts-at l at (v ∷ vs) zero m h =
-    let e : at + 0 ≡ at = omega arith in
-    rw e (puts-other (set l at v) (suc at) vs at (λ a b. omega arith) ∙ getD-set-same l at v 0 (omega arith))
-puts-at l at (v ∷ vs) (suc k) m h =
-    let e : at + suc k ≡ suc at + k = omega arith in
-    rw e (puts-at (set l at v) (suc at) vs k (omega (arith, length-set l at v)) (omega arith))
-
--- what is written over leaves nothing
-puts-over : (l : List ℕ) (at : ℕ) (vs : List ℕ) (p v : ℕ) → at ≤ p → p < at + length vs → putsFrom (set l p v) at vs ≡ putsFrom l at vs
-unfolding putsFrom
-puts-over l at [] p v a b = absurd (omega arith)
-puts-over l at (w ∷ vs) p v a b = cases (ℕ-discrete p at)
-    (λ (e : p ≡ at). ap (λ (m : List ℕ). putsFrom m (suc at) vs) (rw e (set-set l at v w)))
-    (λ d. ap (λ (m : List ℕ). putsFrom m (suc at) vs) (set-comm l p at v w d) ∙ puts-over (set l at w) (suc at) vs p v (omega arith) (omega arith))
 
 -- ---- a slot written
 

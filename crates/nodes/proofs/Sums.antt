@@ -8,7 +8,7 @@ use native.Mathlib.Nat.{not-suc-le-zero}
 use native.Mathlib.Decide.{ℕ-discrete, decLt}
 use native.Mathlib.Omega.{arith}
 use lib.Dec.{T, eqb, eqb→eq, eqb-refl}
-use lib.ListN.{length}
+use lib.ListN.{length, getD}
 use Rattle.basics.specs.Sums.{sumTo}
 use Rattle.nodes.specs.Tally.{oneIf, same, occ, tabFrom}
 
@@ -174,6 +174,22 @@ pub tabFrom-length : (k i : ℕ) (f : ℕ → ℕ) → length (tabFrom k i f) �
 unfolding tabFrom
 tabFrom-length zero i f = refl
 tabFrom-length (suc k) i f = ap suc (tabFrom-length k (suc i) f)
+
+-- an element of a table
+pub tab-at : (k i : ℕ) (f : ℕ → ℕ) (j : ℕ) → j < k → getD (tabFrom k i f) j 0 ≡ f (i + j)
+unfolding tabFrom
+tab-at zero i f j h = absurd (omega arith)
+tab-at (suc k) i f zero h = let e : i + 0 ≡ i = omega arith in ap f (sym e)
+tab-at (suc k) i f (suc j) h = let e : suc i + j ≡ i + suc j = omega arith in tab-at k (suc i) f j (omega arith) ∙ ap f e
+
+-- a list is the table of its elements
+pub tab-list : (ks : List ℕ) (i : ℕ) (f : ℕ → ℕ) → ((j : ℕ) → j < length ks → f (i + j) ≡ getD ks j 0) → tabFrom (length ks) i f ≡ ks
+unfolding tabFrom
+tab-list [] i f h = refl
+tab-list (a ∷ ks) i f h =
+    let e : i + 0 ≡ i = omega arith in
+    ap₂ (λ (z : ℕ) (l : List ℕ). z ∷ l) (ap f (sym e) ∙ h 0 (omega arith))
+    (tab-list ks (suc i) f (λ j l. let e : suc i + j ≡ i + suc j = omega arith in ap f e ∙ h (suc j) (omega arith)))
 
 pub occ-length : (y : ℕ) (l : List ℕ) → occ y l ≤ length l
 occ-length y [] = omega (arith, occ-nil y)

@@ -1,11 +1,12 @@
 -- Where a node's words lie. Two lent tables hold a slot's fifteen words: `kids` the eight children, eight words a slot, and `facts` the other
 -- seven, seven words a slot. `W s f` is the word f of the slot s.
-use mathlib.Core.List.{List, [], _∷_}
-use Prim.Native.Nat.{ℕ, suc, _+_, _-_, _*_, _^_}
+use mathlib.Core.List.{List}
+use Prim.Native.Nat.{ℕ, _+_, _-_, _*_, _^_}
 use lib.Dec.{leb, ltb}
 use lib.ListN.{getD, set}
 use Rattle.basics.specs.Limits.{kidWords, factWords}
 use Rattle.basics.specs.Pick.{pick}
+use Rattle.basics.specs.Puts.{putsFrom}
 use Rattle.ids.specs.Ids.{indexOf}
 
 -- ## The words: 0 to 7 are the children
@@ -65,11 +66,6 @@ factPut l s f v = pick (leb own f) (pick (leb f spare) (set l (factWords * s + (
 
 unfoldable pub putOf : Nodes → ℕ → ℕ → ℕ → Nodes
 putOf x s f v = nodes (x .kids) (factPut (x .facts) s f v)
-
--- the numbers vs written from `at` on
-unfoldable pub putsFrom : List ℕ → ℕ → List ℕ → List ℕ
-putsFrom l at [] = l
-putsFrom l at (v ∷ vs) = putsFrom (set l at v) (suc at) vs
 
 -- a whole slot written: its eight children, and its seven facts in order
 unfoldable pub written : Nodes → ℕ → List ℕ → List ℕ → Nodes

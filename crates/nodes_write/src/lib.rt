@@ -10,7 +10,8 @@ ghost use mathlib.Core.List.{[], _∷_};
 ghost use Prim.Native.Nat.{_+_, _*_, _≤_, _<_};
 ghost use lib.ListN.{length, set};
 ghost use Rattle.basics.specs.Limits.{kidWords, factWords};
-ghost use Rattle.nodes.specs.Words.{nodes, factPut, putsFrom, written};
+ghost use Rattle.basics.specs.Puts.{putsFrom};
+ghost use Rattle.nodes.specs.Words.{nodes, factPut, written};
 
 // Writes the fact f of slot s.
 pub fn put_fact(facts: &mut [u64], s: usize, f: usize, v: u64)

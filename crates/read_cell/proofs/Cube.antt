@@ -9,8 +9,7 @@ use lib.Arith.{digits-div, digits-mod}
 use lib.ListN.{length, getD}
 use lib.Seq.{ext-getD}
 use Rattle.nodes.specs.Words.{Words}
-use Rattle.nodes.specs.Tally.{tabFrom}
-use Rattle.nodes.proofs.Sums.{tabFrom-length}
+use Rattle.nodes.proofs.Sums.{tabFrom-length, tab-at}
 use Rattle.read_cell.specs.Reading.{cellOf, cubeOf}
 
 -- ---- where cell (x, y, z) stands: s cells a row, t rows a plane (t is s for a cube, 1 for a sheet)
@@ -49,14 +48,6 @@ addr-one s t x y z x′ y′ z′ h k h′ k′ e =
       ey = sym (addr-yz s t x y z h k) ∙ ap (λ (i : ℕ). i / s / t) e ∙ addr-yz s t x′ y′ z′ h′ k′;
       ez = sym (addr-z s t x y z h k) ∙ ap (λ (i : ℕ). i / s % t) e ∙ addr-z s t x′ y′ z′ h′ k′;
     }
-
--- ---- a table by its index
-
-tab-at : (n k i : ℕ) (f : ℕ → ℕ) → i < n → getD (tabFrom n k f) i 0 ≡ f (k + i)
-unfolding tabFrom
-tab-at zero k i f h = absurd (omega arith)
-tab-at (suc n) k zero f h = let e : k ≡ k + 0 = omega arith in ap f e
-tab-at (suc n) k (suc i) f h = let e : suc k + i ≡ k + suc i = omega arith in tab-at n (suc k) i f (omega arith) ∙ ap f e
 
 -- ---- powers
 
@@ -110,7 +101,7 @@ module _ (W : Words) (d id : ℕ) where
       let ey : addr s s x y z / (s * s) ≡ y = rw (← div-div-eq-div-mul (addr s s x y z) s s) (addr-yz s s x y z hx hz) in
       let ez : addr s s x y z / s % s ≡ z = addr-z s s x y z hx hz in
       let e0 : 0 + addr s s x y z ≡ addr s s x y z = omega arith in
-      rw (pow-four d) (tab-at (8 ^ d) 0 (addr s s x y z) _ lt ∙ cell-as (ap (λ (i : ℕ). i % s) e0 ∙ ex) (ap (λ (i : ℕ). i / (s * s)) e0 ∙ ey) (ap (λ (i : ℕ). i / s % s) e0 ∙ ez))
+      rw (pow-four d) (tab-at (8 ^ d) 0 _ (addr s s x y z) lt ∙ cell-as (ap (λ (i : ℕ). i % s) e0 ∙ ex) (ap (λ (i : ℕ). i / (s * s)) e0 ∙ ey) (ap (λ (i : ℕ). i / s % s) e0 ∙ ez))
 
   -- a list of the right length with those cells is the cube
   pub cube-one : (l : List ℕ) → length l ≡ 8 ^ d

@@ -6,7 +6,8 @@ use native.Mathlib.Decide.{decLe}
 use native.Mathlib.Omega.{arith}
 use lib.ListN.{replicate}
 use Rattle.ids.specs.Ids.{indexOf}
-use Rattle.nodes.specs.Words.{Nodes, nodes, own, factOf, wordOf, putsFrom, written, slot, floor}
+use Rattle.basics.specs.Puts.{putsFrom}
+use Rattle.nodes.specs.Words.{Nodes, nodes, own, factOf, wordOf, written, slot, floor}
 use Rattle.nodes.specs.Tally.{Live}
 use Rattle.nodes.proofs.Access.{written-others}
 use Rattle.tree.specs.Tree.{WellMade, look, kind}

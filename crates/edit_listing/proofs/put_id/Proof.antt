@@ -1,5 +1,6 @@
 use borrow.Author.Needs.{needs}
-use Rattle.edit_listing.proofs.Puts.{id-end, length-end}
+use Rattle.basics.proofs.Puts.{length-end}
+use Rattle.edit_listing.proofs.Puts.{id-end}
 use Rattle.edit_listing.proofs.put_id.Statement.{statement}
 use Rattle.edit_listing.proofs.put_id.Tie as tie
 

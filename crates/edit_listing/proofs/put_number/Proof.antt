@@ -1,5 +1,5 @@
 use borrow.Author.Needs.{needs}
-use Rattle.edit_listing.proofs.Puts.{puts-end, length-end}
+use Rattle.basics.proofs.Puts.{puts-end, length-end}
 use Rattle.edit_listing.proofs.put_number.Statement.{statement}
 use Rattle.edit_listing.proofs.put_number.Tie as tie
 

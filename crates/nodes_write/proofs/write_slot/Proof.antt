@@ -2,7 +2,8 @@ use borrow.Author.Needs.{needs}
 use Prim.Native.Nat.{ℕ, _*_}
 use mathlib.Core.Path.{_≡_}
 use mathlib.Core.List.{List}
-use Rattle.nodes.specs.Words.{nodes, putsFrom, written}
+use Rattle.basics.specs.Puts.{putsFrom}
+use Rattle.nodes.specs.Words.{nodes, written}
 use Rattle.nodes.proofs.Access.{nodes-path}
 use Rattle.nodes_write.proofs.write_slot.Statement.{statement}
 use Rattle.nodes_write.proofs.write_slot.Tie as tie
