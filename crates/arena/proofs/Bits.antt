@@ -11,9 +11,9 @@ use lib.Dec.{eqb}
 use lib.ListN.{length, getD}
 use borrow.Author.Tests.{eqb-true, eqb-false, eq-eqb, ne-eqb, not-true}
 use Rattle.basics.specs.Bits.{bit}
-use Rattle.ids.specs.Ids.{leafFlag, typesField, maskField, generationOf, isLeaf, typesOf, maskOf, hasChild}
+use Rattle.ids.specs.Ids.{leafFlag, typesField, maskField, generationOf, isLeaf, typesOf, maskOf, hasChild, Has}
 use Rattle.ids.proofs.Fields.{types-leaf, types-branch, mask-leaf, mask-branch, child-bit}
-use Rattle.ids.proofs.Packing.{Has, packed-fields}
+use Rattle.ids.proofs.Packing.{packed-fields}
 use Rattle.nodes.specs.Tally.{oneIf, kidsOf, Live}
 use Rattle.nodes.specs.Words.{Words, own, slot}
 use Rattle.nodes.proofs.Sums.{split, tabFrom-length, tab-at}

@@ -22,7 +22,7 @@ use Rattle.nodes.proofs.Sums.{cases, occ-nil, occ-append, sumTo-ext, sumTo-mono
 use Rattle.find_hash.specs.Hash.{homeFor}
 use Rattle.find.specs.Cells.{insertAt, probe, cell}
 use Rattle.find.proofs.Contents.{kids-are, probe-as}
-use Rattle.arena.specs.Calls.{Out, empties, noneOf, freshFacts, slotGiven, named, freshNode, leafAnew, branchAnew}
+use Rattle.arena.specs.Calls.{Out, empties, noneOf, freshSlot, freshFacts, slotGiven, named, freshNode, leafAnew, branchAnew}
 use Rattle.arena.specs.Models.{moreOf, givenOut, freshAt, leafFresh, branchFresh, wrapSum, valueBy}
 use Rattle.arena.specs.Node.{leafId, branchId, valueFor, heightFor, Node}
 use Rattle.arena.specs.Tables.{Tables, cap, W, LiveSlot}
@@ -44,6 +44,8 @@ pub record Grown (n tallest : ℕ) (t u : Tables) (debt : List ℕ) (k : ℕ) : 
 -- the node of id r is fresh in u: no slot of t had it
 pub record Fresh (t u : Tables) (r : ℕ) (ks : List ℕ) (v h p : ℕ) : Type 0 where
   pub caps : cap u ≡ cap t
+  pub given : u .arena ≡ slotGiven (t .arena) (W t)
+  pub lies : slot r ≡ freshSlot (t .arena)
   pub live : Live (cap t) (W u) r
   pub dead : W t (slot r) own < floor
   pub kid : (j : ℕ) → j < 8 → W u (slot r) j ≡ getD ks j 0
@@ -76,6 +78,8 @@ module _ (t : Tables) (id : ℕ) (ks : List ℕ) (v up h q : ℕ) (e : length ks
       let row : Row (W t) U′ (spot t) id ks v up h q = made-row t id ks v up h q e i room called in
       record {
         caps = refl;
+        given = refl;
+        lies = o;
         live = record { low = (let a = free .1 in omega arith); is = ap (λ (b : ℕ). U′ b own) o ∙ row .self; high = called .high };
         dead = subst (λ (b : ℕ). W t b own < floor) (sym o) (free .2);
         kid = λ j l. ap (λ (b : ℕ). U′ b j) o ∙ row .kid j l;

@@ -14,3 +14,4 @@ pub mod Leaves
 pub mod Holding
 pub mod Branching
 pub mod Releasing
+pub mod Searched

@@ -9,11 +9,11 @@ use native.Mathlib.Decide.{ℕ-discrete, decLt}
 use native.Mathlib.Omega.{arith}
 use lib.ListN.{length}
 use borrow.Author.Tests.{eq-eqb, ne-eqb}
-use Rattle.nodes.specs.Tally.{kidsOf, Live, occ, same}
+use Rattle.nodes.specs.Tally.{kidsOf, Live, occ, same, Under, here, down}
 use Rattle.nodes.specs.Words.{own, height, holds, places, spare, Nodes, nodes, written, slot, floor, Words, wordOf, putOf}
 use Rattle.nodes.proofs.Access.{Within, put-size, size-trans, within-size, written-over, put-same, put-slot, put-field, put-keeps, put-put, put-word, put-less}
 use Rattle.nodes.proofs.Counts.{floor-pos, kids-same, Counts, live-same, total-bound}
-use Rattle.nodes.proofs.Frame.{Frame, Under, lives-iff, here, down}
+use Rattle.nodes.proofs.Frame.{Frame, lives-iff}
 use Rattle.nodes.proofs.Sums.{cases, occ-nil, occ-here, occ-there}
 use Rattle.find.specs.Cells.{remove}
 use Rattle.find.specs.Content.{homeAt}
@@ -42,7 +42,7 @@ recycled-same a l m f s mine e over =
 put-over : (l : Nodes) (s f v : ℕ) (row : List ℕ) → length row ≡ 7 → written (putOf l s f v) s empties row ≡ written l s empties row
 put-over l s f v row e = written-over l s empties row empties-length e f v
 
-less-recycled : (f : ℕ) (t : Tables) (id : ℕ) → height ≤ f → recycled (lessOf f t id) (slot id) ≡ recycled t (slot id)
+pub less-recycled : (f : ℕ) (t : Tables) (id : ℕ) → height ≤ f → recycled (lessOf f t id) (slot id) ≡ recycled t (slot id)
 unfolding lessOf
 less-recycled f t id k =
     recycled-same (t .arena) (t .nodes) (putOf (t .nodes) (slot id) f (W t (slot id) f - 1)) (t .find) (slot id)
@@ -50,29 +50,29 @@ less-recycled f t id k =
     (λ b g j. put-keeps (t .nodes) (slot id) f (W t (slot id) f - 1) b g (omega arith))
     (put-over (t .nodes) (slot id) f (W t (slot id) f - 1))
 
-less-word : (f : ℕ) (t : Tables) (id b g : ℕ) → g ≢ f → W (lessOf f t id) b g ≡ W t b g
+pub less-word : (f : ℕ) (t : Tables) (id b g : ℕ) → g ≢ f → W (lessOf f t id) b g ≡ W t b g
 unfolding lessOf
 less-word f t id b g d = put-keeps (t .nodes) (slot id) f (W t (slot id) f - 1) b g d
 
-less-at : (f : ℕ) (t : Tables) (id : ℕ) → own ≤ f → f ≤ spare → W (lessOf f t id) (slot id) f ≡ W t (slot id) f - 1
+pub less-at : (f : ℕ) (t : Tables) (id : ℕ) → own ≤ f → f ≤ spare → W (lessOf f t id) (slot id) f ≡ W t (slot id) f - 1
 unfolding lessOf
 less-at f t id m k = put-less (t .nodes) (slot id) f m k
 
-less-kids : (f : ℕ) (t : Tables) (id : ℕ) → height ≤ f → kidsOf 8 (W (lessOf f t id)) (slot id) ≡ kidsOf 8 (W t) (slot id)
+pub less-kids : (f : ℕ) (t : Tables) (id : ℕ) → height ≤ f → kidsOf 8 (W (lessOf f t id)) (slot id) ≡ kidsOf 8 (W t) (slot id)
 less-kids f t id k = kids-same 8 (W t) (W (lessOf f t id)) (slot id) (λ i j. less-word f t id (slot id) i (omega arith))
 
 -- ---- the cases of `takes`
 
 module _ (k f : ℕ) (t : Tables) (id : ℕ) where
-  takes-empty : id ≡ 0 → takes (suc k) f t id ≡ t
+  pub takes-empty : id ≡ 0 → takes (suc k) f t id ≡ t
   unfolding takes
   takes-empty e = rw (eq-eqb id 0 e)
 
-  takes-left : id ≢ 0 → unusedOf (lessOf f t id) id ≡ false → takes (suc k) f t id ≡ lessOf f t id
+  pub takes-left : id ≢ 0 → unusedOf (lessOf f t id) id ≡ false → takes (suc k) f t id ≡ lessOf f t id
   unfolding takes
   takes-left d u = rw (ne-eqb id 0 d, u)
 
-  takes-gone : id ≢ 0 → unusedOf (lessOf f t id) id ≡ true → takes (suc k) f t id ≡ each (takes k places) (recycled (lessOf f t id) (slot id)) (kidsOf 8 (W (lessOf f t id)) (slot id))
+  pub takes-gone : id ≢ 0 → unusedOf (lessOf f t id) id ≡ true → takes (suc k) f t id ≡ each (takes k places) (recycled (lessOf f t id) (slot id)) (kidsOf 8 (W (lessOf f t id)) (slot id))
   unfolding takes
   takes-gone d u = rw (ne-eqb id 0 d, u)
 
@@ -241,6 +241,10 @@ module _ (n tallest : ℕ) (t : Tables) (m : n ≤ 8) (w : WellFormed n tallest 
 
   pub u-word : (b f : ℕ) → f ≤ spare → f ≢ holds → f ≢ places → W (settled t (slot id)) b f ≡ W t b f
   u-word = settled-word t id some inside held few
+
+  pub u-less : lessOf places (settled t (slot id)) id ≡ lessOf holds t id
+  unfolding lessOf
+  u-less = sym (unplaced-less (settled t (slot id)) id) ∙ settled-unplaced t id some inside held few
 
   pub u-inv : Inv (settled t (slot id)) (id ∷ [])
   unfolding settled settledN

@@ -1,2 +1,3 @@
 pub mod Rungs
 pub mod Puts
+pub mod Ladder

@@ -4,3 +4,4 @@ pub mod Bits
 pub mod Codes
 pub mod Sums
 pub mod Puts
+pub mod Ladder

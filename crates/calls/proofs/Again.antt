@@ -1,33 +1,32 @@
 -- After 32,766 recyclings an old id does match again: in an arena of two slots, interning one leaf and releasing it, over and over.
 use mathlib.Core.Path.{_≡_, refl, sym, ap, _∙_, subst}
 use mathlib.Core.Logic.{inr, ⊎-elim}
-use mathlib.Core.Bool.{true, true≢false}
+use mathlib.Core.Bool.{true}
 use mathlib.Core.List.{List}
 use Prim.Native.Nat.{ℕ, zero, suc, _+_, _*_, _≤_, _<_}
 use native.Mathlib.Decide.{decLt}
 use native.Mathlib.Omega.{arith}
 use lib.ListN.{length, getD, replicate}
 use Rattle.basics.specs.Limits.{kidWords, factWords, slotCells}
-use Rattle.nodes.specs.Tally.{kidsOf, occ, liveBit, liveCount}
+use Rattle.nodes.specs.Tally.{kidsOf, liveBit, liveCount}
 use Rattle.nodes.specs.Words.{own, slot, floor}
-use Rattle.nodes.proofs.Counts.{kids-same, live-nonzero}
+use Rattle.nodes.proofs.Counts.{kids-same, live-nonzero, occ-bare}
 use Rattle.nodes.proofs.Freeing.{live-zero}
 use Rattle.nodes.proofs.Sums.{cases, sumTo-pos}
-use Rattle.arena.specs.Calls.{Out, empties, leafSlot, internLeafOf, releaseOf, freshOf, fitOf}
+use Rattle.arena.specs.Calls.{empties, internLeafOf, releaseOf, freshOf, fitOf}
 use Rattle.arena.specs.Tables.{Tables, cap, W, WellFormed}
-use Rattle.arena.proofs.Fits.{sized-fits}
 use Rattle.arena.proofs.Holding.{fresh-well}
-use Rattle.arena.proofs.Rows.{empties-none, empties-at}
+use Rattle.arena.proofs.Rows.{empties-at}
 use Rattle.ledger.specs.Ledger.{on, ifAccepted, holdsOn}
 use Rattle.ledger.specs.Fates.{Lives, Has, ended}
+use Rattle.ledger.specs.Refusals.{LeafWhy, unsizedLeaf, nothing, fullLeaf, crowdedLeaf}
 use Rattle.ledger.proofs.Balance.{fresh-bare}
 use Rattle.ledger.proofs.Contents.{leaf-interned}
 use Rattle.ledger.proofs.Effects.{holds-dead, on-same, accepted}
-use Rattle.ledger.proofs.Found.{kid-word, slot-lives, not-ground, leaf-found}
+use Rattle.ledger.proofs.Found.{kid-word, slot-lives, not-ground}
 use Rattle.ledger.proofs.Generations.{ended-none, ended-one}
 use Rattle.ledger.proofs.Going.{leaf-makes-one, release-makes-none}
-use Rattle.ledger.proofs.Ladders.{leaf-made-no, leaf-ways}
-use Rattle.ledger.proofs.Refusals.{room-no}
+use Rattle.ledger.proofs.Refusals.{leaf-refusals}
 use Rattle.calls.specs.Does.{Does, Stepping, Since, now, then}
 use Rattle.calls.proofs.Arena.{leaf-does, release-does}
 use Rattle.calls.proofs.Compose.{since-does}
@@ -72,14 +71,13 @@ size-two = refl
 
 module _ (n tallest : ℕ) (m : n ≤ kidWords) where
   leaf-taken : (t : Tables) → WellFormed n tallest t → cap t ≡ 2 → Bare t → internLeafOf t 1 .no ≡ 0
-  leaf-taken t w two none =
-      leaf-ways t 1
-      (λ f e. absurd (let z = sized-fits t (w .sized) in true≢false (sym z ∙ f)))
-      (λ f z e. absurd (omega arith))
-      (λ f z s r e. ap (λ (o : Out). o .no) e ∙ leaf-made-no t 1)
-      (λ f z s r e. absurd (let c = room-no t r in let k = bare-count n tallest t m w none in omega arith))
-      (λ f z s r e. absurd (let h = leaf-found n tallest t m w 1 s in none (W t (leafSlot t 1) own) (h .1 .live)))
-      (λ f z s r e. ap (λ (o : Out). o .no) e)
+  leaf-taken t w two none = leaf-refusals n tallest t m (inr w) 1 .accepted .1 never
+    where
+      never : (k : ℕ) → LeafWhy t 1 k → ⊥
+      never k (unsizedLeaf u) = u (w .sized)
+      never k (nothing z) = omega arith
+      never k (fullLeaf y h f) = none y (h .live)
+      never k (crowdedLeaf h f) = let c = bare-count n tallest t m w none in omega arith
 
   one-leaf : (t : Tables) → WellFormed n tallest t → cap t ≡ 2 → Bare t → One n tallest (internLeafOf t 1 .after) (internLeafOf t 1 .id)
   one-leaf t w two none =
@@ -131,7 +129,8 @@ module _ (n tallest : ℕ) (m : n ≤ kidWords) where
           let lz : Lives after z = subst (λ (x : ℕ). Lives after x) e l in
           let s = release-makes-none n tallest t m (o .well) z .stays z lz .1 in
           let k : kidsOf kidWords (W after) (slot b) ≡ empties = ap (λ (x : ℕ). kidsOf kidWords (W after) (slot x)) e ∙ kids-same kidWords (W t) (W after) (slot z) (λ i j. sym (s i (omega arith))) ∙ o .has .kids in
-          ap (occ z) k ∙ empties-none z (live-nonzero (o .has .live))),
+          occ-bare n (W after) (slot b) z (live-nonzero (o .has .live))
+          (λ i j. kid-word (W after) (slot b) i (omega arith) ∙ ap (λ (ks : List ℕ). getD ks i 0) k ∙ empties-at i (omega arith))),
     )
 
     after-bare : Bare after

@@ -8,7 +8,7 @@ use Rattle.ids.specs.Ids.{generationOf}
 use Rattle.nodes.specs.Tally.{kidsOf, occ}
 use Rattle.nodes.specs.Words.{Words, own, slot}
 use Rattle.nodes.proofs.Counts.{live-nonzero}
-use Rattle.tree.specs.Tree.{LiveOr0, self, under, Extends, Keeps}
+use Rattle.tree.specs.Tree.{LiveOr0, Same, self, under, Extends, Keeps}
 use Rattle.arena.specs.Calls.{Out, freshOf, countsOf}
 use Rattle.arena.specs.Tables.{Tables, cap, W, LiveSlot, WellFormed}
 use Rattle.arena.proofs.Holding.{fresh-well}
@@ -39,7 +39,7 @@ module _ (n tallest : ℕ) (m : n ≤ kidWords) {t u : Tables} {granted taken ti
   -- A node goes exactly if nobody holds it afterwards, that is, all holds that it had or was granted are taken, and no node that is there afterwards has it
   -- as a child.
   pub gone-exactly : (y : ℕ) → Lives t y
-      → (Lives u y → ⊥) ↔ ((holdsOn t y + granted y ≡ taken y) × ((b : ℕ) → Lives u b → occ y (kidsOf kidWords (W u) (slot b)) ≡ 0))
+      → (Lives u y → ⊥) ↔ ((holdsOn t y + granted y ≡ taken y) × ((b : ℕ) → Lives u b → occ y (kidsOf n (W u) (slot b)) ≡ 0))
   gone-exactly y v =
       let r = unlive-exactly n tallest u m (d .well) y (live-nonzero v) in
       let e = d .balance y in
@@ -103,6 +103,10 @@ module _ (n tallest : ℕ) (m : n ≤ kidWords) {t u : Tables} {granted taken ti
   pub spared-kept : (a : ℕ) → (a ≡ 0) ⊎ (taken a < holdsOn t a) → Kept n tallest t u a
   spared-kept a (inl z) = kept-of a (empty-keeps n (cap t) (W t) (W u) a z)
   spared-kept a (inr h) = kept-of a (d .keeps a (held-lives t a (omega arith)) (d .spares a h))
+
+  -- A node that is there before and afterwards keeps its id, its children, its stored value and its height.
+  pub stays : (y : ℕ) → Lives t y → Lives u y → times (slot y) ≤ 32765 → Same n (cap t) (W t) (W u) y
+  stays y l k h = there-kept y (inr l) (inr k) h .keeps y self l
 
   -- Where no slot was recycled every node stays.
   pub all-kept : ((s : ℕ) → s < cap t → times s ≡ 0) → Extends n (cap t) (W t) (W u)

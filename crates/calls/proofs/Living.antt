@@ -13,10 +13,9 @@ use Rattle.basics.specs.Limits.{kidWords}
 use Rattle.basics.specs.Pick.{pick}
 use Rattle.basics.specs.Sums.{sumTo}
 use Rattle.ids.specs.Ids.{generationOf}
-use Rattle.nodes.specs.Tally.{kidsOf, occ, liveCount}
+use Rattle.nodes.specs.Tally.{kidsOf, occ, liveCount, Under, here, down}
 use Rattle.nodes.specs.Words.{Words, own, slot, floor}
 use Rattle.nodes.proofs.Counts.{live-nonzero}
-use Rattle.nodes.proofs.Frame.{Under, here, down}
 use Rattle.nodes.proofs.Freeing.{live-one, live-zero}
 use Rattle.nodes.proofs.Sums.{cases, tab-occ}
 use Rattle.tree.specs.Tree.{Branch, Below, self, under, childOf}

@@ -9,17 +9,15 @@ use native.Mathlib.Omega.{arith}
 use lib.ListN.{length}
 use Rattle.nodes.specs.Words.{Words, own, value, places, link, nodes, floor}
 use Rattle.nodes.specs.Tally.{kidsOf, tally, Free, liveCount}
-use Rattle.nodes.proofs.Counts.{floor-pos}
 use Rattle.nodes.proofs.Freeing.{freed-length}
 use Rattle.nodes.proofs.Sums.{cases, tabFrom-ext}
 use Rattle.nodes.proofs.Walking.{Walk, trail, walk-freed, freed-walk}
-use Rattle.find.specs.Cells.{cell, cellOf}
-use Rattle.find.specs.Content.{homeAt}
-use Rattle.find.proofs.Probing.{found}
+use Rattle.find.specs.Cells.{cell, cellOf, seat, Searched}
+use Rattle.find.proofs.Searched.{seated-reach}
 use Rattle.arena.specs.Tables.{Tables, cap, W, LiveSlot, Sized, WellFormed}
+use Rattle.arena.proofs.Searched.{well-searched}
 use Rattle.check_arena.proofs.Slots.{GoodSlot}
-use Rattle.check_find.specs.Models.{seat}
-use Rattle.check_find.proofs.Searching.{alike, alike-self, alike-words, seat-probe, Seated, seated-reach}
+use Rattle.check_find.proofs.Searching.{Seated}
 
 -- all but the tally
 pub record Sound (n tallest : ℕ) (t : Tables) : Type 0 where
@@ -50,20 +48,8 @@ module _ (n tallest : ℕ) (t : Tables) (w : WellFormed n tallest t) where
   link-zero s l k = cases (ℕ-discrete (W t s link) 0) (λ z. z)
       (λ z. absurd (let f = w .linked s l (omega arith) in let g = f .given in let b = f .below in ⊎-elim (λ q. omega arith) (λ q. omega arith) k))
 
-  named-live : (p : ℕ) → 0 < cell (t .find) p → LiveSlot t (cell (t .find) p)
-  named-live p a = w .finds .names (cell (t .find) p) a .0 (p, refl)
-
-  -- the search for a named slot ends where it is named
-  well-seated : (s p : ℕ) → 0 < s → LiveSlot t s → cell (t .find) p ≡ s → seat (t .find) (cap t) (W t) s ≡ p
-  well-seated s p a v e =
-      seat-probe (t .find) (cap t) (W t) s
-      ∙ found (homeAt (cap t) (W t)) (t .find) (alike (W t) s) s p (w .finds .reach) a e (alike-self (W t) s)
-      (λ q b d. let r = alike-words (W t) s (cell (t .find) q) d in w .distinct (cell (t .find) q) s (named-live q b) v (r .0) (r .1))
-
-  live-pos : (s : ℕ) → floor ≤ W t s own → 0 < s
-  live-pos s h = cases (ℕ-discrete s 0)
-      (λ z. absurd (let q : W t s own ≡ 0 = subst (λ (k : ℕ). W t k own ≡ 0) (sym z) (w .chain .ground) in omega (arith, floor-pos)))
-      (λ z. omega arith)
+  searched : Searched (cap t) (W t) (LiveSlot t) (t .find)
+  searched = well-searched n tallest t w
 
   pub well-sound : Sound n tallest t
   well-sound = record {
@@ -86,11 +72,8 @@ module _ (n tallest : ℕ) (t : Tables) (w : WellFormed n tallest t) where
         let q = w .lives in
         let e : length (w .freed) ≡ t .arena .next - 1 - t .arena .live = omega arith in
         subst (λ (k : ℕ). Walk (W t) (t .arena .next) k (t .arena .top)) e (freed-walk (w .chain));
-    seated = λ p a. let v = named-live p a in (v, well-seated (cell (t .find) p) p a v refl);
-    found = λ s l h.
-        let a = live-pos s h in
-        let m = w .finds .names s a .1 (l, h) in
-        ap (cell (t .find)) (well-seated s (m .0) a (l, h) (m .1)) ∙ m .1;
+    seated = λ p a. let v = searched .named p a in (v, sym (searched .once p (seat (t .find) (cap t) (W t) (cell (t .find) p)) a (sym (searched .found (cell (t .find) p) v))));
+    found = λ s l h. searched .found s (l, h);
   }
 
 -- ---- tables that pass are well formed
@@ -126,7 +109,7 @@ module _ (n tallest : ℕ) (t : Tables) (c : Sound n tallest t) (tallied : Talli
     tallied = λ s l. tallied s (l .0) (l .1);
     used = λ s l. c .slots s (l .0) .used (l .1);
     finds = record {
-      reach = seated-reach (t .find) (cap t) (W t) (c .seated);
+      reach = seated-reach (t .find) (cap t) (W t) (λ p a. c .seated p a .1);
       names = λ x a. (
         (λ p. subst (λ (y : ℕ). LiveSlot t y) (p .1) (c .seated (p .0) (let q = p .1 in omega arith) .0)),
         (λ l. (seat (t .find) (cap t) (W t) x, c .found x (l .0) (l .1))),

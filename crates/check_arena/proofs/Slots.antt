@@ -27,8 +27,8 @@ use Rattle.new_value.proofs.Facts.{sum-facts, top-facts}
 use Rattle.check_freed.specs.Models.{allIn}
 use Rattle.check_freed.proofs.Ladders.{Tells, tells-eq, tells-le, tells-lt, tells-map, tells-and, tells-if, tells-else, tells-not}
 use Rattle.check_freed.proofs.Passes.{tells-tab, tells-all}
+use Rattle.find.proofs.Searched.{kids-at, kids-length}
 use Rattle.check_freed.proofs.Freed.{given-tells}
-use Rattle.check_find.proofs.Searching.{kids-at, kids-length}
 use Rattle.check_arena.specs.Models.{factZero, blankAt, restsAt, deadFine, countsFine, leafNamed, leafFine, branchNamed, tallAt, branchFine, kindFine, liveFine, plainAt, slotFine}
 
 -- ---- the children

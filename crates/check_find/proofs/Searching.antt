@@ -9,64 +9,20 @@ use lib.ListN.{length, getD, List·getD-eq-default}
 use Rattle.nodes.specs.Words.{Words, own, value, nodes, kidOf, factOf, wordOf, floor}
 use Rattle.nodes.specs.Tally.{kidsOf}
 use Rattle.nodes.proofs.Access.{word-fact, kids-word}
-use Rattle.nodes.proofs.Sums.{cases, tabFrom-length, tab-at}
-use Rattle.find.specs.Cells.{cell, probe, cellOf, Reach}
-use Rattle.find.specs.Content.{contentIs, homeAt}
-use Rattle.find.proofs.Contents.{content-true, content-words}
-use Rattle.find.proofs.Probing.{Ended, ended}
+use Rattle.nodes.proofs.Sums.{cases}
+use Rattle.find.specs.Cells.{cell, cellOf, seat}
 use Rattle.arena.specs.declared.Arena.{Arena}
 use Rattle.check_freed.specs.Models.{allIn}
 use Rattle.check_freed.proofs.Ladders.{Tells, tells-eq, tells-le, tells-lt, tells-map, tells-and, tells-then, tells-else}
 use Rattle.check_freed.proofs.Passes.{tells-all}
-use Rattle.check_find.specs.Models.{seat, liveAt, namedAt, cellFine, foundAt, findFine}
-
--- ---- a slot's content is its own
-
-module _ (W : Words) (s : ℕ) where
-  -- has slot x the content of slot s?
-  abbrev pub alike : ℕ → Bool
-  alike x = contentIs W (kidsOf 8 W s) (W s value) x
-
-  pub kids-length : length (kidsOf 8 W s) ≡ 8
-  unfolding kidsOf
-  kids-length = tabFrom-length 8 0 (W s)
-
-  pub kids-at : (i : ℕ) → i < 8 → W s i ≡ getD (kidsOf 8 W s) i 0
-  unfolding kidsOf
-  kids-at i l = let e : 0 + i ≡ i = omega arith in sym (tab-at 8 0 (W s) i l ∙ ap (W s) e)
-
-  pub alike-self : alike s ≡ true
-  alike-self = content-true W (kidsOf 8 W s) (W s value) s kids-length kids-at refl
-
-  pub alike-words : (x : ℕ) → alike x ≡ true → ((i : ℕ) → i < 8 → W x i ≡ W s i) × (W x value ≡ W s value)
-  alike-words x e =
-      let r = content-words W (kidsOf 8 W s) (W s value) x kids-length e in
-      ((λ i m. r .0 i m ∙ sym (kids-at i m)), r .1)
+use Rattle.check_find.specs.Models.{liveAt, namedAt, cellFine, foundAt, findFine}
 
 -- ---- the finding table
 
 module _ (e : List ℕ) (c : ℕ) (W : Words) where
-  pub seat-probe : (s : ℕ) → seat e c W s ≡ probe (alike W s) e (homeAt c W s)
-  unfolding cellOf homeAt
-  seat-probe s = refl
-
   -- each cell that is not empty names a live slot, and is where the search for it ends
   abbrev pub Seated : Type 0
   Seated = (p : ℕ) → 0 < cell e p → ((cell e p < c) × (floor ≤ W (cell e p) own)) × (seat e c W (cell e p) ≡ p)
-
-  pub seated-reach : Seated → Reach (homeAt c W) (cell e)
-  seated-reach h =
-      record {
-        above = λ p a. rw (sits p a) at (E p .from);
-        filled = λ p q a b d. cases (ℕ-discrete q p) (λ (z : q ≡ p). rw z a) (λ z. E p .passed q b (rw (sits p a) (omega arith)) .0);
-        once = λ p q a b. sym (h p a .1) ∙ ap (seat e c W) b ∙ h q (omega arith) .1;
-      }
-    where
-      sits : (p : ℕ) → 0 < cell e p → probe (alike W (cell e p)) e (homeAt c W (cell e p)) ≡ p
-      sits p a = sym (seat-probe (cell e p)) ∙ h p a .1
-
-      E : (p : ℕ) → Ended (alike W (cell e p)) (cell e) (homeAt c W (cell e p)) (probe (alike W (cell e p)) e (homeAt c W (cell e p)))
-      E p = ended (alike W (cell e p)) e (homeAt c W (cell e p))
 
 module _ (k f e : List ℕ) (c : ℕ) where
   abbrev U : Words

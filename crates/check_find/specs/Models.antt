@@ -5,17 +5,11 @@ use mathlib.Core.List.{List}
 use Prim.Native.Nat.{ℕ}
 use lib.Dec.{eqb, leb, ltb}
 use lib.ListN.{length}
-use Rattle.basics.specs.Limits.{kidWords}
 use Rattle.basics.specs.Pick.{pick}
-use Rattle.nodes.specs.Words.{Words, own, value, nodes, factOf, wordOf, floor}
-use Rattle.nodes.specs.Tally.{kidsOf}
-use Rattle.find.specs.Cells.{cell, cellOf}
+use Rattle.nodes.specs.Words.{own, nodes, factOf, wordOf, floor}
+use Rattle.find.specs.Cells.{cell, seat}
 use Rattle.arena.specs.declared.Arena.{Arena}
 use Rattle.check_freed.specs.Models.{allIn}
-
--- where the search for the content of slot s ends
-abbrev pub seat : List ℕ → ℕ → Words → ℕ → ℕ
-seat e c W s = cellOf e c W (kidsOf kidWords W s) (W s value)
 
 unfoldable pub liveAt : List ℕ → ℕ → ℕ → Bool
 liveAt f c s = pick (ltb s c) (leb floor (factOf f s own)) false

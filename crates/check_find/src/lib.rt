@@ -11,8 +11,9 @@ use nodes::fact;
 ghost use mathlib.Core.Path.{_≡_};
 ghost use lib.ListN.{length, getD};
 ghost use Rattle.nodes.specs.Lent.{wordsIn};
+ghost use Rattle.find.specs.Cells.{seat};
 ghost use Rattle.check_freed.specs.Models.{allIn};
-ghost use Rattle.check_find.specs.Models.{seat, liveAt, namedAt, cellFine, foundAt, findFine};
+ghost use Rattle.check_find.specs.Models.{liveAt, namedAt, cellFine, foundAt, findFine};
 
 // Slot s has a live node.
 fn lives(facts: &[u64], capacity: usize, s: usize) -> bool

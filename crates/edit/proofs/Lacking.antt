@@ -12,9 +12,10 @@ use Rattle.nodes.proofs.Sums.{cases}
 use Rattle.tree.specs.Tree.{LiveOr0, WellMade, look, Extends}
 use Rattle.tree.specs.Anew.{Anew, Answer, asked, made}
 use Rattle.tree.specs.Lacks.{Need, have, lack, Plan}
+use Rattle.tree.specs.Room.{Bare}
 use Rattle.tree.proofs.Making.{renewed, anew-later, anew-one}
 use Rattle.tree.proofs.Plan.{plan-have}
-use Rattle.tree.proofs.Room.{Bare, tables-bare, there-more, made-more, anew-more, plan-few, room, lacks-newly, newly-one, newly-old}
+use Rattle.tree.proofs.Room.{tables-bare, there-more, made-more, anew-more, plan-few, room, lacks-newly, newly-one, newly-old}
 use Rattle.arena.specs.Tables.{Tables, cap, W}
 use Rattle.read_cell.proofs.Meaning.{wf-made}
 use Rattle.edit.specs.Edit.{planOf, resultOf, cellNo}

@@ -20,7 +20,7 @@ use Rattle.arena.proofs.Holding.{fresh-well}
 use Rattle.arena.proofs.Releasing.{release-well}
 use Rattle.edit.specs.Edit.{editOf}
 use Rattle.edit.proofs.Edits.{edit-well}
-use Rattle.edit_listing.specs.Listing.{State, word, cellIn, valueIn, counted, editIn, stepTo, stepOf, stateAt, lineOf, lineAt, linesAt, startOf, decimal, endingOf, listingOf, Entered, begun, block, Bytes}
+use Rattle.edit_listing.specs.Listing.{State, word, cellIn, valueIn, counted, editIn, stepTo, stepOf, stateAt, lineOf, lineAt, linesAt, startOf, decimal, endingOf, listingOf, Entered, begun, block, Stands, Bytes}
 use Rattle.edit_listing.proofs.Puts.{text-short, digits-short}
 use Rattle.edit_listing.proofs.Steps.{edit-unfit, step-accepted, step-refused}
 
@@ -163,12 +163,6 @@ module _ (a b : List ℕ) (m : ℕ) (whole : length a ≡ 8 * m) where
       ∙ append-assoc (linesAt s a m) (linesAt (stateAt s a m) b n) (lineAt (stateAt s a m) b n)
 
 -- ---- any number of blocks
-
--- where a run stands after blocks of whole records: what the bytes taken in so far come to
-pub record Stands (s : State) (b : List ℕ) (t : State) (lines : List ℕ) : Type 0 where
-  pub whole : length b ≡ 8 * (length b / 8)
-  pub state : t ≡ stateAt s b (length b / 8)
-  pub listed : lines ≡ linesAt s b (length b / 8)
 
 eighth : (k n : ℕ) → k ≡ 8 * n → k / 8 ≡ n
 eighth k n e = omega arith

@@ -151,6 +151,12 @@ pub data Entered (s : State) : List ℕ → State → List ℕ → Type 0 where
   block : {b : List ℕ} {t : State} {lines : List ℕ} → Entered s b t lines → (x : List ℕ) (n : ℕ) → length x ≡ 8 * n
       → Entered s (b ++ x) (stateAt t x n) (lines ++ linesAt t x n)
 
+-- where a run stands after blocks of whole records: what the bytes taken in so far come to
+pub record Stands (s : State) (b : List ℕ) (t : State) (lines : List ℕ) : Type 0 where
+  pub whole : length b ≡ 8 * (length b / 8)
+  pub state : t ≡ stateAt s b (length b / 8)
+  pub listed : lines ≡ linesAt s b (length b / 8)
+
 -- bytes
 abbrev pub Bytes : List ℕ → Type 0
 Bytes b = (i : ℕ) → getD b i 0 < 256

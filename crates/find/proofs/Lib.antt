@@ -3,3 +3,4 @@ pub mod Probing
 pub mod Erasing
 pub mod Finding
 pub mod Contents
+pub mod Searched

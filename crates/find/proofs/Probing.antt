@@ -11,7 +11,7 @@ use lib.Seq.{getD-set-same, getD-set-other}
 use lib.Dec.{eqb}
 use borrow.Author.Tests.{eqb-true, eqb-false, eq-eqb, ne-eqb}
 use Rattle.basics.specs.Pick.{pick}
-use Rattle.find.specs.Cells.{stops, probe, insertAt, cell, Reach, Named}
+use Rattle.find.specs.Cells.{stops, probe, Ended, insertAt, cell, Reach, Named}
 use Rattle.find.proofs.Steps.{probe-end, probe-here, probe-on}
 
 -- ---- what a stop means
@@ -32,11 +32,6 @@ goes-why same x = go (eqb x 0) refl
     go false e h = let n : x ≡ 0 → ⊥ = eqb-false x 0 e in (omega arith, h)
 
 -- ---- where a probe ends
-pub record Ended (same : ℕ → Bool) (u : ℕ → ℕ) (i r : ℕ) : Type 0 where
-  pub from : i ≤ r
-  pub passed : (q : ℕ) → i ≤ q → q < r → (0 < u q) × (same (u q) ≡ false)
-  pub ends : (u r ≡ 0) ⊎ (same (u r) ≡ true)
-
 pub ended : (same : ℕ → Bool) (t : List ℕ) (i : ℕ) → Ended same (cell t) i (probe same t i)
 ended same t i = go (length t - i) i refl
   where

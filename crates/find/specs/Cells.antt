@@ -1,14 +1,16 @@
 -- The finding table: cells that name slots, 0 for an empty cell. A slot stands at its home or above it. A table's end counts as an empty cell
 -- (`cell t p` is 0 there), so nothing wraps around.
 use mathlib.Core.Path.{_≡_}
-use mathlib.Core.Logic.{_↔_}
-use mathlib.Core.Bool.{Bool, true}
+use mathlib.Core.Logic.{_⊎_, _↔_}
+use mathlib.Core.Bool.{Bool, true, false}
 use mathlib.Core.List.{List}
 use Prim.Native.Nat.{ℕ, zero, suc, _-_, _≤_, _<_}
 use lib.Dec.{eqb, leb}
 use lib.ListN.{length, getD, set}
+use Rattle.basics.specs.Limits.{kidWords}
 use Rattle.basics.specs.Pick.{pick}
-use Rattle.nodes.specs.Words.{Words}
+use Rattle.nodes.specs.Words.{Words, value}
+use Rattle.nodes.specs.Tally.{kidsOf}
 use Rattle.find_hash.specs.Hash.{homeFor}
 use Rattle.find.specs.Content.{contentIs}
 
@@ -32,6 +34,16 @@ probe same t i = probeN same t (length t - i) i
 -- the cell where the search for a content ends: the search stops at the first slot whose content is equal
 unfoldable pub cellOf : List ℕ → ℕ → Words → List ℕ → ℕ → ℕ
 cellOf t cap W ks v = probe (contentIs W ks v) t (homeFor cap ks v)
+
+-- a probe from cell i ends at r: the cells passed name slots that are not the same, and r is empty or names one that is. `u p` is what the cell p holds
+pub record Ended (same : ℕ → Bool) (u : ℕ → ℕ) (i r : ℕ) : Type 0 where
+  pub from : i ≤ r
+  pub passed : (q : ℕ) → i ≤ q → q < r → (0 < u q) × (same (u q) ≡ false)
+  pub ends : (u r ≡ 0) ⊎ (same (u r) ≡ true)
+
+-- the cell where the search for the content of slot s ends
+abbrev pub seat : List ℕ → ℕ → Words → ℕ → ℕ
+seat t cap W s = cellOf t cap W (kidsOf kidWords W s) (W s value)
 
 -- ## A slot put in, and taken out
 
@@ -79,3 +91,10 @@ Named u s = (p : ℕ) × (u p ≡ s)
 pub record Finds (home : ℕ → ℕ) (live : ℕ → Type 0) (t : List ℕ) : Type 0 where
   pub reach : Reach home (cell t)
   pub names : (x : ℕ) → 0 < x → Named (cell t) x ↔ live x
+
+-- The same said of the search: the search for the content of a live slot ends at a cell that names it; the table names live slots only, each once.
+-- (Where no two live slots have equal content it is `Finds` with the slots' homes, both ways: proofs/Searched.antt)
+pub record Searched (cap : ℕ) (W : Words) (live : ℕ → Type 0) (t : List ℕ) : Type 0 where
+  pub found : (s : ℕ) → live s → cell t (seat t cap W s) ≡ s
+  pub named : (p : ℕ) → 0 < cell t p → live (cell t p)
+  pub once : (p q : ℕ) → 0 < cell t p → cell t p ≡ cell t q → p ≡ q

@@ -7,15 +7,7 @@ use native.Mathlib.Nat.{div-div-eq-div-mul}
 use native.Mathlib.Omega.{arith}
 use lib.Dec.{eqb}
 use borrow.Author.Tests.{le-leb}
-use Rattle.ids.specs.Ids.{leafFlag, typesField, maskField, generationOf, indexOf, pack, packingNo, newLeaf, newBranch, invalid, Packed}
-
--- the fields of raw are these five numbers
-pub record Has (l t m g i raw : ℕ) : Type 0 where
-  pub flag : leafFlag raw ≡ l
-  pub types : typesField raw ≡ t
-  pub mask : maskField raw ≡ m
-  pub generation : generationOf raw ≡ g
-  pub index : indexOf raw ≡ i
+use Rattle.ids.specs.Ids.{leafFlag, typesField, maskField, generationOf, indexOf, pack, packingNo, newLeaf, newBranch, invalid, Packed, Has}
 
 -- The fields of a packed number are what was packed.
 pub packed-fields : (l t m g i : ℕ) → l < 2 → t < 2 ^ 8 → m < 2 ^ 8 → g < 2 ^ 15 → i < 2 ^ 32 → Has l t m g i (pack l t m g i)

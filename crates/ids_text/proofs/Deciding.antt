@@ -9,9 +9,9 @@ use native.Mathlib.Omega.{arith}
 use lib.Arith.{mod-mul}
 use lib.ListN.{length, take, drop}
 use borrow.Author.Tests.{eq-eqb, ne-eqb}
-use Rattle.ids.specs.Ids.{leafFlag, typesField, maskField, generationOf, indexOf, isLeaf, pack, newLeaf, newBranch, invalid, Packed}
+use Rattle.ids.specs.Ids.{leafFlag, typesField, maskField, generationOf, indexOf, isLeaf, pack, newLeaf, newBranch, invalid, Packed, Has}
 use Rattle.ids_text.specs.Text.{digit, hex, leafText, branchText, textOf}
-use Rattle.ids.proofs.Packing.{Has, packed-fields, packed-below, fields-decide, accepted, pack-valid}
+use Rattle.ids.proofs.Packing.{packed-fields, packed-below, fields-decide, accepted, pack-valid}
 use Rattle.ids_text.proofs.Texts.{low-digit, high-digit}
 
 -- ---- digits decide a number

@@ -62,15 +62,8 @@ node-held t id z v y = omega (arith, accepted (said 0 empty (heldAt t (slot id))
 
 pub hold-balanced : (n tallest : ℕ) (t : Tables) → WellFormed n tallest t → (id : ℕ) → HoldBalance id t (holdOf t id)
 hold-balanced n tallest t w id =
-    hold-ways t id
-    (λ f e. to e (hold-nothing t id 1 (λ y. unaccepted (said 1 empty t) (on y id) (omega arith))))
-    (λ f z e. to e (hold-nothing t id 0 (λ y. accepted (said 0 empty t) (on y id) refl ∙ on-zero y id z)))
-    (λ f z l e. to e (hold-nothing t id 4 (λ y. unaccepted (said 4 empty t) (on y id) (omega arith))))
-    (λ f z l r e. to e (hold-nothing t id 10 (λ y. unaccepted (said 10 empty t) (on y id) (omega arith))))
-    (λ f z l r e. to e (node-held t id (w .sized) (live-is t id l)))
-  where
-    to : {o : Out} → holdOf t id ≡ o → HoldBalance id t o → HoldBalance id t (holdOf t id)
-    to e x = subst (λ (o : Out). HoldBalance id t o) (sym e) x
+    hold-ways (HoldBalance id t) t id (λ k d. hold-nothing t id k (λ y. unaccepted (said k empty t) (on y id) d))
+    (λ z. hold-nothing t id 0 (λ y. accepted (said 0 empty t) (on y id) refl ∙ on-zero y id z)) (λ z l. node-held t id (w .sized) (live-is t id l))
 
 -- ---- intern leaf
 
@@ -79,7 +72,7 @@ there-held : (t : Tables) (s id : ℕ) → Sized t → Lives t id → slot id �
 there-held t s id z l e y = omega (arith, accepted (said 0 id (heldAt t s)) (on y id) refl, held-balance t s id z l e y)
 
 module _ (n tallest : ℕ) (t : Tables) (m : n ≤ 8) (w : WellFormed n tallest t) (room : t .arena .live + 1 < cap t) where
-  leaf-one : (v : ℕ) → Fresh t (leafMade t v .after) (leafMade t v .id) empties v 1 0
+  pub leaf-one : (v : ℕ) → Fresh t (leafMade t v .after) (leafMade t v .id) empties v 1 0
   unfolding leafMade
   leaf-one v = leaf-new t (wf-inv n tallest t m w) room v 1 0
 
@@ -108,18 +101,10 @@ leaf-nothing t k d =
 
 pub leaf-balanced : (n tallest : ℕ) (t : Tables) → n ≤ 8 → WellFormed n tallest t → (v : ℕ) → LeafBalance t (internLeafOf t v)
 leaf-balanced n tallest t m w v =
-    leaf-ways t v
-    (λ f e. to e (leaf-nothing t 1 (omega arith)))
-    (λ f z e. to e (leaf-nothing t 6 (omega arith)))
-    (λ f z s r e. to e (leaf-made n tallest t m w (room-yes (t .arena) r) v))
-    (λ f z s r e. to e (leaf-nothing t 11 (omega arith)))
-    (λ f z s r e. to e (leaf-nothing t 10 (omega arith)))
-    (λ f z s r e.
+    leaf-ways (LeafBalance t) t v (leaf-nothing t) (λ s r. leaf-made n tallest t m w (room-yes (t .arena) r) v)
+    (λ s.
     let h = leaf-found n tallest t m w v s in
-    to e (there-held t (leafSlot t v) (W t (leafSlot t v) own) (w .sized) (h .1 .live) (slot-own n tallest t m w (leafSlot t v) (h .0))))
-  where
-    to : {o : Out} → internLeafOf t v ≡ o → LeafBalance t o → LeafBalance t (internLeafOf t v)
-    to e x = subst (λ (o : Out). LeafBalance t o) (sym e) x
+    there-held t (leafSlot t v) (W t (leafSlot t v) own) (w .sized) (h .1 .live) (slot-own n tallest t m w (leafSlot t v) (h .0)))
 
 -- ---- intern branch
 
@@ -196,7 +181,7 @@ module _ (n tallest : ℕ) (t : Tables) (m : n ≤ 8) (w : WellFormed n tallest 
       )
 
   -- on a fresh node they become places
-  placings : Placing (t .arena) (t .nodes) (t .find) ks []
+  pub placings : Placing (t .arena) (t .nodes) (t .find) ks []
   placings = placing (t .arena) (t .find) ks (t .nodes) [] (omega arith) (wf-inv n tallest t m w)
       (λ y z o. (kid-lives y z o, affords (W t) ks (fine .held) y z o))
 
@@ -207,7 +192,7 @@ module _ (n tallest : ℕ) (t : Tables) (m : n ≤ 8) (w : WellFormed n tallest 
   placed-word b f l = placings .eased .words b f (omega arith) (omega arith) (omega arith)
 
   module _ (room : t .arena .live + 1 < cap t) where
-    branch-one : Fresh put (branchMade n t ks .after) (branchMade n t ks .id) ks (valueFor n (W t) ks) 1 0
+    pub branch-one : Fresh put (branchMade n t ks .after) (branchMade n t ks .id) ks (valueFor n (W t) ks) 1 0
     unfolding branchMade
     branch-one =
         subst (λ (v : ℕ). Fresh put (branchAnew n put ks 1 0 .after) (branchAnew n put ks 1 0 .id) ks v 1 0)
@@ -247,19 +232,8 @@ branch-nothing t ks k d =
 
 pub branch-balanced : (n tallest : ℕ) (t : Tables) → n ≤ 8 → WellFormed n tallest t → (ks : List ℕ) → length ks ≡ 8 → BranchBalance ks t (internBranchOf n tallest t ks)
 branch-balanced n tallest t m w ks e8 =
-    branch-ways n tallest t ks
-    (λ f e. to e (branch-nothing t ks 1 (omega arith)))
-    (λ f a e. to e (branch-nothing t ks 4 (omega arith)))
-    (λ f a b e. to e (branch-nothing t ks 5 (omega arith)))
-    (λ f a b c e. to e (branch-nothing t ks 7 (omega arith)))
-    (λ f a b c h e. to e (branch-nothing t ks 8 (omega arith)))
-    (λ f s r e. to e (branch-made n tallest t m w ks e8 f (room-yes (t .arena) r)))
-    (λ f s r e. to e (branch-nothing t ks 11 (omega arith)))
-    (λ f s r e. to e (branch-nothing t ks 10 (omega arith)))
-    (λ f s r e. to e (branch-held n tallest t m w ks e8 f s))
-  where
-    to : {o : Out} → internBranchOf n tallest t ks ≡ o → BranchBalance ks t o → BranchBalance ks t (internBranchOf n tallest t ks)
-    to e x = subst (λ (o : Out). BranchBalance ks t o) (sym e) x
+    branch-ways (BranchBalance ks t) n tallest t ks (branch-nothing t ks) (λ f s r. branch-made n tallest t m w ks e8 f (room-yes (t .arena) r))
+    (branch-held n tallest t m w ks e8)
 
 -- ---- release
 

@@ -68,60 +68,29 @@ made t v ks o none h new = record { has = h; again = λ y q. absurd (none y q); 
 -- Interning a leaf, accepted: a live node of that value; the live one of that value if there is one, else a fresh one.
 pub leaf-interned : (n tallest : ℕ) (t : Tables) → n ≤ 8 → WellFormed n tallest t → (v : ℕ) → internLeafOf t v .no ≡ 0 → Interned t empties v (internLeafOf t v)
 leaf-interned n tallest t m w v =
-    leaf-ways t v
-    (λ f e. to e (λ z. absurd (omega arith)))
-    (λ f d e. to e (λ z. absurd (omega arith)))
-    (λ f d s r e. to e (λ z.
+    leaf-ways (λ o. o .no ≡ 0 → Interned t empties v o) t v (λ k d z. absurd (d z))
+    (λ s r z.
     let h = leaf-has n tallest t m w (room-yes (t .arena) r) v in
-    made t v empties (leafMade t v) (leaf-missing n tallest t m w v s) (h .0) (h .1)))
-    (λ f d s r e. to e (λ z. absurd (omega arith)))
-    (λ f d s r e. to e (λ z. absurd (omega arith)))
-    (λ f d s r e. to e (λ z.
-    there n tallest t (heldAt t (leafSlot t v)) (W t (leafSlot t v) own) v empties m w (held-grew t (leafSlot t v)) (held-arena t (leafSlot t v)) (leaf-found n tallest t m w v s .1)))
-  where
-    to : {o : Out} → internLeafOf t v ≡ o → (o .no ≡ 0 → Interned t empties v o) → internLeafOf t v .no ≡ 0 → Interned t empties v (internLeafOf t v)
-    to e x = subst (λ (o : Out). o .no ≡ 0 → Interned t empties v o) (sym e) x
+    made t v empties (leafMade t v) (leaf-missing n tallest t m w v s) (h .0) (h .1))
+    (λ s z.
+    there n tallest t (heldAt t (leafSlot t v)) (W t (leafSlot t v) own) v empties m w (held-grew t (leafSlot t v)) (held-arena t (leafSlot t v)) (leaf-found n tallest t m w v s .1))
 
 -- Interning a branch, accepted: a live node of those eight ids (and of the value that they give); the live one of those ids if there is one,
 -- else a fresh one.
 pub branch-interned : (n tallest : ℕ) (t : Tables) → n ≤ 8 → WellFormed n tallest t → (ks : List ℕ) → length ks ≡ 8 → internBranchOf n tallest t ks .no ≡ 0
     → Interned t ks (valueFor n (W t) ks) (internBranchOf n tallest t ks)
 branch-interned n tallest t m w ks e8 =
-    branch-ways n tallest t ks
-    (λ f e. to e (λ z. absurd (omega arith)))
-    (λ f a e. to e (λ z. absurd (omega arith)))
-    (λ f a b e. to e (λ z. absurd (omega arith)))
-    (λ f a b c e. to e (λ z. absurd (omega arith)))
-    (λ f a b c h e. to e (λ z. absurd (omega arith)))
-    (λ f s r e. to e (λ z.
+    branch-ways (λ o. o .no ≡ 0 → Interned t ks (valueFor n (W t) ks) o) n tallest t ks (λ k d z. absurd (d z))
+    (λ f s r z.
     let h = branch-has n tallest t m w ks e8 f (room-yes (t .arena) r) in
-    made t (valueFor n (W t) ks) ks (branchMade n t ks) (λ y q. branch-missing n tallest t m w ks e8 s y (q .live) (q .kids)) (h .0) (h .1)))
-    (λ f s r e. to e (λ z. absurd (omega arith)))
-    (λ f s r e. to e (λ z. absurd (omega arith)))
-    (λ f s r e. to e (λ z.
+    made t (valueFor n (W t) ks) ks (branchMade n t ks) (λ y q. branch-missing n tallest t m w ks e8 s y (q .live) (q .kids)) (h .0) (h .1))
+    (λ f s z.
     there n tallest t (branchHeld t ks .after) (W t (branchSlot t ks) own) (valueFor n (W t) ks) ks m w (branch-held-grew n tallest t m w ks e8 f)
-    (held-arena (tablesOf (t .arena) (unheld (t .nodes) ks) (t .find)) (branchSlot t ks)) (branch-found n tallest t m w ks e8 (f .some) s .1)))
-  where
-    to : {o : Out} → internBranchOf n tallest t ks ≡ o → (o .no ≡ 0 → Interned t ks (valueFor n (W t) ks) o) → internBranchOf n tallest t ks .no ≡ 0
-        → Interned t ks (valueFor n (W t) ks) (internBranchOf n tallest t ks)
-    to e x = subst (λ (o : Out). o .no ≡ 0 → Interned t ks (valueFor n (W t) ks) o) (sym e) x
+    (held-arena (tablesOf (t .arena) (unheld (t .nodes) ks) (t .find)) (branchSlot t ks)) (branch-found n tallest t m w ks e8 (f .some) s .1))
 
 -- an accepted interning of a branch passed the refusals
 branch-fine : (n tallest : ℕ) (t : Tables) (ks : List ℕ) → internBranchOf n tallest t ks .no ≡ 0 → Fine n tallest t ks
-branch-fine n tallest t ks =
-    branch-ways n tallest t ks
-    (λ f e. to e (λ z. absurd (omega arith)))
-    (λ f a e. to e (λ z. absurd (omega arith)))
-    (λ f a b e. to e (λ z. absurd (omega arith)))
-    (λ f a b c e. to e (λ z. absurd (omega arith)))
-    (λ f a b c h e. to e (λ z. absurd (omega arith)))
-    (λ f s r e z. f)
-    (λ f s r e z. f)
-    (λ f s r e z. f)
-    (λ f s r e z. f)
-  where
-    to : {o : Out} → internBranchOf n tallest t ks ≡ o → (o .no ≡ 0 → Fine n tallest t ks) → internBranchOf n tallest t ks .no ≡ 0 → Fine n tallest t ks
-    to e x = subst (λ (o : Out). o .no ≡ 0 → Fine n tallest t ks) (sym e) x
+branch-fine n tallest t ks = branch-ways (λ o. o .no ≡ 0 → Fine n tallest t ks) n tallest t ks (λ k d z. absurd (d z)) (λ f s r z. f) (λ f s z. f)
 
 -- Interning a branch, accepted, goes by the eight ids: it answers the live node of those ids if there is one, and then gives no slot out.
 pub branch-by-ids : (n tallest : ℕ) (t : Tables) → n ≤ 8 → WellFormed n tallest t → (ks : List ℕ) → length ks ≡ 8 → internBranchOf n tallest t ks .no ≡ 0

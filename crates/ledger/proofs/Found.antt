@@ -15,6 +15,7 @@ use Rattle.nodes.proofs.Counts.{floor-pos}
 use Rattle.nodes.proofs.Sums.{sumTo-ext, tabFrom-length, tab-at}
 use Rattle.find.specs.Content.{agree}
 use Rattle.find.proofs.Contents.{agree-true, agree-words, kids-are}
+use Rattle.find.proofs.Searched.{kids-at}
 use Rattle.arena.specs.Calls.{empties, leafIn, leafSlot, noneOf, branchIn, branchSlot}
 use Rattle.arena.specs.Node.{valueFor}
 use Rattle.nodes.specs.Values.{valueAt}
@@ -27,8 +28,7 @@ use Rattle.arena.proofs.Scan.{find-hit, find-miss}
 use Rattle.ledger.specs.Fates.{Lives, Has}
 
 pub kid-word : (U : Words) (s i : ℕ) → i < 8 → U s i ≡ getD (kidsOf 8 U s) i 0
-unfolding kidsOf
-kid-word U s i l = let e : 0 + i ≡ i = omega arith in sym (tab-at 8 0 (U s) i l ∙ ap (U s) e)
+kid-word U s i l = kids-at U s i l
 
 pub kids-length : (U : Words) (s : ℕ) → length (kidsOf 8 U s) ≡ 8
 unfolding kidsOf

@@ -84,33 +84,22 @@ recycles-advances t u r s l =
     ∙ sym (ap (λ (k : ℕ). turned k (generationOf (W t s own))) one ∙ turned-suc 0 (generationOf (W t s own)) ∙ ap nextGeneration (turned-zero (generationOf (W t s own)))))
     (r s l)
 
+abbrev Gens : Tables → ℕ → Out → Type 0
+Gens t b o = generationOf (W (o .after) b own) ≡ generationOf (W t b own)
+
 -- interning and holding leave the generation of every slot, also of one that is given out
 pub leaf-same-gens : (n tallest : ℕ) (t : Tables) → n ≤ 8 → WellFormed n tallest t → (v b : ℕ) → generationOf (W (internLeafOf t v .after) b own) ≡ generationOf (W t b own)
 leaf-same-gens n tallest t m w v b =
-    leaf-ways t v (λ f e. to e refl) (λ f z e. to e refl) (λ f z s r e. to e (leaf-gens n tallest t m w (room-yes (t .arena) r) v b))
-    (λ f z s r e. to e refl) (λ f z s r e. to e refl) (λ f z s r e. to e (ap generationOf (held-word t (leafSlot t v) b own (omega arith))))
-  where
-    to : {o : Out} → internLeafOf t v ≡ o → generationOf (W (o .after) b own) ≡ generationOf (W t b own) → generationOf (W (internLeafOf t v .after) b own) ≡ generationOf (W t b own)
-    to e x = subst (λ (o : Out). generationOf (W (o .after) b own) ≡ generationOf (W t b own)) (sym e) x
+    leaf-ways (Gens t b) t v (λ k d. refl) (λ s r. leaf-gens n tallest t m w (room-yes (t .arena) r) v b) (λ s. ap generationOf (held-word t (leafSlot t v) b own (omega arith)))
 
 pub branch-same-gens : (n tallest : ℕ) (t : Tables) → n ≤ 8 → WellFormed n tallest t → (ks : List ℕ) → length ks ≡ 8 → (b : ℕ)
     → generationOf (W (internBranchOf n tallest t ks .after) b own) ≡ generationOf (W t b own)
 branch-same-gens n tallest t m w ks e8 b =
-    branch-ways n tallest t ks (λ f e. to e refl) (λ f a e. to e refl) (λ f a x e. to e refl) (λ f a x c e. to e refl) (λ f a x c h e. to e refl)
-    (λ f s r e. to e (branch-gens n tallest t m w ks e8 f (room-yes (t .arena) r) b))
-    (λ f s r e. to e refl) (λ f s r e. to e refl)
-    (λ f s r e. to e (ap generationOf (held-word (tablesOf (t .arena) (unheld (t .nodes) ks) (t .find)) (branchSlot t ks) b own (omega arith) ∙ eased-word n tallest t m w ks e8 f b own (omega arith))))
-  where
-    to : {o : Out} → internBranchOf n tallest t ks ≡ o → generationOf (W (o .after) b own) ≡ generationOf (W t b own)
-        → generationOf (W (internBranchOf n tallest t ks .after) b own) ≡ generationOf (W t b own)
-    to e x = subst (λ (o : Out). generationOf (W (o .after) b own) ≡ generationOf (W t b own)) (sym e) x
+    branch-ways (Gens t b) n tallest t ks (λ k d. refl) (λ f s r. branch-gens n tallest t m w ks e8 f (room-yes (t .arena) r) b)
+    (λ f s. ap generationOf (held-word (tablesOf (t .arena) (unheld (t .nodes) ks) (t .find)) (branchSlot t ks) b own (omega arith) ∙ eased-word n tallest t m w ks e8 f b own (omega arith)))
 
 pub hold-same-gens : (t : Tables) (id b : ℕ) → generationOf (W (holdOf t id .after) b own) ≡ generationOf (W t b own)
-hold-same-gens t id b =
-    hold-ways t id (λ f e. to e refl) (λ f z e. to e refl) (λ f z l e. to e refl) (λ f z l r e. to e refl) (λ f z l r e. to e (ap generationOf (held-word t (slot id) b own (omega arith))))
-  where
-    to : {o : Out} → holdOf t id ≡ o → generationOf (W (o .after) b own) ≡ generationOf (W t b own) → generationOf (W (holdOf t id .after) b own) ≡ generationOf (W t b own)
-    to e x = subst (λ (o : Out). generationOf (W (o .after) b own) ≡ generationOf (W t b own)) (sym e) x
+hold-same-gens t id b = hold-ways (Gens t b) t id (λ k d. refl) (λ z. refl) (λ z l. ap generationOf (held-word t (slot id) b own (omega arith)))
 
 -- A slot whose node ends in a release, which is then recycled, has the generation one higher, or 0 where that would reach 0x7FFE; every other slot keeps its own.
 pub release-advances : (n tallest : ℕ) (t : Tables) → n ≤ 8 → WellFormed n tallest t → (id s : ℕ) → s < cap t → Advances t (releaseOf tallest t id .after) s

@@ -1,18 +1,18 @@
 -- Which nodes go in a call and which stay, and what those that stay keep.
 use mathlib.Core.Path.{_≡_, refl, sym, ap, _∙_, subst}
-use mathlib.Core.Logic.{_≢_, _⊎_, inr, _↔_}
+use mathlib.Core.Logic.{_≢_, _⊎_, inr, ⊎-elim, _↔_}
 use mathlib.Core.List.{List, []}
 use Prim.Native.Nat.{ℕ, suc, _+_, _≤_, _<_}
 use native.Mathlib.Decide.{decLt}
 use native.Mathlib.Omega.{arith}
 use lib.ListN.{length}
-use Rattle.nodes.specs.Tally.{Live, kidsOf, occ}
+use Rattle.nodes.specs.Tally.{Live, kidsOf, occ, Under}
 use Rattle.nodes.specs.Words.{own, holds, slot, floor, wordOf}
-use Rattle.nodes.proofs.Counts.{Counts, live-same, kid-live, live-own, tally-pos, occ-bare}
-use Rattle.nodes.proofs.Frame.{Under, total-nil, frame-refl, lives-iff}
+use Rattle.nodes.proofs.Counts.{Counts, live-same, kid-live, live-own, tally-pos, occ-bare, kids-fewer}
+use Rattle.nodes.proofs.Frame.{total-nil, frame-refl, lives-iff}
 use Rattle.nodes.proofs.Sums.{cases}
 use Rattle.arena.specs.Calls.{Out, heldAt, leafSlot, internLeafOf, holdOf, releaseOf, lessOf, takes, branchSlot, internBranchOf, unheld, placed}
-use Rattle.arena.specs.Tables.{Tables, tablesOf, cap, W, WellFormed}
+use Rattle.arena.specs.Tables.{Tables, tablesOf, cap, W, LiveSlot, WellFormed}
 use Rattle.arena.proofs.Fits.{live-is, room-yes}
 use Rattle.arena.proofs.Ids.{node-low}
 use Rattle.arena.proofs.Inv.{wf-counts}
@@ -21,17 +21,18 @@ use Rattle.ledger.specs.Ledger.{on, ifAccepted, holdsOn}
 use Rattle.ledger.specs.Fates.{Lives, Grew}
 use Rattle.ledger.proofs.Balance.{leaf-grew, branch-grew, branch-held-grew, leaf-adds, branch-adds, eased-word, less-on, released-kept, released-old}
 use Rattle.ledger.proofs.Effects.{grew-refl, was-live, holds-live, holds-dead, on-zero, accepted, unaccepted}
+use Rattle.ledger.proofs.Found.{lives-slot}
 use Rattle.ledger.proofs.Ladders.{leaf-ways, branch-ways, hold-ways, release-ways}
 use Rattle.ledger.proofs.Writes.{held-cap, held-word, held-grew}
 
 -- In well-formed tables an id other than EMPTY is not live exactly if it has no hold and no live node has it as a child.
 pub unlive-exactly : (n tallest : ℕ) (t : Tables) → n ≤ 8 → WellFormed n tallest t → (y : ℕ) → y ≢ 0
-    → (Lives t y → ⊥) ↔ ((holdsOn t y ≡ 0) × ((b : ℕ) → Lives t b → occ y (kidsOf 8 (W t) (slot b)) ≡ 0))
+    → (Lives t y → ⊥) ↔ ((holdsOn t y ≡ 0) × ((b : ℕ) → Lives t b → occ y (kidsOf n (W t) (slot b)) ≡ 0))
 unlive-exactly n tallest t m w y d = (
   (λ gone. (
     holds-dead t y gone,
-    (λ b l. cases (decLt 0 (occ y (kidsOf 8 (W t) (slot b))))
-        (λ o. absurd (gone (kid-live c (slot b) y (l .low) d o)))
+    (λ b l. cases (decLt 0 (occ y (kidsOf n (W t) (slot b))))
+        (λ o. absurd (gone (kid-live c (slot b) y (l .low) d (let e = fewer (slot b) (lives-slot t b l) in omega arith))))
         (λ o. omega arith)),
   )),
   (λ h v.
@@ -46,7 +47,8 @@ unlive-exactly n tallest t m w y d = (
       (λ live.
       let l : Lives t (W t b own) = live-own 8 (cap t) (W t) [] c b (q .1) (omega arith) in
       let s : slot (W t b own) ≡ b = c .ids b (q .1) (omega arith) in
-      let e : occ y (kidsOf 8 (W t) b) ≡ 0 = subst (λ (x : ℕ). occ y (kidsOf 8 (W t) x) ≡ 0) s (h .1 (W t b own) l) in
+      let e : occ y (kidsOf n (W t) b) ≡ 0 = subst (λ (x : ℕ). occ y (kidsOf n (W t) x) ≡ 0) s (h .1 (W t b own) l) in
+      let f = fewer b (q .1, omega arith) in
       let o = q .2 in
       omega arith)),
 )
@@ -54,34 +56,26 @@ unlive-exactly n tallest t m w y d = (
     c : Counts 8 (cap t) (W t) []
     c = wf-counts n tallest t m w
 
+    -- child words from n on are EMPTY
+    fewer : (b : ℕ) → LiveSlot t b → occ y (kidsOf 8 (W t) b) ≡ occ y (kidsOf n (W t) b)
+    fewer b l = kids-fewer n 8 (W t) b y m d (λ i p q. ⊎-elim (λ f. f .bare i q) (λ f. f .beyond i p q) (w .nodes b l .kind))
+
 -- ---- interning and holding end no node
 
 -- Interning a leaf ends no node: each stays, as it was.
 pub leaf-ends-none : (n tallest : ℕ) (t : Tables) → n ≤ 8 → WellFormed n tallest t → (v : ℕ) → Grew t (internLeafOf t v .after)
 leaf-ends-none n tallest t m w v =
-    leaf-ways t v (λ f e. to e (grew-refl t)) (λ f z e. to e (grew-refl t)) (λ f z s r e. to e (leaf-grew n tallest t m w (room-yes (t .arena) r) v))
-    (λ f z s r e. to e (grew-refl t)) (λ f z s r e. to e (grew-refl t)) (λ f z s r e. to e (held-grew t (leafSlot t v)))
-  where
-    to : {o : Out} → internLeafOf t v ≡ o → Grew t (o .after) → Grew t (internLeafOf t v .after)
-    to e x = subst (λ (o : Out). Grew t (o .after)) (sym e) x
+    leaf-ways (λ o. Grew t (o .after)) t v (λ k d. grew-refl t) (λ s r. leaf-grew n tallest t m w (room-yes (t .arena) r) v) (λ s. held-grew t (leafSlot t v))
 
 -- Interning a branch ends no node: each stays, as it was.
 pub branch-ends-none : (n tallest : ℕ) (t : Tables) → n ≤ 8 → WellFormed n tallest t → (ks : List ℕ) → length ks ≡ 8 → Grew t (internBranchOf n tallest t ks .after)
 branch-ends-none n tallest t m w ks e8 =
-    branch-ways n tallest t ks (λ f e. to e (grew-refl t)) (λ f a e. to e (grew-refl t)) (λ f a b e. to e (grew-refl t)) (λ f a b c e. to e (grew-refl t)) (λ f a b c h e. to e (grew-refl t))
-    (λ f s r e. to e (branch-grew n tallest t m w ks e8 f (room-yes (t .arena) r)))
-    (λ f s r e. to e (grew-refl t)) (λ f s r e. to e (grew-refl t)) (λ f s r e. to e (branch-held-grew n tallest t m w ks e8 f))
-  where
-    to : {o : Out} → internBranchOf n tallest t ks ≡ o → Grew t (o .after) → Grew t (internBranchOf n tallest t ks .after)
-    to e x = subst (λ (o : Out). Grew t (o .after)) (sym e) x
+    branch-ways (λ o. Grew t (o .after)) n tallest t ks (λ k d. grew-refl t) (λ f s r. branch-grew n tallest t m w ks e8 f (room-yes (t .arena) r))
+    (λ f s. branch-held-grew n tallest t m w ks e8 f)
 
 -- Holding ends no node: each stays, as it was. On any tables.
 pub hold-ends-none : (t : Tables) (id : ℕ) → Grew t (holdOf t id .after)
-hold-ends-none t id =
-    hold-ways t id (λ f e. to e (grew-refl t)) (λ f z e. to e (grew-refl t)) (λ f z l e. to e (grew-refl t)) (λ f z l r e. to e (grew-refl t)) (λ f z l r e. to e (held-grew t (slot id)))
-  where
-    to : {o : Out} → holdOf t id ≡ o → Grew t (o .after) → Grew t (holdOf t id .after)
-    to e x = subst (λ (o : Out). Grew t (o .after)) (sym e) x
+hold-ends-none t id = hold-ways (λ o. Grew t (o .after)) t id (λ k d. grew-refl t) (λ z. grew-refl t) (λ z l. held-grew t (slot id))
 
 -- ---- what is new
 
@@ -94,34 +88,20 @@ held-none-new t s y l = was-live t (heldAt t s) (held-cap t s) y (held-word t s 
 -- Interning a leaf makes no node but the one that it answers.
 pub leaf-makes-one : (n tallest : ℕ) (t : Tables) → n ≤ 8 → WellFormed n tallest t → (v y : ℕ) → Lives (internLeafOf t v .after) y → (y ≡ internLeafOf t v .id) ⊎ Lives t y
 leaf-makes-one n tallest t m w v y =
-    leaf-ways t v (λ f e. to e (λ l. inr l)) (λ f z e. to e (λ l. inr l)) (λ f z s r e. to e (leaf-adds n tallest t m w (room-yes (t .arena) r) v y))
-    (λ f z s r e. to e (λ l. inr l)) (λ f z s r e. to e (λ l. inr l)) (λ f z s r e. to e (λ l. inr (held-none-new t (leafSlot t v) y l)))
-  where
-    to : {o : Out} → internLeafOf t v ≡ o → New t y o → New t y (internLeafOf t v)
-    to e x = subst (λ (o : Out). New t y o) (sym e) x
+    leaf-ways (New t y) t v (λ k d l. inr l) (λ s r. leaf-adds n tallest t m w (room-yes (t .arena) r) v y) (λ s l. inr (held-none-new t (leafSlot t v) y l))
 
 -- Interning a branch makes no node but the one that it answers.
 pub branch-makes-one : (n tallest : ℕ) (t : Tables) → n ≤ 8 → WellFormed n tallest t → (ks : List ℕ) → length ks ≡ 8 → (y : ℕ)
     → Lives (internBranchOf n tallest t ks .after) y → (y ≡ internBranchOf n tallest t ks .id) ⊎ Lives t y
 branch-makes-one n tallest t m w ks e8 y =
-    branch-ways n tallest t ks
-    (λ f e. to e (λ l. inr l)) (λ f a e. to e (λ l. inr l)) (λ f a b e. to e (λ l. inr l)) (λ f a b c e. to e (λ l. inr l)) (λ f a b c h e. to e (λ l. inr l))
-    (λ f s r e. to e (branch-adds n tallest t m w ks e8 f (room-yes (t .arena) r) y))
-    (λ f s r e. to e (λ l. inr l)) (λ f s r e. to e (λ l. inr l))
-    (λ f s r e. to e (λ l. inr (
+    branch-ways (New t y) n tallest t ks (λ k d l. inr l) (λ f s r. branch-adds n tallest t m w ks e8 f (room-yes (t .arena) r) y)
+    (λ f s l. inr (
     live-same (cap t) (wordOf (unheld (t .nodes) ks)) (W t) y (sym (eased-word n tallest t m w ks e8 f (slot y) own (omega arith)))
-    (held-none-new (tablesOf (t .arena) (unheld (t .nodes) ks) (t .find)) (branchSlot t ks) y l))))
-  where
-    to : {o : Out} → internBranchOf n tallest t ks ≡ o → New t y o → New t y (internBranchOf n tallest t ks)
-    to e x = subst (λ (o : Out). New t y o) (sym e) x
+    (held-none-new (tablesOf (t .arena) (unheld (t .nodes) ks) (t .find)) (branchSlot t ks) y l)))
 
 -- Holding makes no node. On any tables.
 pub hold-makes-none : (t : Tables) (id y : ℕ) → Lives (holdOf t id .after) y → Lives t y
-hold-makes-none t id y =
-    hold-ways t id (λ f e. to e (λ l. l)) (λ f z e. to e (λ l. l)) (λ f z l e. to e (λ l. l)) (λ f z l r e. to e (λ l. l)) (λ f z l r e. to e (held-none-new t (slot id) y))
-  where
-    to : {o : Out} → holdOf t id ≡ o → (Lives (o .after) y → Lives t y) → Lives (holdOf t id .after) y → Lives t y
-    to e x = subst (λ (o : Out). Lives (o .after) y → Lives t y) (sym e) x
+hold-makes-none t id y = hold-ways (λ o. Lives (o .after) y → Lives t y) t id (λ k d l. l) (λ z l. l) (λ z l. held-none-new t (slot id) y)
 
 -- Releasing makes no node: each that is there afterwards was there before, as it is.
 pub release-makes-none : (n tallest : ℕ) (t : Tables) → n ≤ 8 → WellFormed n tallest t → (id : ℕ) → Grew (releaseOf tallest t id .after) t

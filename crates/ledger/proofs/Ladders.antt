@@ -3,11 +3,12 @@ use mathlib.Core.Path.{_≡_, refl, sym, ap, _∙_}
 use mathlib.Core.Logic.{_≢_}
 use mathlib.Core.Bool.{true, false}
 use mathlib.Core.List.{List}
-use Prim.Native.Nat.{ℕ, suc, _≤_, _<_}
+use Prim.Native.Nat.{ℕ, suc, _≤_}
 use native.Mathlib.Decide.{ℕ-discrete}
+use native.Mathlib.Omega.{arith}
 use lib.Dec.{leb}
 use lib.ListN.{length}
-use borrow.Author.Tests.{eq-eqb, ne-eqb, leb-true, leb-false}
+use borrow.Author.Tests.{eq-eqb, ne-eqb, leb-true}
 use Rattle.nodes.specs.Words.{own, holds, slot}
 use Rattle.nodes.proofs.Sums.{cases, split}
 use Rattle.arena.specs.Calls.{Out, said, did, refused, fits, fitOf, liveOf, fullOf, roomOf, heldAt, freshNode, leafAnew, branchAnew, leafSlot, internLeafNo, leafMade, internLeafOf, takes, releaseNo, releaseOf, holdNo, holdOf, fresh, freshOf, allLive, enough, noneOf, branchSlot, internBranchNo, unheld, branchMade, internBranchOf}
@@ -25,26 +26,23 @@ branch-made-no n t ks = refl
 
 -- ---- the ways
 
-pub leaf-ways : {A : Type 0} (t : Tables) (v : ℕ)
-    → (fits t ≡ false → internLeafOf t v ≡ refused 1 t → A)
-    → (fits t ≡ true → v ≡ 0 → internLeafOf t v ≡ refused 6 t → A)
-    → (fits t ≡ true → v ≢ 0 → leafSlot t v ≡ 0 → roomOf (t .arena) ≡ true → internLeafOf t v ≡ leafMade t v → A)
-    → (fits t ≡ true → v ≢ 0 → leafSlot t v ≡ 0 → roomOf (t .arena) ≡ false → internLeafOf t v ≡ refused 11 t → A)
-    → (fits t ≡ true → v ≢ 0 → leafSlot t v ≢ 0 → fullOf (W t) (leafSlot t v) ≡ true → internLeafOf t v ≡ refused 10 t → A)
-    → (fits t ≡ true → v ≢ 0 → leafSlot t v ≢ 0 → fullOf (W t) (leafSlot t v) ≡ false → internLeafOf t v ≡ said 0 (W t (leafSlot t v) own) (heldAt t (leafSlot t v)) → A) → A
+-- P of what a call answers and leaves: of each refusal, and of each way to be accepted
+pub leaf-ways : (P : Out → Type 0) (t : Tables) (v : ℕ) → ((k : ℕ) → k ≢ 0 → P (refused k t))
+    → (leafSlot t v ≡ 0 → roomOf (t .arena) ≡ true → P (leafMade t v))
+    → (leafSlot t v ≢ 0 → P (said 0 (W t (leafSlot t v) own) (heldAt t (leafSlot t v)))) → P (internLeafOf t v)
 unfolding internLeafOf internLeafNo
-leaf-ways t v unsized nothing made crowded full held =
+leaf-ways P t v refusal made held =
     split (fits t)
     (λ f. cases (ℕ-discrete v 0)
-    (λ z. nothing f z (rw (f, eq-eqb v 0 z)))
+    (λ z. rw (f, eq-eqb v 0 z) (refusal 6 (omega arith)))
     (λ z. cases (ℕ-discrete (leafSlot t v) 0)
     (λ s. split (roomOf (t .arena))
-    (λ r. made f z s r (rw (f, ne-eqb v 0 z, eq-eqb (leafSlot t v) 0 s, r)))
-    (λ r. crowded f z s r (rw (f, ne-eqb v 0 z, eq-eqb (leafSlot t v) 0 s, r))))
+    (λ r. rw (f, ne-eqb v 0 z, eq-eqb (leafSlot t v) 0 s, r) (made s r))
+    (λ r. rw (f, ne-eqb v 0 z, eq-eqb (leafSlot t v) 0 s, r) (refusal 11 (omega arith))))
     (λ s. split (fullOf (W t) (leafSlot t v))
-    (λ r. full f z s r (rw (f, ne-eqb v 0 z, ne-eqb (leafSlot t v) 0 s, r)))
-    (λ r. held f z s r (rw (f, ne-eqb v 0 z, ne-eqb (leafSlot t v) 0 s, r))))))
-    (λ f. unsized f (rw f))
+    (λ r. rw (f, ne-eqb v 0 z, ne-eqb (leafSlot t v) 0 s, r) (refusal 10 (omega arith)))
+    (λ r. rw (f, ne-eqb v 0 z, ne-eqb (leafSlot t v) 0 s, r) (held s)))))
+    (λ f. rw f (refusal 1 (omega arith)))
 
 -- what refusals 1, 4, 5, 7 and 8 leave of a list of children
 pub record Fine (n tallest : ℕ) (t : Tables) (ks : List ℕ) : Type 0 where
@@ -58,56 +56,44 @@ pub record Fine (n tallest : ℕ) (t : Tables) (ks : List ℕ) : Type 0 where
 abbrev pub branchHeld : Tables → List ℕ → Out
 branchHeld t ks = said 0 (W t (branchSlot t ks) own) (heldAt (tablesOf (t .arena) (unheld (t .nodes) ks) (t .find)) (branchSlot t ks))
 
-pub branch-ways : {A : Type 0} (n tallest : ℕ) (t : Tables) (ks : List ℕ)
-    → (fits t ≡ false → internBranchOf n tallest t ks ≡ refused 1 t → A)
-    → (fits t ≡ true → allLive (cap t) (W t) ks ≡ false → internBranchOf n tallest t ks ≡ refused 4 t → A)
-    → (fits t ≡ true → allLive (cap t) (W t) ks ≡ true → enough (W t) ks ≡ false → internBranchOf n tallest t ks ≡ refused 5 t → A)
-    → (fits t ≡ true → allLive (cap t) (W t) ks ≡ true → enough (W t) ks ≡ true → noneOf ks ≡ true → internBranchOf n tallest t ks ≡ refused 7 t → A)
-    → (fits t ≡ true → allLive (cap t) (W t) ks ≡ true → enough (W t) ks ≡ true → noneOf ks ≡ false → tallest < heightFor n (W t) ks
-    → internBranchOf n tallest t ks ≡ refused 8 t → A)
-    → (Fine n tallest t ks → branchSlot t ks ≡ 0 → roomOf (t .arena) ≡ true → internBranchOf n tallest t ks ≡ branchMade n t ks → A)
-    → (Fine n tallest t ks → branchSlot t ks ≡ 0 → roomOf (t .arena) ≡ false → internBranchOf n tallest t ks ≡ refused 11 t → A)
-    → (Fine n tallest t ks → branchSlot t ks ≢ 0 → fullOf (W t) (branchSlot t ks) ≡ true → internBranchOf n tallest t ks ≡ refused 10 t → A)
-    → (Fine n tallest t ks → branchSlot t ks ≢ 0 → fullOf (W t) (branchSlot t ks) ≡ false → internBranchOf n tallest t ks ≡ branchHeld t ks → A) → A
+pub branch-ways : (P : Out → Type 0) (n tallest : ℕ) (t : Tables) (ks : List ℕ) → ((k : ℕ) → k ≢ 0 → P (refused k t))
+    → (Fine n tallest t ks → branchSlot t ks ≡ 0 → roomOf (t .arena) ≡ true → P (branchMade n t ks))
+    → (Fine n tallest t ks → branchSlot t ks ≢ 0 → P (branchHeld t ks)) → P (internBranchOf n tallest t ks)
 unfolding internBranchOf internBranchNo
-branch-ways n tallest t ks unsized dead poor none tall made crowded full held =
+branch-ways P n tallest t ks refusal made held =
     split (fits t)
     (λ f. split (allLive (cap t) (W t) ks)
     (λ a. split (enough (W t) ks)
     (λ b. split (noneOf ks)
-    (λ c. none f a b c (rw (f, a, b, c)))
+    (λ c. rw (f, a, b, c) (refusal 7 (omega arith)))
     (λ c. split (leb (heightFor n (W t) ks) tallest)
     (λ h.
     let fine : Fine n tallest t ks = record { fit = f; live = a; held = b; some = c; low = leb-true (heightFor n (W t) ks) tallest h } in
     cases (ℕ-discrete (branchSlot t ks) 0)
     (λ s. split (roomOf (t .arena))
-    (λ r. made fine s r (rw (f, a, b, c, h, eq-eqb (branchSlot t ks) 0 s, r)))
-    (λ r. crowded fine s r (rw (f, a, b, c, h, eq-eqb (branchSlot t ks) 0 s, r))))
+    (λ r. rw (f, a, b, c, h, eq-eqb (branchSlot t ks) 0 s, r) (made fine s r))
+    (λ r. rw (f, a, b, c, h, eq-eqb (branchSlot t ks) 0 s, r) (refusal 11 (omega arith))))
     (λ s. split (fullOf (W t) (branchSlot t ks))
-    (λ r. full fine s r (rw (f, a, b, c, h, ne-eqb (branchSlot t ks) 0 s, r)))
-    (λ r. held fine s r (rw (f, a, b, c, h, ne-eqb (branchSlot t ks) 0 s, r)))))
-    (λ h. tall f a b c (leb-false (heightFor n (W t) ks) tallest h) (rw (f, a, b, c, h)))))
-    (λ b. poor f a b (rw (f, a, b))))
-    (λ a. dead f a (rw (f, a))))
-    (λ f. unsized f (rw f))
+    (λ r. rw (f, a, b, c, h, ne-eqb (branchSlot t ks) 0 s, r) (refusal 10 (omega arith)))
+    (λ r. rw (f, a, b, c, h, ne-eqb (branchSlot t ks) 0 s, r) (held fine s))))
+    (λ h. rw (f, a, b, c, h) (refusal 8 (omega arith)))))
+    (λ b. rw (f, a, b) (refusal 5 (omega arith))))
+    (λ a. rw (f, a) (refusal 4 (omega arith))))
+    (λ f. rw f (refusal 1 (omega arith)))
 
-pub hold-ways : {A : Type 0} (t : Tables) (id : ℕ)
-    → (fits t ≡ false → holdOf t id ≡ did 1 t → A)
-    → (fits t ≡ true → id ≡ 0 → holdOf t id ≡ did 0 t → A)
-    → (fits t ≡ true → id ≢ 0 → liveOf (cap t) (W t) id ≡ false → holdOf t id ≡ did 4 t → A)
-    → (fits t ≡ true → id ≢ 0 → liveOf (cap t) (W t) id ≡ true → fullOf (W t) (slot id) ≡ true → holdOf t id ≡ did 10 t → A)
-    → (fits t ≡ true → id ≢ 0 → liveOf (cap t) (W t) id ≡ true → fullOf (W t) (slot id) ≡ false → holdOf t id ≡ did 0 (heldAt t (slot id)) → A) → A
+pub hold-ways : (P : Out → Type 0) (t : Tables) (id : ℕ) → ((k : ℕ) → k ≢ 0 → P (did k t)) → (id ≡ 0 → P (did 0 t))
+    → (id ≢ 0 → liveOf (cap t) (W t) id ≡ true → P (did 0 (heldAt t (slot id)))) → P (holdOf t id)
 unfolding holdOf holdNo
-hold-ways t id unsized none dead full held =
+hold-ways P t id refusal none held =
     split (fits t)
     (λ f. cases (ℕ-discrete id 0)
-    (λ z. none f z (rw (f, eq-eqb id 0 z)))
+    (λ z. rw (f, eq-eqb id 0 z) (none z))
     (λ z. split (liveOf (cap t) (W t) id)
     (λ l. split (fullOf (W t) (slot id))
-    (λ r. full f z l r (rw (f, ne-eqb id 0 z, l, r)))
-    (λ r. held f z l r (rw (f, ne-eqb id 0 z, l, r))))
-    (λ l. dead f z l (rw (f, ne-eqb id 0 z, l)))))
-    (λ f. unsized f (rw f))
+    (λ r. rw (f, ne-eqb id 0 z, l, r) (refusal 10 (omega arith)))
+    (λ r. rw (f, ne-eqb id 0 z, l, r) (held z l)))
+    (λ l. rw (f, ne-eqb id 0 z, l) (refusal 4 (omega arith)))))
+    (λ f. rw f (refusal 1 (omega arith)))
 
 takes-none : (k f : ℕ) (t : Tables) (id : ℕ) → id ≡ 0 → takes (suc k) f t id ≡ t
 unfolding takes

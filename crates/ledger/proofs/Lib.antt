@@ -1,4 +1,5 @@
 pub mod Ladders
+pub mod Exact
 pub mod Effects
 pub mod Writes
 pub mod Found
@@ -8,3 +9,5 @@ pub mod Contents
 pub mod Refusals
 pub mod Recycling
 pub mod Generations
+pub mod Stack
+pub mod Places

@@ -1,3 +1,4 @@
 pub mod Ledger
 pub mod Fates
 pub mod Refusals
+pub mod Stack

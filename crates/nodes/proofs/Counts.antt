@@ -3,7 +3,7 @@
 use mathlib.Core.Path.{_≡_, refl, sym, ap, _∙_, subst}
 use mathlib.Core.Logic.{_≢_}
 use mathlib.Core.List.{List, _∷_, _++_}
-use Prim.Native.Nat.{ℕ, _+_, _*_, _≤_, _<_}
+use Prim.Native.Nat.{ℕ, zero, suc, _+_, _-_, _*_, _≤_, _<_}
 use native.Mathlib.Decide.{ℕ-discrete, decLt}
 use native.Mathlib.Omega.{arith}
 use lib.ListN.{length}
@@ -74,6 +74,20 @@ tally-upd n cap W W′ s y m l h =
 pub occ-bare : (n : ℕ) (W : Words) (b y : ℕ) → y ≢ 0 → ((i : ℕ) → i < n → W b i ≡ 0) → occ y (kidsOf n W b) ≡ 0
 unfolding kidsOf
 occ-bare n W b y d h = occ-tab-zero n 0 (W b) y d (λ j p q. h j (omega arith))
+
+-- children that are EMPTY from the k-th on need not be looked at
+occ-fewer : (k j i : ℕ) (f : ℕ → ℕ) (y : ℕ) → y ≢ 0 → ((x : ℕ) → i + k ≤ x → x < i + k + j → f x ≡ 0) → occ y (tabFrom (k + j) i f) ≡ occ y (tabFrom k i f)
+unfolding tabFrom occ
+occ-fewer zero j i f y d z = let e : 0 + j ≡ j = omega arith in rw e (occ-tab-zero j i f y d (λ x p q. z x (omega arith) (omega arith)))
+occ-fewer (suc k) j i f y d z =
+    let e : suc k + j ≡ suc (k + j) = omega arith in
+    rw e (ap (λ (x : ℕ). same y (f i) + x) (occ-fewer k j (suc i) f y d (λ x p q. z x (omega arith) (omega arith))))
+
+pub kids-fewer : (n m : ℕ) (W : Words) (s y : ℕ) → n ≤ m → y ≢ 0 → ((i : ℕ) → n ≤ i → i < m → W s i ≡ 0) → occ y (kidsOf m W s) ≡ occ y (kidsOf n W s)
+unfolding kidsOf
+kids-fewer n m W s y l d z =
+    let e : n + (m - n) ≡ m = omega arith in
+    ap (λ (x : ℕ). occ y (tabFrom x 0 (W s))) (sym e) ∙ occ-fewer n (m - n) 0 (W s) y d (λ x p q. z x (omega arith) (omega arith))
 
 pub occ-le-tally : (n cap : ℕ) (W : Words) (b y : ℕ) → b < cap → occ y (kidsOf n W b) ≤ tally n cap W y
 unfolding tally

@@ -5,7 +5,7 @@ use mathlib.Core.List.{List, []}
 use Prim.Native.Nat.{ℕ, zero, suc, _+_, _≤_, _<_}
 use native.Mathlib.Decide.{decLt}
 use native.Mathlib.Omega.{arith}
-use Rattle.nodes.specs.Tally.{kidsOf, tally, Live, occ}
+use Rattle.nodes.specs.Tally.{kidsOf, tally, Live, occ, Under, here, down}
 use Rattle.nodes.specs.Words.{own, height, holds, places, floor, slot, Words, spare}
 use Rattle.nodes.proofs.Counts.{kids-same, total, Counts, live-own, live-same, live-nonzero, kid-live, tally-pos, occ-bare}
 use Rattle.nodes.proofs.Sums.{cases, occ-nil}
@@ -36,11 +36,6 @@ frame-low cap W W′ k z r v h =
     let g = v .high in
     let e = r .kept (slot z) (v .low) (omega arith) height (omega arith) (omega arith) in
     omega arith
-
--- y is a, or stands below it
-pub data Under (W : Words) (a : ℕ) : ℕ → Type 0 where
-  here : Under W a a
-  down : {b y : ℕ} → Under W a b → y ≢ 0 → 1 ≤ occ y (kidsOf 8 W (slot b)) → Under W a y
 
 pub total-nil : (n cap : ℕ) (W : Words) (y : ℕ) → total n cap W [] y ≡ tally n cap W y
 unfolding total

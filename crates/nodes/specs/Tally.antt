@@ -1,10 +1,14 @@
 -- What lives, who names whom, and the freed slots.
 use mathlib.Core.Path.{_≡_}
+use mathlib.Core.Logic.{_≢_}
 use mathlib.Core.Bool.{Bool, true, false}
 use mathlib.Core.List.{List, [], _∷_}
 use Prim.Native.Nat.{ℕ, zero, suc, _+_, _≤_, _<_}
 use lib.Dec.{eqb, leb}
+use Rattle.basics.specs.Limits.{kidWords}
+use Rattle.basics.specs.Pick.{pick}
 use Rattle.basics.specs.Sums.{sumTo}
+use Rattle.ids.specs.Ids.{isLeaf}
 use Rattle.nodes.specs.Words.{Words, own, link, slot, floor}
 
 -- 1 for true, 0 for false
@@ -34,11 +38,21 @@ kidsOf n W s = tabFrom n 0 (W s)
 unfoldable pub tally : ℕ → ℕ → Words → ℕ → ℕ
 tally n cap W y = sumTo cap (λ b. occ y (kidsOf n W b))
 
+-- the child places that name y, of live branches alone: of slots whose own word is the id of a live node, and no leaf's. (On well-formed tables it is
+-- the true tally: crates/ledger/proofs/Places.antt)
+unfoldable pub tallyLive : ℕ → ℕ → Words → ℕ → ℕ
+tallyLive n cap W y = sumTo cap (λ b. pick (leb floor (W b own)) (pick (isLeaf (W b own)) 0 (occ y (kidsOf n W b))) 0)
+
 -- the id y is live: in all its bits it is the id of the node in its slot
 pub record Live (cap : ℕ) (W : Words) (y : ℕ) : Type 0 where
   pub low : slot y < cap
   pub is : W (slot y) own ≡ y
   pub high : floor ≤ y
+
+-- y is a, or stands below it
+pub data Under (W : Words) (a : ℕ) : ℕ → Type 0 where
+  here : Under W a a
+  down : {b y : ℕ} → Under W a b → y ≢ 0 → 1 ≤ occ y (kidsOf kidWords W (slot b)) → Under W a y
 
 -- 1 if the own word x is that of a live node
 unfoldable pub liveBit : ℕ → ℕ

@@ -12,7 +12,7 @@ use lib.Pow.{pow-pos, pow-mono, pow-add, shr-shr}
 use Rattle.basics.specs.Bits.{bit, field}
 use Rattle.basics.specs.Pick.{pick}
 use Rattle.paths.specs.declared.IVec3.{IVec3}
-use Rattle.paths.specs.Paths.{low10, interleave, pathOf, gather, place, decodedOf, inside, octant, whole, childNo, childAt}
+use Rattle.paths.specs.Paths.{low10, interleave, pathOf, gather, place, decodedOf, inside, octant, whole, childNo, childAt, axis}
 use Rattle.paths.proofs.Bits.{bit-lt, bit-zero, bit-or, bit-mod, by-bits, built, built-lt, built-field}
 
 -- ## The interleaving fact
@@ -37,12 +37,6 @@ path-lt k x y z = rw (interleave-built k x y z) (built-lt 3 (λ n. octant n x y 
 -- Field n of three bits is octal digit n.
 path-field : (k n x y z : ℕ) → n < k → field (3 * n) 3 (interleave k x y z) ≡ octant n x y z
 path-field k n x y z h = rw (interleave-built k x y z) (built-field 3 (λ n. octant n x y z) (λ n. octant-lt n x y z) k n h)
-
--- Of three things, that of an axis: x 0, y 1, z 2.
-abbrev pub axis : {A : Type 0} → ℕ → A → A → A → A
-axis zero x y z = x
-axis (suc zero) x y z = y
-axis (suc (suc a)) x y z = z
 
 -- Bit a of an octant is the bit of axis a.
 octant-bit : (n a x y z : ℕ) → a < 3 → bit a (octant n x y z) ≡ bit n (axis a x y z)

@@ -11,22 +11,10 @@ use borrow.Author.Tests.{ltb-true, ltb-false, eqb-true}
 use lib.Bits.{bitAnd, bitOr, and-le-r}
 use Rattle.basics.specs.Bits.{bit}
 use Rattle.basics.specs.Pick.{pick}
-use Rattle.paths.specs.Paths.{interleave}
+use Rattle.paths.specs.Models.{Stage, stage, run, last, earlier, stages}
+use Rattle.paths.specs.Paths.{axis, interleave}
 use Rattle.paths.proofs.Bits.{bit-lt, bit-zero, bit-past, bit-and, bit-or, bit-mod, bit-shift, bit-shifted-in, by-bits}
-use Rattle.paths.proofs.Laws.{axis, path-lt, path-at}
-
--- One stage, at 32 bits: the number or itself shifted, under a mask.
-pub record Stage : Type 0 where
-  pub shift : ℕ
-  pub mask : ℕ
-
-abbrev stage : Stage → ℕ → ℕ
-stage s v = bitAnd (bitOr v (v * 2 ^ (s .shift) % 2 ^ 32)) (s .mask)
-
--- Stages, the last one first.
-abbrev run : List Stage → ℕ → ℕ
-run [] x = x
-run (s ∷ ss) x = stage s (run ss x)
+use Rattle.paths.proofs.Laws.{path-lt, path-at}
 
 -- The positions of x, of ten bits, whose bits come together at position i.
 sources : List Stage → ℕ → List ℕ
@@ -143,16 +131,6 @@ wanted-bit x n (suc zero) = sym (bit-zero n)
 wanted-bit x n (suc (suc a)) = sym (bit-zero n)
 
 -- ## The four masks
-
--- The constants of src/lib.rt, the last stage first.
-abbrev last : Stage
-last = record { shift = 2; mask = 0x9249249 }
-
-abbrev earlier : List Stage
-earlier = record { shift = 4; mask = 0x30C30C3 } ∷ record { shift = 8; mask = 0x300F00F } ∷ record { shift = 16; mask = 0x30000FF } ∷ []
-
-abbrev stages : List Stage
-stages = last ∷ earlier
 
 -- One test, computed, over the 30 positions.
 tested : spreads stages 30 ≡ true

@@ -85,3 +85,9 @@ childAt p k d = octant (d - 1 - k) (whole (p .x)) (whole (p .y)) (whole (p .z))
 unfoldable pub childIndexOf : IVec3 → ℕ → ℕ → ChildIndex
 childIndexOf p k d =
     pick (lib.Dec.eqb (childNo p k d) 0) (record { no = 0; index = childAt p k d }) (record { no = childNo p k d; index = 0 })
+
+-- Of three things, that of an axis: x 0, y 1, z 2.
+abbrev pub axis : {A : Type 0} → ℕ → A → A → A → A
+axis zero x y z = x
+axis (suc zero) x y z = y
+axis (suc (suc a)) x y z = z

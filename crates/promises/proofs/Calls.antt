@@ -1,13 +1,13 @@
 -- What each call does, and what follows for any calls: the ledger, old ids, the roots that are kept.
 use mathlib.Core.Path.{_≡_, ap, _∙_}
-use mathlib.Core.Logic.{_≢_, inr, _↔_}
+use mathlib.Core.Logic.{_≢_, _↔_}
 use Prim.Native.Nat.{ℕ, _+_, _%_, _≤_, _<_}
 use native.Mathlib.Omega.{arith}
 use Rattle.basics.specs.Limits.{deepest, cubeKids, kidWords}
 use Rattle.nodes.specs.Tally.{kidsOf, occ}
 use Rattle.nodes.specs.Words.{slot}
 use Rattle.nodes.proofs.Counts.{live-nonzero}
-use Rattle.tree.specs.Tree.{LiveOr0, Same, self}
+use Rattle.tree.specs.Tree.{LiveOr0, Same}
 use Rattle.arena.specs.Calls.{Out, countsOf}
 use Rattle.arena.specs.Tables.{Tables, cap, W, WellFormed}
 use Rattle.ledger.specs.Ledger.{holdsOn}
@@ -54,7 +54,7 @@ module _ (t : Tables) (w : WellFormed cubeKids deepest t) where
 
   -- A node that is there before and afterwards keeps its id, its children, its stored value and its height.
   pub stays : (c : Call) → Handed c → (y : ℕ) → Lives t y → Lives (outcome t c .after) y → Same cubeKids (cap t) (W t) (W (outcome t c .after)) y
-  stays c h y l k = there-kept cubeKids deepest fit w (call-does c h) y (inr l) (inr k) (let s = ended-small t (outcome t c .after) (slot y) in omega arith) .keeps y self l
+  stays c h y l k = follows.stays cubeKids deepest fit w (call-does c h) y l k (let s = ended-small t (outcome t c .after) (slot y) in omega arith)
 
 pub step-does : (t u : Tables) (g k j : ℕ → ℕ) → WellFormed cubeKids deepest t → Step t u g k j → Does cubeKids deepest t u g k j
 step-does t u g k j w (call c h) = call-does t w c h

@@ -13,8 +13,8 @@ use Rattle.basics.specs.Sums.{sumTo}
 use Rattle.nodes.specs.Values.{valueAt, heightAt}
 use Rattle.nodes.specs.Words.{Words, height, slot}
 use Rattle.nodes.proofs.Counts.{live-nonzero}
-use Rattle.tree.specs.Tree.{Leaf, Branch, Kind, empty, leaf, branch, kind, Below, childOf}
-use Rattle.tree.proofs.Canon.{Flat, low-flat, value-empty, kid-lower, live, live-leaf}
+use Rattle.tree.specs.Tree.{Leaf, Branch, Kind, empty, leaf, branch, kind, Below, childOf, Flat}
+use Rattle.tree.proofs.Canon.{low-flat, value-empty, kid-lower, live, live-leaf}
 use Rattle.tree.proofs.Grow.{below-live}
 use Rattle.arena.specs.Calls.{internLeafOf, internBranchOf, empties}
 use Rattle.arena.specs.Node.{LeafNode, valueFor}

@@ -13,11 +13,11 @@ use Rattle.basics.specs.Sums.{average}
 use Rattle.nodes.specs.Words.{Words, value, slot}
 use Rattle.nodes.specs.Tally.{Live}
 use Rattle.nodes.proofs.Sums.{cases}
-use Rattle.tree.specs.Tree.{Branch, Kind, empty, leaf, branch, kind, LiveOr0, childOf, WellMade, Cell, here, down, look}
+use Rattle.tree.specs.Tree.{Branch, Kind, empty, leaf, branch, kind, LiveOr0, childOf, WellMade, Cell, here, down, look, Flat}
 use Rattle.nodes.specs.Values.{valueAt, heightAt, maxTo}
 use Rattle.tree.specs.Cells.{pathBy, cubePath}
 use Rattle.paths.specs.Paths.{octant}
-use Rattle.tree.proofs.Canon.{live, kid-lower, low-flat, flat-low, look-deeper, Flat}
+use Rattle.tree.proofs.Canon.{live, kid-lower, low-flat, flat-low, look-deeper}
 use Rattle.tree.proofs.CellLaws.{path-cong, cube-cell}
 use Rattle.read_cell.specs.Reading.{cellOf, descent}
 use Rattle.read_cell.proofs.Ends.{ends-empty, ends-leaf, ends-not, look-descent, descent-end, descent-stop, descent-on}

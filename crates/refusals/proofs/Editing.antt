@@ -1,5 +1,5 @@
 -- The numbers of the edit: each is given exactly if it is the lowest that applies. On tables that are not sized, or well formed.
-use mathlib.Core.Path.{_≡_, refl, sym, _∙_, subst}
+use mathlib.Core.Path.{_≡_, refl, sym, ap, _∙_, subst}
 use mathlib.Core.Logic.{_≢_, inl, inr}
 use mathlib.Core.Bool.{Bool, true, false, not, true≢false}
 use mathlib.Core.List.{[], _∷_, List·Memᴰ·head, List·Memᴰ·tail}
@@ -9,13 +9,14 @@ use native.Mathlib.Omega.{arith}
 use lib.Dec.{leb, eqb}
 use borrow.Author.Tests.{leb-true, leb-false, le-leb, eq-eqb, ne-eqb}
 use Rattle.basics.specs.Limits.{deepest, cubeKids, mostHolds}
+use Rattle.basics.specs.Ladder.{ladder, order, Decides, Listed}
 use Rattle.basics.specs.Pick.{pick}
+use Rattle.basics.proofs.Ladder.{ladder-then, rung-not, via}
 use Rattle.nodes.specs.Values.{heightAt}
 use Rattle.nodes.specs.Words.{holds, slot}
 use Rattle.nodes.proofs.Counts.{live-nonzero}
 use Rattle.nodes.proofs.Sums.{cases, split}
 use Rattle.paths.specs.declared.IVec3.{IVec3}
-use Rattle.paths.specs.Paths.{inside}
 use Rattle.tree.specs.Tree.{LiveOr0}
 use Rattle.tree.specs.Lacks.{Need, have, lack}
 use Rattle.arena.specs.Tables.{Tables, cap, W, Sized, WellFormed}
@@ -23,17 +24,17 @@ use Rattle.arena.specs.Calls.{Fair, fits, liveOrEmpty, fullOf}
 use Rattle.arena.proofs.Fits.{sized-fits}
 use Rattle.ledger.specs.Fates.{Lives}
 use Rattle.ledger.specs.Refusals.{Full, Exactly}
+use Rattle.ledger.proofs.Exact.{exactly, exactly-as}
+use Rattle.ledger.proofs.Refusals.{unsized, dead}
 use Rattle.read_cell.specs.Calls.{lookNo}
 use Rattle.edit.specs.Edit.{resultOf, grantNo, cellNo, cellAt, editNo, editOf}
 use Rattle.edit.specs.Promises.{Posed}
 use Rattle.edit.proofs.Edits.{edit-number, posed}
 use Rattle.edit.proofs.Theorems.{past-no}
 use Rattle.edit.proofs.Lacking.{missing-some, eleven-right, result-there, result-one, result-dead}
-use Rattle.ladders.specs.Ladder.{ladder, order, Decides, Listed}
 use Rattle.refusals.specs.Why.{Beyond, LookWhy, unsizedLook, deepLook, beyondLook, deadLook, EditWhy, unsizedEdit, deepEdit, beyondEdit, deadEdit, tallEdit, fullEdit, crowdedEdit}
-use Rattle.refusals.specs.Rungs.{within, tenOf, elevenOf, editRungs}
-use Rattle.refusals.proofs.Exact.{exactly, exactly-as}
-use Rattle.refusals.proofs.Reading.{via, unsized, above, beyond, dead, look-no-refusals}
+use Rattle.refusals.specs.Rungs.{within, lookRungs, tenOf, elevenOf, editRungs}
+use Rattle.refusals.proofs.Reading.{above, beyond, look-ladder, look-no-refusals}
 
 -- ---- the number as a ladder
 
@@ -80,20 +81,10 @@ module _ (t : Tables) (root d : ℕ) (p : IVec3) (v : ℕ) where
   Why = EditWhy t root d p v
 
   edit-ladder : editNo t root d p v ≡ ladder (editRungs t root d p v)
-  unfolding editNo cellNo lookNo ladder within
-  edit-ladder = split (fits t)
-      (λ f. split (leb d deepest)
-      (λ a. split (inside d (p .x))
-      (λ x. split (inside d (p .y))
-      (λ y. split (inside d (p .z))
-      (λ z. split (liveOrEmpty (cap t) (W t) root)
-      (λ l. split (leb (heightAt (W t) root) d) (λ h. rw (f, a, x, y, z, l, h) (grant-ladder t result)) (λ h. rw (f, a, x, y, z, l, h)))
-      (λ l. rw (f, a, x, y, z, l)))
-      (λ z. rw (f, a, x, y, z)))
-      (λ y. rw (f, a, x, y)))
-      (λ x. rw (f, a, x)))
-      (λ a. rw (f, a)))
-      (λ f. rw f)
+  unfolding editNo cellNo
+  edit-ladder = rw (look-ladder t root d p)
+      (ap (λ (x : ℕ). pick (eqb (ladder (lookRungs t root d p)) 0) x (ladder (lookRungs t root d p))) (rung-not (leb (heightAt (W t) root) d) _ 8 _ (grant-ladder t result))
+      ∙ ladder-then (lookRungs t root d p) _ (omega arith))
 
   why-1 : Why 1 → Sized t → ⊥
   why-1 (unsizedEdit u) = u
@@ -178,7 +169,7 @@ module _ (t : Tables) (root d : ℕ) (p : IVec3) (v : ℕ) where
 
     edit-no-refusals : Exactly Why (editNo t root d p v)
     edit-no-refusals = exactly Why (editRungs t root d p v) (editNo t root d p v) edit-ladder
-        (omega arith, (omega arith, (omega arith, (omega arith, (omega arith, (omega arith, (omega arith, tt))))))) edit-listed (
+        (omega arith) edit-listed (
           via (not (fits t)) (unsized t) unsizedEdit why-1,
           λ a. (
             via (not (leb d deepest)) (above d deepest) deepEdit why-2,

@@ -1,3 +1,2 @@
-pub mod Exact
 pub mod Reading
 pub mod Editing

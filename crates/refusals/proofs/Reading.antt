@@ -1,8 +1,8 @@
 -- The numbers of packing, the path's inverse, child number, lookup and expansion: each is given exactly if it is the lowest that applies. On any tables.
-use mathlib.Core.Path.{_≡_, refl, sym, _∙_, ap}
-use mathlib.Core.Logic.{_≢_, inl, inr}
-use mathlib.Core.Bool.{Bool, true, false, not, true≢false}
-use mathlib.Core.List.{List, List·Memᴰ·head, List·Memᴰ·tail}
+use mathlib.Core.Path.{_≡_, refl, sym, ap}
+use mathlib.Core.Logic.{_≢_}
+use mathlib.Core.Bool.{Bool, true, false, not}
+use mathlib.Core.List.{List, [], _∷_, List·Memᴰ·head, List·Memᴰ·tail}
 use Prim.Native.Nat.{ℕ, _^_, _≤_, _<_}
 use native.Mathlib.Decide.{ℕ-discrete}
 use native.Mathlib.Omega.{arith}
@@ -11,35 +11,28 @@ use lib.IntN.{ℤ, pos, negsuc}
 use lib.ListN.{length}
 use borrow.Author.Tests.{leb-false, ltb-false, eqb-false, lt-leb, le-ltb, eq-eqb, ne-eqb, not-true}
 use Rattle.basics.specs.Limits.{deepest, deepestCube, lastPacked}
+use Rattle.basics.specs.Ladder.{ladder, order, Decides, Listed}
 use Rattle.basics.specs.Pick.{pick}
+use Rattle.basics.proofs.Ladder.{rung-not, via}
 use Rattle.ids.specs.Ids.{packingNo}
 use Rattle.nodes.proofs.Sums.{cases, split}
 use Rattle.paths.specs.declared.IVec3.{IVec3}
 use Rattle.paths.specs.Paths.{inside, decodedOf, childNo, childIndexOf}
-use Rattle.tree.specs.Tree.{LiveOr0}
 use Rattle.arena.specs.Tables.{Tables, cap, W, Sized}
 use Rattle.arena.specs.Calls.{fits, liveOrEmpty}
-use Rattle.arena.proofs.Fits.{fits-sized, sized-fits}
 use Rattle.ledger.specs.Fates.{Lives}
 use Rattle.ledger.specs.Refusals.{Exactly}
+use Rattle.ledger.proofs.Exact.{exactly, exactly-as}
+use Rattle.ledger.proofs.Refusals.{unsized, dead}
 use Rattle.read_cell.specs.Calls.{lookNo, lookOf, expandNo, expandOf}
-use Rattle.read_cell.proofs.Laws.{there-live, live-there}
-use Rattle.ladders.specs.Ladder.{ladder, order, Decides, Listed}
 use Rattle.refusals.specs.Why.{Outside, Beyond, at-x, at-y, at-z, PackWhy, late, DecodeWhy, long, ChildWhy, deepChild, level, beyondChild, LookWhy, unsizedLook, deepLook, beyondLook, deadLook, ExpandWhy, unsizedExpand, deepExpand, deadExpand, buffer}
 use Rattle.refusals.specs.Rungs.{within, leveled, packRungs, decodeRungs, childRungs, lookRungs, expandRungs}
-use Rattle.refusals.proofs.Exact.{exactly, exactly-as}
 
 -- ---- what each test decides
 
 -- a test that fails exactly if the reason holds
 pub fails : {R : Type 0} (b : Bool) → (b ≡ false → R) → (R → b ≡ false) → Decides (not b) R
 fails b f g = ((λ e. f (not-true b e)), (λ r. ap not (g r)))
-
-pub via : {R S : Type 0} (b : Bool) → Decides b R → (R → S) → (S → R) → Decides b S
-via b d f g = ((λ e. f (d .0 e)), (λ s. d .1 (g s)))
-
-pub unsized : (t : Tables) → Decides (not (fits t)) (Sized t → ⊥)
-unsized t = fails (fits t) (λ e s. true≢false (sym (sized-fits t s) ∙ e)) (λ n. split (fits t) (λ e. absurd (n (fits-sized t e))) (λ e. e))
 
 pub above : (a b : ℕ) → Decides (not (leb a b)) (b < a)
 above a b = fails (leb a b) (leb-false a b) (lt-leb a b)
@@ -75,14 +68,16 @@ beyond d p = fails (within d p) to from
     from (at-y o) = rw (off (p .y) o) (no (inside d (p .x)))
     from (at-z o) = rw (off (p .z) o) (split (inside d (p .x)) (λ e. rw e (no (inside d (p .y)))) (λ e. rw e))
 
-pub dead : (t : Tables) (id : ℕ) → Decides (not (liveOrEmpty (cap t) (W t) id)) ((id ≢ 0) × (Lives t id → ⊥))
-dead t id = fails (liveOrEmpty (cap t) (W t) id)
-    (λ e. ((λ z. true≢false (sym (live-there t id (inl z)) ∙ e)), (λ l. true≢false (sym (live-there t id (inr l)) ∙ e))))
-    (λ n. split (liveOrEmpty (cap t) (W t) id) (λ e. absurd (not-both n (there-live t id e))) (λ e. e))
-  where
-    not-both : (id ≢ 0) × (Lives t id → ⊥) → LiveOr0 (cap t) (W t) id → ⊥
-    not-both n (inl z) = n .0 z
-    not-both n (inr l) = n .1 l
+-- the three coordinates in one test
+pub within-rung : (a b c : Bool) (x : ℕ) (l : List (Bool × ℕ)) → x ≡ ladder l → pick a (pick b (pick c x 3) 3) 3 ≡ ladder ((not (pick a (pick b c false) false), 3) ∷ l)
+unfolding ladder
+within-rung true true c x l e = rung-not c x 3 l e
+within-rung true false c x l e = refl
+within-rung false b c x l e = refl
+
+none : 0 ≡ ladder []
+unfolding ladder
+none = refl
 
 -- ---- child number: refusals 2 and 3
 
@@ -91,11 +86,7 @@ module _ (p : IVec3) (k d : ℕ) where
   unfolding childNo ladder within leveled
   child-ladder = split (leb d deepest)
       (λ a. split (ltb k d)
-      (λ b. split (inside d (p .x))
-      (λ x. split (inside d (p .y))
-      (λ y. split (inside d (p .z)) (λ z. rw (a, b, x, y, z)) (λ z. rw (a, b, x, y, z)))
-      (λ y. rw (a, b, x, y)))
-      (λ x. rw (a, b, x)))
+      (λ b. rw (a, b) (within-rung (inside d (p .x)) (inside d (p .y)) (inside d (p .z)) 0 [] refl))
       (λ b. rw (a, b)))
       (λ a. rw a)
 
@@ -122,7 +113,7 @@ module _ (p : IVec3) (k d : ℕ) where
   child-listed j (beyondChild h) = List·Memᴰ·tail (List·Memᴰ·head refl)
 
   child-no-refusals : Exactly (ChildWhy p k d) (childNo p k d)
-  child-no-refusals = exactly (ChildWhy p k d) (childRungs p k d) (childNo p k d) child-ladder (omega arith, (omega arith, tt)) child-listed
+  child-no-refusals = exactly (ChildWhy p k d) (childRungs p k d) (childNo p k d) child-ladder (omega arith) child-listed
       (childless, λ _. (via (not (within d p)) (beyond d p) beyondChild out-3, λ _. tt))
 
   child-number : childIndexOf p k d .no ≡ childNo p k d
@@ -139,8 +130,8 @@ module _ (p : IVec3) (k d : ℕ) where
 
 module _ (g : ℕ) where
   pack-ladder : packingNo g ≡ ladder (packRungs g)
-  unfolding packingNo ladder
-  pack-ladder = split (leb g lastPacked) (λ e. rw e) (λ e. rw e)
+  unfolding packingNo
+  pack-ladder = rung-not (leb g lastPacked) 0 12 [] none
 
   pack-12 : PackWhy g 12 → lastPacked < g
   pack-12 (late h) = h
@@ -150,7 +141,7 @@ module _ (g : ℕ) where
 
   -- Packing: refusal 12, given exactly if it applies.
   pub pack-refusals : Exactly (PackWhy g) (packingNo g)
-  pack-refusals = exactly (PackWhy g) (packRungs g) (packingNo g) pack-ladder (omega arith, tt) pack-listed
+  pack-refusals = exactly (PackWhy g) (packRungs g) (packingNo g) pack-ladder (omega arith) pack-listed
       (via (not (leb g lastPacked)) (above g lastPacked) late pack-12, λ _. tt)
 
 module _ (code : ℕ) where
@@ -166,25 +157,16 @@ module _ (code : ℕ) where
 
   -- The inverse of a path code: refusal 3, given exactly if it applies.
   pub decode-refusals : Exactly (DecodeWhy code) (decodedOf code .no)
-  decode-refusals = exactly (DecodeWhy code) (decodeRungs code) (decodedOf code .no) decode-ladder (omega arith, tt) decode-listed
+  decode-refusals = exactly (DecodeWhy code) (decodeRungs code) (decodedOf code .no) decode-ladder (omega arith) decode-listed
       (via (not (ltb code (2 ^ 30))) (fails (ltb code (2 ^ 30)) (ltb-false code (2 ^ 30)) (le-ltb code (2 ^ 30))) long decode-3, λ _. tt)
 
 -- ---- lookup: refusals 1, 2, 3 and 4
 
 module _ (t : Tables) (id d : ℕ) (p : IVec3) where
   pub look-ladder : lookNo t id d p ≡ ladder (lookRungs t id d p)
-  unfolding lookNo ladder within
-  look-ladder = split (fits t)
-      (λ f. split (leb d deepest)
-      (λ a. split (inside d (p .x))
-      (λ x. split (inside d (p .y))
-      (λ y. split (inside d (p .z))
-      (λ z. split (liveOrEmpty (cap t) (W t) id) (λ l. rw (f, a, x, y, z, l)) (λ l. rw (f, a, x, y, z, l)))
-      (λ z. rw (f, a, x, y, z)))
-      (λ y. rw (f, a, x, y)))
-      (λ x. rw (f, a, x)))
-      (λ a. rw (f, a)))
-      (λ f. rw f)
+  unfolding lookNo within
+  look-ladder = rung-not (fits t) _ 1 _ (rung-not (leb d deepest) _ 2 _ (within-rung (inside d (p .x)) (inside d (p .y)) (inside d (p .z)) _ _
+      (rung-not (liveOrEmpty (cap t) (W t) id) 0 4 [] none)))
 
   look-1 : LookWhy t id d p 1 → Sized t → ⊥
   look-1 (unsizedLook u) = u
@@ -206,7 +188,7 @@ module _ (t : Tables) (id d : ℕ) (p : IVec3) where
 
   pub look-no-refusals : Exactly (LookWhy t id d p) (lookNo t id d p)
   look-no-refusals = exactly (LookWhy t id d p) (lookRungs t id d p) (lookNo t id d p) look-ladder
-      (omega arith, (omega arith, (omega arith, (omega arith, tt)))) look-listed (
+      (omega arith) look-listed (
         via (not (fits t)) (unsized t) unsizedLook look-1,
         λ _. (
           via (not (leb d deepest)) (above d deepest) deepLook look-2,
@@ -231,14 +213,8 @@ module _ (t : Tables) (id d : ℕ) (p : IVec3) where
 
 module _ (t : Tables) (id d n : ℕ) where
   expand-ladder : expandNo t id d n ≡ ladder (expandRungs t id d n)
-  unfolding expandNo ladder
-  expand-ladder = split (fits t)
-      (λ f. split (leb d deepestCube)
-      (λ a. split (liveOrEmpty (cap t) (W t) id)
-      (λ l. split (eqb n (8 ^ d)) (λ b. rw (f, a, l, b)) (λ b. rw (f, a, l, b)))
-      (λ l. rw (f, a, l)))
-      (λ a. rw (f, a)))
-      (λ f. rw f)
+  unfolding expandNo
+  expand-ladder = rung-not (fits t) _ 1 _ (rung-not (leb d deepestCube) _ 2 _ (rung-not (liveOrEmpty (cap t) (W t) id) _ 4 _ (rung-not (eqb n (8 ^ d)) 0 9 [] none)))
 
   expand-1 : ExpandWhy t id d n 1 → Sized t → ⊥
   expand-1 (unsizedExpand u) = u
@@ -260,7 +236,7 @@ module _ (t : Tables) (id d n : ℕ) where
 
   expand-no-refusals : Exactly (ExpandWhy t id d n) (expandNo t id d n)
   expand-no-refusals = exactly (ExpandWhy t id d n) (expandRungs t id d n) (expandNo t id d n) expand-ladder
-      (omega arith, (omega arith, (omega arith, (omega arith, tt)))) expand-listed (
+      (omega arith) expand-listed (
         via (not (fits t)) (unsized t) unsizedExpand expand-1,
         λ _. (
           via (not (leb d deepestCube)) (above d deepestCube) deepExpand expand-2,

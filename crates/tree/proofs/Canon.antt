@@ -7,7 +7,7 @@ use native.Mathlib.Nat.{le-max-left, le-max-right, le-trans, le-suc-iff, suc-inj
 use native.Mathlib.Omega.{arith}
 use Rattle.nodes.specs.Words.{Words}
 use Rattle.nodes.specs.Tally.{Live}
-use Rattle.tree.specs.Tree.{EMPTY, Leaf, Branch, Kind, empty, leaf, branch, kind, LiveOr0, childOf, AllKids, WellMade, Below, self, under, Cell, here, down, look, SameCube, Root}
+use Rattle.tree.specs.Tree.{EMPTY, Leaf, Branch, Kind, empty, leaf, branch, kind, LiveOr0, childOf, AllKids, WellMade, Below, self, under, Cell, here, down, look, SameCube, Root, Flat}
 use Rattle.nodes.specs.Values.{valueAt, heightAt, maxTo}
 
 -- ## The three clauses of lookup
@@ -71,9 +71,6 @@ le-maxTo (suc n) f i h =
     (le-suc-iff .0 h)
 
 -- ## A leaf or EMPTY reads the same at every cell
-
-abbrev pub Flat : ℕ → Type 0
-Flat a = (a ≡ EMPTY) ⊎ Leaf a
 
 pub look-flat : (W : Words) (p : List ℕ) (a : ℕ) → Flat a → look W p a ≡ valueAt W a
 look-flat W [] a k = look-end W a

@@ -7,11 +7,11 @@ use native.Mathlib.Nat.{max-le}
 use native.Mathlib.Decide.{ℕ-discrete}
 use native.Mathlib.Omega.{arith}
 use Rattle.nodes.specs.Words.{Words}
-use Rattle.tree.specs.Tree.{EMPTY, Leaf, Branch, Kind, empty, leaf, branch, kind, LiveOr0, childOf, AllKids, WellMade, Below, self, under, Tidy, Cell, here, down, look, Extends, Keeps}
+use Rattle.tree.specs.Tree.{EMPTY, Leaf, Branch, Kind, empty, leaf, branch, kind, LiveOr0, childOf, AllKids, WellMade, Below, self, under, Tidy, Cell, here, down, look, Extends, Keeps, Flat}
 use Rattle.nodes.specs.Values.{heightAt, maxTo}
 use Rattle.tree.specs.Edits.{Edited}
 use Rattle.tree.specs.Anew.{part, replace, All, Mixed, Has, HasValue, Makes, nothing, whole, node, Anew, gone, set, step, Answer, asked, made}
-use Rattle.tree.proofs.Canon.{look-branch, look-end, value-empty, height-empty, live, live-leaf, Flat, look-flat, flat-below, kid-lower, flat-low}
+use Rattle.tree.proofs.Canon.{look-branch, look-end, value-empty, height-empty, live, live-leaf, look-flat, flat-below, kid-lower, flat-low}
 use Rattle.tree.proofs.Grow.{extends-keeps, extends-trans, look-later, there-later, height-later, tidy-later}
 
 -- ## Parts

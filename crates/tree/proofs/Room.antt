@@ -20,6 +20,7 @@ use Rattle.nodes.proofs.Sums.{cases, sumTo-ext}
 use Rattle.tree.specs.Tree.{Branch, LiveOr0, childOf, WellMade, Cell, here, down, Extends}
 use Rattle.tree.specs.Anew.{part, replace, All, Mixed, Has, HasValue, Makes, nothing, whole, node, Anew, gone, set, step}
 use Rattle.tree.specs.Lacks.{Need, lack, Plan, plan-gone, plan-set, plan-leaf, plan-step, plan-branch, plan-more, Once, Lacks, Newly}
+use Rattle.tree.specs.Room.{Bare, Room}
 use Rattle.tree.proofs.Canon.{live}
 use Rattle.tree.proofs.Grow.{extends-keeps, extends-trans, there-later, below-live, below-earlier}
 use Rattle.tree.proofs.Making.{part-there, part-low, replace-same, replace-other, replace-all, renewed, anew-up}
@@ -27,10 +28,6 @@ use Rattle.tree.proofs.OneNode.{Added, added-extends, added-live, added
 use Rattle.tree.proofs.Plan.{plan-have}
 
 -- ## Dead slots more change nothing
-
--- every slot from cap on is dead
-abbrev pub Bare : ℕ → Words → Type 0
-Bare cap W = (s : ℕ) → cap ≤ s → W s own < floor
 
 -- what lies outside the tables reads 0
 pub tables-bare : (x : Nodes) (cap : ℕ) → length (x .facts) ≡ 7 * cap → Bare cap (wordOf x)
@@ -289,22 +286,6 @@ module _ (n cap : ℕ) (n≤8 : n ≤ 8) (W : Words) (w : WellMade n cap W) (b :
       )
 
 -- ## As many slots more as nodes are lacking
-
--- The tables W with k slots more: the slots that were there keep every word, and in `words` the cell p below a is made anew with the value x, with the
--- answer `id`, a new node that no branch names.
-pub record Room (n cap : ℕ) (W : Words) (x : ℕ) (p : List ℕ) (a k : ℕ) : Type 0 where
-  pub slots : ℕ
-  pub words : Words
-  pub id : ℕ
-  pub size : slots ≡ cap + k
-  pub made : WellMade n slots words
-  pub bare : Bare slots words
-  pub grows : Extends n slots W words
-  pub anew : Anew n slots words x p a id
-  pub now : Live slots words id
-  pub new : cap ≤ slot id
-  pub unnamed : (y : ℕ) → Live slots words y → Branch y → (i : ℕ) → i < n → childOf words y i ≢ id
-  pub kept : (s : ℕ) → s < cap → (f : ℕ) → words s f ≡ W s f
 
 module _ (n cap : ℕ) (n≥2 : 1 < n) (n≤8 : n ≤ 8) (W : Words) (w : WellMade n cap W) (b : Bare cap W) (x : ℕ) where
   -- the cell itself

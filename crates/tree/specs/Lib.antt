@@ -4,4 +4,5 @@ pub mod Cells
 pub mod Anew
 pub mod Edits
 pub mod Lacks
+pub mod Room
 pub mod Demand

@@ -34,6 +34,10 @@ unfoldable pub kind : (a : ℕ) → Kind a
 kind zero = empty refl
 kind (suc a) = elim (decLe (2 ^ 63) (suc a)) [ yes h ↦ leaf h | no h ↦ branch (omega arith) ]
 
+-- a leaf or EMPTY
+abbrev pub Flat : ℕ → Type 0
+Flat a = (a ≡ EMPTY) ⊎ Leaf a
+
 -- EMPTY or live
 abbrev pub LiveOr0 : ℕ → Words → ℕ → Type 0
 LiveOr0 cap W a = (a ≡ EMPTY) ⊎ Live cap W a

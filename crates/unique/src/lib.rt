@@ -3,11 +3,17 @@
 use basics::KID_WORDS;
 ghost use Rattle.unique.specs.Asked.{PlainMeets, fromRaw, raw, packingNo, newLeaf, newBranch, index, generation, types, mask, hasChild, isLeaf, isBranch, isInvalid, isValid, isEmpty, text, path, position, child};
 ghost use Rattle.unique.specs.Asked.{Meets, fresh, hold, counts, leaf, branch, release, look, expand, edit, check};
+ghost use Rattle.unique.specs.Exports as exports;
+ghost use Rattle.unique.specs.Exports.{ExportMeets};
 ghost use Rattle.arena.specs.Lent.{before};
 use arena::Answer;
 use arena::Arena;
 use arena::Counted;
 use arena::Made;
+use capi_ids::Packed;
+use capi_paths::Cell;
+use capi_paths::Child;
+use capi_paths::Text;
 use ids::BlockId;
 use ids_text::IdText;
 use paths::ChildIndex;
@@ -234,4 +240,36 @@ fn check_meets(arena: Arena, kids: &[u64], facts: &mut [u64], find: &[u16]) -> b
     ensures { λ r. ⌜ Meets (check (before arena kids facts find)) (r, now (facts .exit)) ⌝ }
 {
     check_arena::check_arena(arena, kids, facts, find)
+}
+
+// ---- exports that answer in a record of their own
+
+fn exported_leaf_meets(place: u32, turn: u16) -> Packed
+    ensures { λ r. ⌜ ExportMeets (exports.newLeaf place turn) r ⌝ }
+{
+    capi_ids::fenpiling_new_leaf(place, turn)
+}
+
+fn exported_branch_meets(place: u32, turn: u16, leaves: u8, there: u8) -> Packed
+    ensures { λ r. ⌜ ExportMeets (exports.newBranch place turn leaves there) r ⌝ }
+{
+    capi_ids::fenpiling_new_branch(place, turn, leaves, there)
+}
+
+fn exported_decode_meets(code: u32) -> Cell
+    ensures { λ r. ⌜ ExportMeets (exports.decode code) r ⌝ }
+{
+    capi_paths::fenpiling_decode_child_index_path(code)
+}
+
+fn exported_child_meets(x: i32, y: i32, z: i32, level: u32, depth: u32) -> Child
+    ensures { λ r. ⌜ ExportMeets (exports.child x y z level depth) r ⌝ }
+{
+    capi_paths::fenpiling_child_index2(x, y, z, level, depth)
+}
+
+fn exported_text_meets(number: u64) -> Text
+    ensures { λ r. ⌜ ExportMeets (exports.text number) r ⌝ }
+{
+    capi_paths::fenpiling_text(number)
 }

@@ -8,7 +8,7 @@ use Rattle.nodes.specs.Words.{Words, slot}
 use Rattle.nodes.specs.Tally.{tabFrom, kidsOf}
 use Rattle.nodes.proofs.Sums.{tabFrom-ext}
 use Rattle.tree.specs.Anew.{part}
-use Rattle.tree.proofs.Canon.{Flat}
+use Rattle.tree.specs.Tree.{Flat}
 use Rattle.tree.proofs.Making.{part-flat, part-branch}
 use Rattle.edit_plan.specs.Models.{eightParts}
 use Rattle.edit_plan.proofs.parts.Statement.{statement}

@@ -6,9 +6,9 @@ use Prim.Native.Nat.{ℕ}
 use native.Mathlib.Decide.{ℕ-discrete}
 use native.Mathlib.Omega.{arith}
 use Rattle.nodes.proofs.Sums.{cases}
-use Rattle.ladders.specs.Ladder.{ladder, order, Decided, Rising, Listed, Given}
-use Rattle.ladders.proofs.Ladder.{ladder-given, rising-positive, first-applies, first-lower, lowest-first}
+use Rattle.basics.specs.Ladder.{ladder, order, Decided, Rising, Listed, Given}
+use Rattle.basics.proofs.Ladder.{ladder-given, rising-positive, first-applies, first-lower, lowest-first}
 use Rattle.ledger.specs.Refusals.{Exactly}
 
 module _ (A : ℕ → Type 0) where
   given-exactly : (ks : List ℕ) (x : ℕ) → Rising 0 ks → Listed A ks → Given A ks x → Exactly A x

@@ -1,11 +1,14 @@
 -- The law of ladders: if each test decides its reason, the number is k exactly if k is the first that applies, and 0 exactly if none does.
-use mathlib.Core.Path.{_≡_, refl, sym, _∙_, subst}
+use mathlib.Core.Path.{_≡_, refl, sym, _∙_, ap, subst}
 use mathlib.Core.Logic.{inl, inr, ⊎-elim}
-use mathlib.Core.Bool.{Bool, true, false, true≢false}
-use mathlib.Core.List.{List, [], _∷_, List·Memᴰ, List·Memᴰ·cases-cons, List·Memᴰ·not-nil}
+use mathlib.Core.Bool.{Bool, true, false, not, true≢false}
+use mathlib.Core.List.{List, [], _∷_, _++_, List·Memᴰ, List·Memᴰ·cases-cons, List·Memᴰ·not-nil}
 use Prim.Native.Nat.{ℕ, _≤_, _<_}
 use native.Mathlib.Omega.{arith}
-use Rattle.ladders.specs.Ladder.{ladder, order, Decides, Decided, Positive, Rising, Listed, First, Given}
+use lib.Dec.{eqb}
+use borrow.Author.Tests.{ne-eqb, not-true}
+use Rattle.basics.specs.Pick.{pick}
+use Rattle.basics.specs.Ladder.{ladder, order, Decides, Decided, Positive, Rising, Listed, First, Given}
 
 by : {B : Type 0} (b : Bool) → (b ≡ true → B) → (b ≡ false → B) → B
 by true f g = f refl
@@ -18,6 +21,40 @@ off b d n = by b (λ e. absurd (n (d .0 e))) (λ e. e)
 -- a reason whose test is false doesn't hold
 pub out : {R : Type 0} (b : Bool) → Decides b R → b ≡ false → R → ⊥
 out b d f r = true≢false (sym (d .1 r) ∙ f)
+
+-- one more test before a ladder: the number k where it fails, or where it is true
+pub rung-not : (b : Bool) (x k : ℕ) (l : List (Bool × ℕ)) → x ≡ ladder l → pick b x k ≡ ladder ((not b, k) ∷ l)
+unfolding ladder
+rung-not true x k l e = e
+rung-not false x k l e = refl
+
+pub rung-if : (b : Bool) (x k : ℕ) (l : List (Bool × ℕ)) → x ≡ ladder l → pick b k x ≡ ladder ((b, k) ∷ l)
+unfolding ladder
+rung-if true x k l e = refl
+rung-if false x k l e = e
+
+-- one ladder after another
+pub ladder-then : (l r : List (Bool × ℕ)) → Positive (order l) → pick (eqb (ladder l) 0) (ladder r) (ladder l) ≡ ladder (l ++ r)
+unfolding ladder
+ladder-then [] r p = refl
+ladder-then (s ∷ ss) r p = by (s .0)
+    (λ e. rw e (let q = p .0 in let d : s .1 ≡ 0 → ⊥ = (λ z. omega arith) in rw (ne-eqb (s .1) 0 d)))
+    (λ e. rw e (ladder-then ss r (p .1)))
+
+-- a reason that doesn't hold leaves its negated test true
+pub on : {R : Type 0} (b : Bool) → Decides (not b) R → (R → ⊥) → b ≡ true
+on b d n = by b (λ e. e) (λ e. absurd (n (d .0 (ap not e))))
+
+-- a test that is true exactly if the reason holds; one that fails exactly if it does
+pub tells : {R : Type 0} (b : Bool) → (b ≡ true → R) → (b ≡ false → R → ⊥) → Decides b R
+tells b f g = (f, λ r. by b (λ e. e) (λ e. absurd (g e r)))
+
+pub denies : {R : Type 0} (b : Bool) → (b ≡ false → R) → (b ≡ true → R → ⊥) → Decides (not b) R
+denies b f g = ((λ e. f (not-true b e)), λ r. by b (λ e. absurd (g e r)) (λ e. ap not e))
+
+-- two reasons that follow from one another
+pub via : {R S : Type 0} (b : Bool) → Decides b R → (R → S) → (S → R) → Decides b S
+via b d f g = ((λ e. f (d .0 e)), (λ s. d .1 (g s)))
 
 module _ (A : ℕ → Type 0) where
   is-first : (l : List (Bool × ℕ)) (k : ℕ) → 1 ≤ k → Decided A l → ladder l ≡ k → First A (order l) k

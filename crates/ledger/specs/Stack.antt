@@ -1,0 +1,47 @@
+-- The freed slots, the last one freed first; and which slots a release recycles, in order.
+use mathlib.Core.List.{List, [], _∷_, _++_}
+use Prim.Native.Nat.{ℕ, zero, suc}
+use lib.Dec.{eqb}
+use Rattle.basics.specs.Limits.{kidWords}
+use Rattle.basics.specs.Pick.{pick}
+use Rattle.nodes.specs.Tally.{Freed, kidsOf}
+use Rattle.nodes.specs.Words.{holds, places, slot}
+use Rattle.arena.specs.Calls.{recycled, lessOf, unusedOf, takes, releaseNo}
+use Rattle.arena.specs.Tables.{Tables, cap, W}
+
+-- fs are the slots that were given out and are not live, each once, the last one freed first: each is linked to the one freed before it
+abbrev pub Stack : Tables → List ℕ → Type 0
+Stack t fs = Freed (cap t) (W t) (t .arena .top) (t .arena .next) fs
+
+-- ss put on top, one after the other
+abbrev pub pushed : List ℕ → List ℕ → List ℕ
+pushed [] fs = fs
+pushed (s ∷ ss) fs = pushed ss (s ∷ fs)
+
+-- the top one taken off
+abbrev pub popped : List ℕ → List ℕ
+popped [] = []
+popped (s ∷ fs) = fs
+
+-- the last one freed, else the lowest never used
+abbrev pub lastFreed : List ℕ → ℕ → ℕ
+lastFreed [] next = next
+lastFreed (s ∷ fs) next = s
+
+-- what h says of each, one after the other, where g is what becomes of the tables
+unfoldable pub eachGoes : (Tables → ℕ → Tables) → (Tables → ℕ → List ℕ) → Tables → List ℕ → List ℕ
+eachGoes g h t [] = []
+eachGoes g h t (y ∷ ys) = h t y ++ eachGoes g h (g t y) ys
+
+-- the slots that `takes` recycles, in order: the node's own, and then its children's in octant order, each completely before the next
+unfoldable pub goes : ℕ → ℕ → Tables → ℕ → List ℕ
+goes zero f t id = []
+goes (suc k) f t id =
+    let less = lessOf f t id in
+    let gone = slot id ∷ eachGoes (takes k places) (goes k places) (recycled less (slot id)) (kidsOf kidWords (W less) (slot id)) in
+    let some = pick (unusedOf less id) gone [] in
+    pick (eqb id 0) [] some
+
+-- the slots that a release of id recycles, in order, in an arena whose nodes are at most so tall
+unfoldable pub recycledBy : ℕ → Tables → ℕ → List ℕ
+recycledBy tallest t id = pick (eqb (releaseNo t id) 0) (goes (suc tallest) holds t id) []
