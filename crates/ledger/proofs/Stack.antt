@@ -13,30 +13,30 @@ use Rattle.basics.specs.Pick.{pick}
 use Rattle.ids.specs.Ids.{generationOf}
 use Rattle.nodes.specs.Tally.{Freed}
 use Rattle.nodes.specs.Words.{Nodes, Words, own, holds, places, link, spare, slot, floor, wordOf}
-use Rattle.nodes.proofs.Access.{written-others, written-fact}
+use Rattle.nodes.proofs.Access.{written-fact}
 use Rattle.nodes.proofs.Counts.{Others}
 use Rattle.nodes.proofs.Freeing.{freed-same, freed-length, push, pop, bump}
 use Rattle.nodes.proofs.Sums.{cases, occ-here}
-use Rattle.arena.specs.Calls.{Out, empties, freshSlot, slotGiven, roomOf, freshFacts, named, recycled, deadFacts, lessOf, takes, releaseNo, releaseOf, heldAt, leafSlot, leafMade, internLeafOf, placed, unheld, branchSlot, branchMade, internBranchOf, holdOf, fresh, freshOf}
+use Rattle.arena.specs.Calls.{Out, empties, freshSlot, slotGiven, roomOf, recycled, deadFacts, lessOf, takes, releaseNo, releaseOf, heldAt, leafSlot, leafMade, internLeafOf, unheld, branchSlot, branchMade, internBranchOf, holdOf, fresh}
 use Rattle.arena.specs.Models.{settled}
-use Rattle.arena.specs.Node.{nextGeneration, leafId, branchId, valueFor, heightFor}
+use Rattle.arena.specs.Node.{nextGeneration}
 use Rattle.arena.specs.Tables.{Tables, tablesOf, cap, W, WellFormed}
 use Rattle.arena.specs.declared.Arena.{Arena}
 use Rattle.arena.proofs.Branches.{unheld-eased}
 use Rattle.arena.proofs.Dropping.{debtor, recycle-others, recycle-own}
 use Rattle.arena.proofs.Fits.{live-is, release-live, room-yes}
-use Rattle.arena.proofs.Ids.{nextGen-le, dead-low, leaf-slot}
+use Rattle.arena.proofs.Ids.{nextGen-le, dead-low}
 use Rattle.arena.proofs.Inv.{Inv, wf-inv, sized-within}
 use Rattle.arena.proofs.Fresh.{Fresh}
 use Rattle.arena.proofs.Make.{fresh-free}
 use Rattle.arena.proofs.Releasing.{less-word, takes-empty, u-word}
-use Rattle.arena.proofs.Rows.{dead-length, dead-link, empties-length, fresh-length}
+use Rattle.arena.proofs.Rows.{dead-length, dead-link, empties-length}
 use Rattle.ledger.specs.Fates.{Lives, Has}
 use Rattle.ledger.specs.Refusals.{HasIds}
-use Rattle.ledger.specs.Stack.{Stack, pushed, popped, lastFreed, goes, recycledBy}
+use Rattle.ledger.specs.Stack.{Stack, pushed, popped, lastFreed, recycledBy}
 use Rattle.ledger.proofs.Balance.{leaf-one, branch-one, placings}
 use Rattle.ledger.proofs.Found.{leaf-found, leaf-missing, branch-found, branch-missing}
-use Rattle.ledger.proofs.Ladders.{Fine, leaf-ways, branch-ways, hold-ways, fresh-ways}
+use Rattle.ledger.proofs.Ladders.{Fine, leaf-ways, branch-ways, hold-ways}
 use Rattle.ledger.proofs.Recycling.{goes-empty, release-goes}
 use Rattle.ledger.proofs.Writes.{held-word}
 
@@ -148,9 +148,9 @@ made-stack t u p n tallest w room a o l k h (f ∷ fs) s =
 abbrev Takes : Tables → List ℕ → Out → Type 0
 Takes t fs o = (slot (o .id) ≡ lastFreed fs (t .arena .next)) × Stack (o .after) (popped fs)
 
-given-same : (a : Arena) (U V : Words) → U (a .top) link ≡ V (a .top) link → slotGiven a U ≡ slotGiven a V
+given-same : (a : Arena) (U U′ : Words) → U (a .top) link ≡ U′ (a .top) link → slotGiven a U ≡ slotGiven a U′
 unfolding slotGiven
-given-same a U V e =
+given-same a U U′ e =
     ap (λ (x : ℕ). record { capacity = a .capacity; next = pick (eqb (a .top) 0) (a .next + 1) (a .next); top = pick (eqb (a .top) 0) 0 x; live = a .live + 1 }) e
 
 module _ (n tallest : ℕ) (t : Tables) (m : n ≤ 8) (w : WellFormed n tallest t) (fs : List ℕ) (s : Stack t fs) where
