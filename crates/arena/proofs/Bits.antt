@@ -11,7 +11,7 @@ use lib.Dec.{eqb}
 use lib.ListN.{length, getD}
 use borrow.Author.Tests.{eqb-true, eqb-false, eq-eqb, ne-eqb, not-true}
 use Rattle.basics.specs.Bits.{bit}
-use Rattle.ids.specs.Ids.{leafFlag, typesField, maskField, generationOf, isLeaf, typesOf, maskOf, hasChild, Has}
+use Rattle.ids.specs.Ids.{leafFlag, typesField, maskField, generationOf, isLeaf, typesOf, maskOf, hasChild, HasFields}
 use Rattle.ids.proofs.Fields.{types-leaf, types-branch, mask-leaf, mask-branch, child-bit}
 use Rattle.ids.proofs.Packing.{packed-fields}
 use Rattle.nodes.specs.Tally.{oneIf, kidsOf, Live}
@@ -82,7 +82,7 @@ module _ (W : Words) (s : ℕ) where
   kids-byte : (p : ℕ → Bool) → bitsOf p (kidsOf 8 W s) < 2 ^ 8
   kids-byte p = let h = bits-below p (kidsOf 8 W s) in rw kids-length at h
 
-  branch-has : (g : ℕ) → s < 2 ^ 32 → g < 2 ^ 15 → Has 0 (kidTypes (kidsOf 8 W s)) (kidMask (kidsOf 8 W s)) g s (branchId (kidsOf 8 W s) s g)
+  branch-has : (g : ℕ) → s < 2 ^ 32 → g < 2 ^ 15 → HasFields 0 (kidTypes (kidsOf 8 W s)) (kidMask (kidsOf 8 W s)) g s (branchId (kidsOf 8 W s) s g)
   unfolding branchId kidTypes kidMask
   branch-has g l h =
       packed-fields 0 (bitsOf isLeaf (kidsOf 8 W s)) (bitsOf (λ k. not (eqb k 0)) (kidsOf 8 W s)) g s (omega arith) (kids-byte isLeaf) (kids-byte (λ k. not (eqb k 0))) h l
@@ -93,12 +93,12 @@ module _ (n tallest : ℕ) (t : Tables) (m : n ≤ 8) (w : WellFormed n tallest 
   node : Node n tallest (cap t) (W t) (slot y)
   node = w .nodes (slot y) (live .low, rw (live .is) (live .high))
 
-  branch-fields : isLeaf y ≡ false → Has 0 (kidTypes (kidsOf 8 (W t) (slot y))) (kidMask (kidsOf 8 (W t) (slot y))) (generationOf (W t (slot y) own)) (slot y) y
+  branch-fields : isLeaf y ≡ false → HasFields 0 (kidTypes (kidsOf 8 (W t) (slot y))) (kidMask (kidsOf 8 (W t) (slot y))) (generationOf (W t (slot y) own)) (slot y) y
   branch-fields b =
       let v = node-branch m (live .low) (w .sized .most) node (ap isLeaf (live .is) ∙ b) in
       let h = live .low in
       let k = w .sized .most in
-      subst (λ (x : ℕ). Has 0 (kidTypes (kidsOf 8 (W t) (slot y))) (kidMask (kidsOf 8 (W t) (slot y))) (generationOf (W t (slot y) own)) (slot y) x) (sym (v .id) ∙ live .is)
+      subst (λ (x : ℕ). HasFields 0 (kidTypes (kidsOf 8 (W t) (slot y))) (kidMask (kidsOf 8 (W t) (slot y))) (generationOf (W t (slot y) own)) (slot y) x) (sym (v .id) ∙ live .is)
       (branch-has (W t) (slot y) (generationOf (W t (slot y) own)) (omega arith) (gen-small (W t (slot y) own)))
 
   -- the same for both bytes: of a leaf the byte is 0, and its children are EMPTY

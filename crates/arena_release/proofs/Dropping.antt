@@ -22,7 +22,7 @@ use Rattle.arena.specs.Tables.{Tables, tables}
 use Rattle.arena.specs.declared.Arena.{Arena}
 use Rattle.arena.proofs.Dropping.{drop-empty}
 use Rattle.arena.proofs.Eight.{all-at, each-idle, each-on}
-use Rattle.arena_release.specs.Drop.{stateOf, Took, took, takeOf, dropSlot}
+use Rattle.arena_release.specs.Drop.{arenaOf, Took, took, takeOf, dropSlot}
 
 -- ---- what `take_place_unless_last` answers and leaves
 
@@ -102,18 +102,18 @@ module _ (levels s : ℕ) (a : Arena) (k f e l : List ℕ) (u : Tables) (eu : u 
 -- ---- the loop over eight ids
 
 module _ (levels c n tp lv i : ℕ) (k f e l : List ℕ) (t₀ : Tables) (eight : length l ≡ 8) (low : i < 8)
-    (inv : each (dropPlace (levels + 1)) t₀ l ≡ each (dropPlace (levels + 1)) (tables (stateOf c n tp lv) k f e) (drop i l)) (r : Bool) (m : List ℕ)
+    (inv : each (dropPlace (levels + 1)) t₀ l ≡ each (dropPlace (levels + 1)) (tables (arenaOf c n tp lv) k f e) (drop i l)) (r : Bool) (m : List ℕ)
     (eo : took r m ≡ takeOf f (getD l i 0)) where
-  pub again-taken : r ≡ false → each (dropPlace (levels + 1)) t₀ l ≡ each (dropPlace (levels + 1)) (tables (stateOf c n tp lv) k m e) (drop (i + 1) l)
+  pub again-taken : r ≡ false → each (dropPlace (levels + 1)) t₀ l ≡ each (dropPlace (levels + 1)) (tables (arenaOf c n tp lv) k m e) (drop (i + 1) l)
   again-taken z =
-      each-on (dropPlace (levels + 1)) t₀ (tables (stateOf c n tp lv) k f e) l i eight inv (tables (stateOf c n tp lv) k m e) low
-      (drop-taken levels (stateOf c n tp lv) k f e (getD l i 0) r m eo z)
+      each-on (dropPlace (levels + 1)) t₀ (tables (arenaOf c n tp lv) k f e) l i eight inv (tables (arenaOf c n tp lv) k m e) low
+      (drop-taken levels (arenaOf c n tp lv) k f e (getD l i 0) r m eo z)
 
-  pub again-last : (s : ℕ) (x : Tables) → r ≡ true → s ≡ slot (getD l i 0) → x ≡ dropSlot levels (tables (stateOf c n tp lv) k m e) s
+  pub again-last : (s : ℕ) (x : Tables) → r ≡ true → s ≡ slot (getD l i 0) → x ≡ dropSlot levels (tables (arenaOf c n tp lv) k m e) s
       → each (dropPlace (levels + 1)) t₀ l ≡ each (dropPlace (levels + 1)) x (drop (i + 1) l)
   again-last s x z es ex =
-      each-on (dropPlace (levels + 1)) t₀ (tables (stateOf c n tp lv) k f e) l i eight inv x low
-      (drop-last levels (stateOf c n tp lv) k f e (getD l i 0) r m eo s x z es ex)
+      each-on (dropPlace (levels + 1)) t₀ (tables (arenaOf c n tp lv) k f e) l i eight inv x low
+      (drop-last levels (arenaOf c n tp lv) k f e (getD l i 0) r m eo s x z es ex)
 
 -- ---- a hold
 

@@ -11,8 +11,8 @@ use Rattle.arena.specs.Tables.{Tables}
 use Rattle.arena.specs.declared.Arena.{Arena}
 
 -- an arena's state
-abbrev pub stateOf : ℕ → ℕ → ℕ → ℕ → Arena
-stateOf c n top live = record { capacity = c; next = n; top = top; live = live }
+abbrev pub arenaOf : ℕ → ℕ → ℕ → ℕ → Arena
+arenaOf c n top live = record { capacity = c; next = n; top = top; live = live }
 
 -- what `take_place_unless_last` answers, and the facts that it leaves
 pub record Took : Type 0 where

@@ -31,7 +31,7 @@ ghost use Rattle.arena.specs.Calls.{Fair, empties, deadFacts, recycled, each, r
 ghost use Rattle.arena.specs.Models.{dropPlace, releaseBy, releaseAny};
 ghost use Rattle.arena.specs.Node.{nextGeneration};
 ghost use Rattle.arena.specs.Lent.{before, after, answered};
-ghost use Rattle.arena_release.specs.Drop.{stateOf, took, takeOf, dropSlot};
+ghost use Rattle.arena_release.specs.Drop.{arenaOf, took, takeOf, dropSlot};
 
 // An arena's state but for its capacity: three numbers go to a function in registers.
 struct Slots {
@@ -70,7 +70,7 @@ fn recycle(
     below: Kids,
 ) -> Slots
     requires { ⌜ below ≡ kidsOf kidWords (kidOf (now kids)) s ⌝ }
-    ensures { λ r. ⌜ after (stateOf capacity (r .next) (r .top) (r .live)) kids facts find ≡ recycled (before (stateOf capacity (a .next) (a .top) (a .live)) kids facts find) s ⌝ }
+    ensures { λ r. ⌜ after (arenaOf capacity (r .next) (r .top) (r .live)) kids facts find ≡ recycled (before (arenaOf capacity (a .next) (a .top) (a .live)) kids facts find) s ⌝ }
 {
     let from = home_for(capacity, below, fact(facts, s, VALUE));
     remove_from(find, kids, facts, capacity, s, from);
@@ -126,7 +126,7 @@ fn drop_slot(
     s: usize,
     levels: u64,
 ) -> Slots
-    ensures { λ r. ⌜ after (stateOf capacity (r .next) (r .top) (r .live)) kids facts find ≡ dropSlot levels (before (stateOf capacity (a .next) (a .top) (a .live)) kids facts find) s ⌝ }
+    ensures { λ r. ⌜ after (arenaOf capacity (r .next) (r .top) (r .live)) kids facts find ≡ dropSlot levels (before (arenaOf capacity (a .next) (a .top) (a .live)) kids facts find) s ⌝ }
 {
     let below = children(kids, s);
     let b = recycle(capacity, a, kids, facts, find, s, below);
@@ -149,7 +149,7 @@ fn drop_all(
     ids: Kids,
     levels: u64,
 ) -> Slots
-    ensures { λ r. ⌜ after (stateOf capacity (r .next) (r .top) (r .live)) kids facts find ≡ each (dropPlace (levels + 1)) (before (stateOf capacity (a .next) (a .top) (a .live)) kids facts find) ids ⌝ }
+    ensures { λ r. ⌜ after (arenaOf capacity (r .next) (r .top) (r .live)) kids facts find ≡ each (dropPlace (levels + 1)) (before (arenaOf capacity (a .next) (a .top) (a .live)) kids facts find) ids ⌝ }
 {
     let mut b = a;
     let mut i: usize = 0;

@@ -18,7 +18,7 @@ use Rattle.arena.specs.Tables.{Tables, cap, W, WellFormed}
 use Rattle.arena.proofs.Holding.{fresh-well}
 use Rattle.arena.proofs.Rows.{empties-at}
 use Rattle.ledger.specs.Ledger.{on, ifAccepted, holdsOn}
-use Rattle.ledger.specs.Fates.{Lives, Has, ended}
+use Rattle.ledger.specs.Fates.{Lives, HasContent, ended}
 use Rattle.ledger.specs.Refusals.{LeafWhy, unsizedLeaf, nothing, fullLeaf, crowdedLeaf}
 use Rattle.ledger.proofs.Balance.{fresh-bare}
 use Rattle.ledger.proofs.Contents.{leaf-interned}
@@ -53,7 +53,7 @@ bare-count n tallest t m w none = cases (decLt 0 (t .arena .live))
 record One (n tallest : ℕ) (t : Tables) (z : ℕ) : Type 0 where
   well : WellFormed n tallest t
   two : cap t ≡ 2
-  has : Has t z empties 1
+  has : HasContent t z empties 1
   first : slot z ≡ 1
   only : (y : ℕ) → Lives t y → y ≡ z
   once : holdsOn t z ≡ 1

@@ -2,5 +2,5 @@
 use lib.IntN.{ℤ}
 use Rattle.paths.specs.declared.IVec3.{IVec3}
 
-abbrev pub cellAt : ℤ → ℤ → ℤ → IVec3
-cellAt x y z = record { x = x; y = y; z = z }
+abbrev pub positionAt : ℤ → ℤ → ℤ → IVec3
+positionAt x y z = record { x = x; y = y; z = z }

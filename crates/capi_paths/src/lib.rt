@@ -2,7 +2,7 @@
 // the same definition. A refusal is a number beside the answer: 0 where the call is accepted.
 ghost use mathlib.Core.Path.{_≡_};
 ghost use Rattle.paths.specs.Paths.{pathOf, decodedOf, childIndexOf};
-ghost use Rattle.capi_paths.specs.Cells.{cellAt};
+ghost use Rattle.capi_paths.specs.Cells.{positionAt};
 ghost use Rattle.ids_text.specs.Text.{idTextOf};
 use ids::BlockId;
 use paths::IVec3;
@@ -32,14 +32,14 @@ pub struct Child {
 
 #[no_mangle]
 pub extern "C" fn fenpiling_encode_child_index_path(x: i32, y: i32, z: i32) -> u32
-    ensures { λ r. ⌜ r ≡ pathOf (cellAt x y z) ⌝ }
+    ensures { λ r. ⌜ r ≡ pathOf (positionAt x y z) ⌝ }
 {
     paths::encode_child_index_path(IVec3 { x: x, y: y, z: z })
 }
 
 #[no_mangle]
 pub extern "C" fn fenpiling_decode_child_index_path(code: u32) -> Cell
-    ensures { λ r. ⌜ (r .no ≡ decodedOf code .no) × (cellAt (r .x) (r .y) (r .z) ≡ decodedOf code .position) ⌝ }
+    ensures { λ r. ⌜ (r .no ≡ decodedOf code .no) × (positionAt (r .x) (r .y) (r .z) ≡ decodedOf code .position) ⌝ }
 {
     let cell = paths::decode_child_index_path(code);
     let position = cell.position;
@@ -53,7 +53,7 @@ pub extern "C" fn fenpiling_decode_child_index_path(code: u32) -> Cell
 
 #[no_mangle]
 pub extern "C" fn fenpiling_child_index2(x: i32, y: i32, z: i32, current: u32, max: u32) -> Child
-    ensures { λ r. ⌜ (r .no ≡ childIndexOf (cellAt x y z) current max .no) × (r .index ≡ childIndexOf (cellAt x y z) current max .index) ⌝ }
+    ensures { λ r. ⌜ (r .no ≡ childIndexOf (positionAt x y z) current max .no) × (r .index ≡ childIndexOf (positionAt x y z) current max .index) ⌝ }
 {
     let child = paths::child_index2(IVec3 { x: x, y: y, z: z }, current, max);
     Child {

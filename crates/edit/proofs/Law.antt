@@ -15,7 +15,7 @@ use Rattle.nodes.specs.Words.{wordOf, factOf, putOf, holds, slot}
 use Rattle.nodes.proofs.Sums.{cases, split}
 use Rattle.paths.specs.declared.Cell.{Cell}
 use Rattle.paths.specs.declared.IVec3.{IVec3}
-use Rattle.paths.specs.Paths.{inside, whole, cell, toCell}
+use Rattle.paths.specs.Paths.{inside, whole, cellFrom, toCell}
 use Rattle.tree.specs.Tree.{LiveOr0, look}
 use Rattle.tree.specs.Lacks.{Need, have, lack}
 use Rattle.tree.proofs.CellLaws.{cube-cell}
@@ -121,7 +121,7 @@ lack-end t v c k s root new one h = cases (decLe k (cap t - 1 - t .arena .live))
 
 module _ (t : Tables) (root d v : ℕ) (p : IVec3) (high : v ≤ largestValue) where
   abbrev C : Cell
-  C = cell d (whole (p .x)) (whole (p .y)) (whole (p .z))
+  C = cellFrom d (whole (p .x)) (whole (p .y)) (whole (p .z))
 
   result-same : WellFormed cubeKids deepest t → lookNo t root d p ≡ 0 → heightAt (W t) root ≤ d
       → editPast t v C root (resultBy t v C root) ≡ ended t (resultOf cubeKids t v (cellAt d p) root) (makeOf cubeKids t v (cellAt d p) root 1 0)

@@ -12,7 +12,7 @@ use Rattle.basics.proofs.Puts.{puts-append}
 use Rattle.arena.specs.Tables.{tables}
 use Rattle.arena.specs.Calls.{Fair}
 use Rattle.edit_listing.specs.Listing.{State, Stepped, stateOf, cellIn, valueIn, stateAt, lineAt, linesAt, takenOf, Told, toldOf}
-use Rattle.edit_listing.specs.Models.{steppedOf, lineFor, lineBy, Kept, kept, oneOf, keptAt}
+use Rattle.edit_listing.specs.Models.{steppedOf, lineFor, lineBy, Progress, kept, oneOf, keptAt}
 use Rattle.edit_listing.specs.declared.Run.{Run}
 use Rattle.edit_listing.specs.declared.Step.{Step}
 use Rattle.edit_listing.specs.declared.Lined.{Lined}
@@ -57,13 +57,13 @@ module _ (run now : Run) (k₀ f₀ e₀ o₀ k f e o b : List ℕ) (i len : ℕ
       let x = inv fair in
       let y = one (x .0) in (
         y .0,
-        y .1 ∙ ap (λ (z : Kept). oneOf z b i) (x .1) ∙ kept-more (stateOf run k₀ f₀ e₀) b o₀ i ∙ ap (keptAt (stateOf run k₀ f₀ e₀) b o₀) (sym (add-one i)),
+        y .1 ∙ ap (λ (z : Progress). oneOf z b i) (x .1) ∙ kept-more (stateOf run k₀ f₀ e₀) b o₀ i ∙ ap (keptAt (stateOf run k₀ f₀ e₀) b o₀) (sym (add-one i)),
       )
 
   pub told-is : Fair cubeKids deepest (tables (run .arena) k₀ f₀ e₀)
       → _≡_ {A = Told} (record { state = stateOf now k f e; records = i; len = len; out = o }) (toldOf (stateOf run k₀ f₀ e₀) b o₀ i)
   unfolding toldOf keptAt
-  told-is fair = ap (λ (x : Kept). record { state = x .state; records = i; len = x .len; out = x .out }) (inv fair .1)
+  told-is fair = ap (λ (x : Progress). record { state = x .state; records = i; len = x .len; out = x .out }) (inv fair .1)
 
 -- ---- how many
 

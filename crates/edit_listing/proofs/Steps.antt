@@ -20,7 +20,7 @@ use Rattle.arena.proofs.Releasing.{release-well}
 use Rattle.read_cell.specs.Calls.{lookNo}
 use Rattle.edit.specs.Edit.{editOf}
 use Rattle.edit.proofs.Edits.{edit-well}
-use Rattle.edit_listing.specs.Listing.{State, Stepped, stateOf, word, cellIn, counted, editIn, stepTo, stepOf, startOf}
+use Rattle.edit_listing.specs.Listing.{State, Stepped, stateOf, word, cellIn, oneMore, editIn, stepTo, stepOf, startOf}
 use Rattle.edit_listing.specs.Models.{steppedOf}
 use Rattle.edit_listing.specs.declared.Run.{Run}
 
@@ -44,11 +44,11 @@ release-fair t id (inr w) = inr (release-well cubeKids deepest t id (omega arith
 
 -- ---- accepted, and refused
 
-pub step-accepted : (s : State) (o : Out) → o .no ≡ 0 → stepTo s o ≡ record { tables = releaseOf deepest (o .after) (s .root) .after; root = o .id; count = counted (s .count) }
+pub step-accepted : (s : State) (o : Out) → o .no ≡ 0 → stepTo s o ≡ record { tables = releaseOf deepest (o .after) (s .root) .after; root = o .id; count = oneMore (s .count) }
 unfolding stepTo
 step-accepted s o z = rw (eq-eqb (o .no) 0 z)
 
-pub step-refused : (s : State) (o : Out) → o .no ≢ 0 → stepTo s o ≡ record { tables = o .after; root = s .root; count = counted (s .count) }
+pub step-refused : (s : State) (o : Out) → o .no ≢ 0 → stepTo s o ≡ record { tables = o .after; root = s .root; count = oneMore (s .count) }
 unfolding stepTo
 step-refused s o z = rw (ne-eqb (o .no) 0 z)
 
@@ -59,8 +59,8 @@ stepped-by : (s : State) (p : IVec3) (v : ℕ) (o : Out) → o ≡ editOf (s .ta
 unfolding steppedOf stepOf editIn
 stepped-by s p v o e = ap (stepBy s) e
 
-count-by : (n j : ℕ) → j ≡ (n + 1) % 2 ^ 64 → j ≡ counted n
-unfolding counted
+count-by : (n j : ℕ) → j ≡ (n + 1) % 2 ^ 64 → j ≡ oneMore n
+unfolding oneMore
 count-by n j e = e
 
 -- ---- the code's edit and release

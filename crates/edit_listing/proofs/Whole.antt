@@ -20,7 +20,7 @@ use Rattle.arena.proofs.Holding.{fresh-well}
 use Rattle.arena.proofs.Releasing.{release-well}
 use Rattle.edit.specs.Edit.{editOf}
 use Rattle.edit.proofs.Edits.{edit-well}
-use Rattle.edit_listing.specs.Listing.{State, word, cellIn, valueIn, counted, editIn, stepTo, stepOf, stateAt, lineOf, lineAt, linesAt, startOf, decimal, endingOf, listingOf, Entered, begun, block, Stands, Bytes}
+use Rattle.edit_listing.specs.Listing.{State, word, cellIn, valueIn, oneMore, editIn, stepTo, stepOf, stateAt, lineOf, lineAt, linesAt, startOf, decimal, endingOf, listingOf, Entered, begun, block, Stands, Bytes}
 use Rattle.edit_listing.proofs.Puts.{text-short, digits-short}
 use Rattle.edit_listing.proofs.Steps.{edit-unfit, step-accepted, step-refused}
 
@@ -72,8 +72,8 @@ start-unfit c k f e z = (
       ap (λ (x : Out). x .no) (edit-unfit (t .tables) (t .root) deepest (cellIn b n) (valueIn b n) (ap fits (unfit-stays s u b n) ∙ u))),
 )
 
-count-plain : (n : ℕ) → n + 1 < 2 ^ 64 → counted n ≡ n + 1
-unfolding counted
+count-plain : (n : ℕ) → n + 1 < 2 ^ 64 → oneMore n ≡ n + 1
+unfolding oneMore
 count-plain n h = omega arith
 
 -- the number of a record is the true one, below 2^64
@@ -84,7 +84,7 @@ records-counted s b (suc n) h =
     let t = stateAt s b n in
     let o = editIn t (cellIn b n) (valueIn b n) in
     let e : t .count ≡ s .count + n = records-counted s b n (omega arith) in
-    let d : stepTo t o .count ≡ counted (t .count) = cases (ℕ-discrete (o .no) 0)
+    let d : stepTo t o .count ≡ oneMore (t .count) = cases (ℕ-discrete (o .no) 0)
     (λ z. ap (λ (x : State). x .count) (step-accepted t o z)) (λ z. ap (λ (x : State). x .count) (step-refused t o z)) in
     d ∙ count-plain (t .count) (omega arith) ∙ omega arith
 

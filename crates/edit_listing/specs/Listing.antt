@@ -69,8 +69,8 @@ pub record State : Type 0 where
   pub count : ℕ
 
 -- one more, running over at 2^64
-unfoldable pub counted : ℕ → ℕ
-counted n = (n + 1) % 2 ^ 64
+unfoldable pub oneMore : ℕ → ℕ
+oneMore n = (n + 1) % 2 ^ 64
 
 -- the edit of a cell at depth 6
 unfoldable pub editIn : State → IVec3 → ℕ → Out
@@ -80,8 +80,8 @@ editIn s p v = editOf (s .tables) (s .root) deepest p v
 unfoldable pub stepTo : State → Out → State
 stepTo s o =
     pick (eqb (o .no) 0)
-    (record { tables = releaseOf deepest (o .after) (s .root) .after; root = o .id; count = counted (s .count) })
-    (record { tables = o .after; root = s .root; count = counted (s .count) })
+    (record { tables = releaseOf deepest (o .after) (s .root) .after; root = o .id; count = oneMore (s .count) })
+    (record { tables = o .after; root = s .root; count = oneMore (s .count) })
 
 unfoldable pub stepOf : State → IVec3 → ℕ → State
 stepOf s p v = stepTo s (editIn s p v)

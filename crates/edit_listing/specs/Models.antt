@@ -19,20 +19,20 @@ abbrev pub lineBy : Step → List ℕ
 lineBy r = lineOf (r .run .count) (r .no) (r .run .root .0)
 
 -- where a block stands: the state, how many bytes were written, and the bytes lent for them
-pub record Kept : Type 0 where
+pub record Progress : Type 0 where
   pub state : State
   pub len : ℕ
   pub out : List ℕ
 
-abbrev pub kept : State → ℕ → List ℕ → Kept
+abbrev pub kept : State → ℕ → List ℕ → Progress
 kept s n o = record { state = s; len = n; out = o }
 
 -- record i of b, its line written after the others
-unfoldable pub oneOf : Kept → List ℕ → ℕ → Kept
+unfoldable pub oneOf : Progress → List ℕ → ℕ → Progress
 oneOf x b i =
     let r = steppedOf (x .state) (cellIn b i) (valueIn b i) in
     kept (r .state) (x .len + length (lineFor r)) (putsFrom (x .out) (x .len) (lineFor r))
 
 -- after the first n records
-unfoldable pub keptAt : State → List ℕ → List ℕ → ℕ → Kept
+unfoldable pub keptAt : State → List ℕ → List ℕ → ℕ → Progress
 keptAt s b o n = kept (stateAt s b n) (length (linesAt s b n)) (putsFrom o 0 (linesAt s b n))

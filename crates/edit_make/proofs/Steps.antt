@@ -9,7 +9,7 @@ use Rattle.nodes.specs.Words.{wordOf, nodes, kidOf}
 use Rattle.tree.specs.Cells.{pathBy, cubePath, pathTo}
 use Rattle.tree.specs.Anew.{part}
 use Rattle.paths.specs.declared.Cell.{Cell}
-use Rattle.paths.specs.Paths.{octant, cell}
+use Rattle.paths.specs.Paths.{octant, cellFrom}
 use Rattle.arena.specs.Calls.{Out, said, refused}
 use Rattle.arena.specs.Tables.{Tables, tables}
 use Rattle.arena.specs.declared.Arena.{Arena}
@@ -45,12 +45,12 @@ module _ (a : Arena) (k f e : List ℕ) (v id : ℕ) (c : Cell) (b : Plan) (h q 
 
   pub make-step : (o : ℕ) (ks : List ℕ) (low r : Out) → 1 ≤ c .depth → c .depth ≤ 6 → 1 ≤ b .new → ks ≡ eightParts (kidOf k) id
       → o ≡ octant (c .depth - 1) (c .x) (c .y) (c .z) → o < 8
-      → low ≡ makeAt (tables a k f e) v (cell (c .depth - 1) (c .x) (c .y) (c .z)) (getD ks o 0) (planned (b .new - 1) (b .id)) 0 1
+      → low ≡ makeAt (tables a k f e) v (cellFrom (c .depth - 1) (c .x) (c .y) (c .z)) (getD ks o 0) (planned (b .new - 1) (b .id)) 0 1
       → r ≡ upBy low ks o h q → r ≡ makeBy (tables a k f e) v (pathTo c) id b h q
   unfolding makeBy pathBy
   make-step o ks low r u l n ek eo lo el er =
       let W = wordOf (nodes k f) in
-      let c′ : Cell = cell (c .depth - 1) (c .x) (c .y) (c .z) in
+      let c′ : Cell = cellFrom (c .depth - 1) (c .x) (c .y) (c .z) in
       let b′ : Plan = planned (b .new - 1) (b .id) in
       let i : suc (c .depth - 1) ≡ c .depth = omega arith in
       let at : getD ks o 0 ≡ part W id o = ap (λ (w : List ℕ). getD w o 0) ek ∙ part-at k f id o lo in

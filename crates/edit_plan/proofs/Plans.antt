@@ -15,7 +15,7 @@ use Rattle.tree.specs.Cells.{pathBy, cubePath, pathTo}
 use Rattle.tree.specs.Anew.{part}
 use Rattle.tree.proofs.Making.{part-flat, part-branch}
 use Rattle.paths.specs.declared.Cell.{Cell}
-use Rattle.paths.specs.Paths.{octant, cell}
+use Rattle.paths.specs.Paths.{octant, cellFrom}
 use Rattle.arena.specs.Tables.{tables}
 use Rattle.arena.specs.declared.Arena.{Arena}
 use Rattle.edit_plan.specs.Models.{slotPlan, eightParts, cellPlan, upPlan, planBy}
@@ -63,7 +63,7 @@ module _ (a : Arena) (k f e : List ℕ) (v id : ℕ) (c : Cell) where
   plan-end r l h = rw l h
 
   pub plan-step : (o : ℕ) (ks : List ℕ) (b r : Plan) → (c .depth ≡ 0 → ⊥) → ks ≡ eightParts (kidOf k) id → o ≡ octant (c .depth - 1) (c .x) (c .y) (c .z) → o < 8
-      → b ≡ planBy (tables a k f e) v (pathTo (cell (c .depth - 1) (c .x) (c .y) (c .z))) (getD ks o 0) → r ≡ upPlan (tables a k f e) ks o b
+      → b ≡ planBy (tables a k f e) v (pathTo (cellFrom (c .depth - 1) (c .x) (c .y) (c .z))) (getD ks o 0) → r ≡ upPlan (tables a k f e) ks o b
       → r ≡ planBy (tables a k f e) v (pathTo c) id
   unfolding planBy pathBy
   plan-step o ks b r d ek eo l eb er =

@@ -7,10 +7,10 @@ use native.Mathlib.Nat.{div-div-eq-div-mul}
 use native.Mathlib.Omega.{arith}
 use lib.Dec.{eqb}
 use borrow.Author.Tests.{le-leb}
-use Rattle.ids.specs.Ids.{leafFlag, typesField, maskField, generationOf, indexOf, pack, packingNo, newLeaf, newBranch, invalid, Packed, Has}
+use Rattle.ids.specs.Ids.{leafFlag, typesField, maskField, generationOf, indexOf, pack, packingNo, newLeaf, newBranch, invalid, Packed, HasFields}
 
 -- The fields of a packed number are what was packed.
-pub packed-fields : (l t m g i : ℕ) → l < 2 → t < 2 ^ 8 → m < 2 ^ 8 → g < 2 ^ 15 → i < 2 ^ 32 → Has l t m g i (pack l t m g i)
+pub packed-fields : (l t m g i : ℕ) → l < 2 → t < 2 ^ 8 → m < 2 ^ 8 → g < 2 ^ 15 → i < 2 ^ 32 → HasFields l t m g i (pack l t m g i)
 unfolding leafFlag typesField maskField generationOf indexOf pack
 packed-fields l t m g i hl ht hm hg hi =
     record { flag = omega arith; types = omega arith; mask = omega arith; generation = omega arith; index = omega arith }
@@ -35,7 +35,7 @@ fields-pack raw h =
         → x ≡ l * 2 ^ 63 + t * 2 ^ 55 + m * 2 ^ 47 + g * 2 ^ 32 + i
     linear x a b c d i g m t l p q r s e = omega arith
 
-pub fields-decide : (l t m g i a b : ℕ) → a < 2 ^ 64 → b < 2 ^ 64 → Has l t m g i a → Has l t m g i b → a ≡ b
+pub fields-decide : (l t m g i a b : ℕ) → a < 2 ^ 64 → b < 2 ^ 64 → HasFields l t m g i a → HasFields l t m g i b → a ≡ b
 fields-decide l t m g i a b ha hb p q =
     fields-pack a ha
     ∙ rw (p .flag, p .types, p .mask, p .generation, p .index, ← q .flag, ← q .types, ← q .mask, ← q .generation, ← q .index)

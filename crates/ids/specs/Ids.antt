@@ -78,7 +78,7 @@ abbrev pub Packed : ℕ → Type 0
 Packed raw = PackedLeaf raw ⊎ PackedBranch raw
 
 -- the fields of raw are these five numbers
-pub record Has (l t m g i raw : ℕ) : Type 0 where
+pub record HasFields (l t m g i raw : ℕ) : Type 0 where
   pub flag : leafFlag raw ≡ l
   pub types : typesField raw ≡ t
   pub mask : maskField raw ≡ m

@@ -9,7 +9,7 @@ use native.Mathlib.Omega.{arith}
 use lib.Arith.{mod-mul}
 use lib.ListN.{length, take, drop}
 use borrow.Author.Tests.{eq-eqb, ne-eqb}
-use Rattle.ids.specs.Ids.{leafFlag, typesField, maskField, generationOf, indexOf, isLeaf, pack, newLeaf, newBranch, invalid, Packed, Has}
+use Rattle.ids.specs.Ids.{leafFlag, typesField, maskField, generationOf, indexOf, isLeaf, pack, newLeaf, newBranch, invalid, Packed, HasFields}
 use Rattle.ids_text.specs.Text.{digit, hex, leafText, branchText, textOf}
 use Rattle.ids.proofs.Packing.{packed-fields, packed-below, fields-decide, accepted, pack-valid}
 use Rattle.ids_text.proofs.Texts.{low-digit, high-digit}
@@ -43,7 +43,7 @@ hex-decides (suc n) v w p =
 record Known (raw l t m g i : ℕ) : Type 0 where
   below : raw < 2 ^ 64
   other : raw ≡ invalid → ⊥
-  fields : Has l t m g i raw
+  fields : HasFields l t m g i raw
 
 know : (l t m g i : ℕ) → l < 2 → t < 2 ^ 8 → m < 2 ^ 8 → g ≤ 0x7FFE → i < 2 ^ 32 → (raw : ℕ) → raw ≡ pack l t m g i → Known raw l t m g i
 know l t m g i hl ht hm hg hi raw e =
@@ -131,7 +131,7 @@ record Small (l t m g i : ℕ) : Type 0 where
   generation : g < 2 ^ 15
   index : i < 2 ^ 32
 
-small : (raw l t m g i : ℕ) → Has l t m g i raw → Small l t m g i
+small : (raw l t m g i : ℕ) → HasFields l t m g i raw → Small l t m g i
 unfolding typesField maskField generationOf indexOf
 small raw l t m g i f =
     record {

@@ -26,7 +26,7 @@ use Rattle.arena.proofs.Inv.{wf-inv}
 use Rattle.arena.proofs.Releasing.{Released, release-released}
 use Rattle.arena.proofs.Rows.{empties-length}
 use Rattle.ledger.specs.Ledger.{on, ifAccepted, holdsOn, Balanced}
-use Rattle.ledger.specs.Fates.{Lives, Same, Grew, Has}
+use Rattle.ledger.specs.Fates.{Lives, SameNode, Grew, HasContent}
 use Rattle.ledger.proofs.Effects.{live-true, by-life, holds-live, holds-dead, on-zero, on-same, on-diff, accepted, unaccepted, counted-holds, was-live}
 use Rattle.ledger.proofs.Found.{leaf-found, branch-found, slot-own}
 use Rattle.ledger.proofs.Ladders.{Fine, branchHeld, leaf-made-no, branch-made-no, leaf-ways, branch-ways, hold-ways, release-ways}
@@ -86,7 +86,7 @@ module _ (n tallest : ℕ) (t : Tables) (m : n ≤ 8) (w : WellFormed n tallest 
   pub leaf-adds : (v y : ℕ) → Lives (leafMade t v .after) y → (y ≡ leafMade t v .id) ⊎ Lives t y
   leaf-adds v = new-only t t (leafMade t v .after) (leafMade t v .id) empties v empties-length refl (λ b f l. refl) (leaf-one v)
 
-  pub leaf-has : (v : ℕ) → Has (leafMade t v .after) (leafMade t v .id) empties v × (Lives t (leafMade t v .id) → ⊥)
+  pub leaf-has : (v : ℕ) → HasContent (leafMade t v .after) (leafMade t v .id) empties v × (Lives t (leafMade t v .id) → ⊥)
   leaf-has v = new-has t t (leafMade t v .after) (leafMade t v .id) empties v empties-length refl (λ b f l. refl) (leaf-one v)
 
   pub leaf-gens : (v b : ℕ) → generationOf (W (leafMade t v .after) b own) ≡ generationOf (W t b own)
@@ -210,7 +210,7 @@ module _ (n tallest : ℕ) (t : Tables) (m : n ≤ 8) (w : WellFormed n tallest 
     pub branch-adds : (y : ℕ) → Lives (branchMade n t ks .after) y → (y ≡ branchMade n t ks .id) ⊎ Lives t y
     branch-adds = new-only t put (branchMade n t ks .after) (branchMade n t ks .id) ks (valueFor n (W t) ks) e refl placed-word branch-one
 
-    pub branch-has : Has (branchMade n t ks .after) (branchMade n t ks .id) ks (valueFor n (W t) ks) × (Lives t (branchMade n t ks .id) → ⊥)
+    pub branch-has : HasContent (branchMade n t ks .after) (branchMade n t ks .id) ks (valueFor n (W t) ks) × (Lives t (branchMade n t ks .id) → ⊥)
     branch-has = new-has t put (branchMade n t ks .after) (branchMade n t ks .id) ks (valueFor n (W t) ks) e refl placed-word branch-one
 
     pub branch-gens : (b : ℕ) → generationOf (W (branchMade n t ks .after) b own) ≡ generationOf (W t b own)
@@ -280,7 +280,7 @@ module _ (n tallest : ℕ) (t u : Tables) (id : ℕ) (r : Released n tallest t i
       let h = s .high in
       r .frame .kept (slot y) (s .low) (omega arith) f a b
 
-  pub released-kept : (y : ℕ) → Lives u y → Same t u y
+  pub released-kept : (y : ℕ) → Lives u y → SameNode t u y
   released-kept y l f k = released-word y l f (omega arith) (omega arith) ∙ less-word t id (slot y) f (omega arith)
 
   pub released-old : (y : ℕ) → Lives u y → Lives t y

@@ -13,7 +13,7 @@ use Rattle.arena.specs.Calls.{Out, empties, leafSlot, leafMade, internLeafOf, h
 use Rattle.arena.specs.Node.{valueFor}
 use Rattle.arena.specs.Tables.{Tables, tablesOf, W, WellFormed}
 use Rattle.arena.proofs.Fits.{room-yes}
-use Rattle.ledger.specs.Fates.{Lives, Grew, Has, Interned}
+use Rattle.ledger.specs.Fates.{Lives, Grew, HasContent, Interned}
 use Rattle.ledger.proofs.Balance.{leaf-has, branch-has, branch-held-grew}
 use Rattle.ledger.proofs.Found.{kid-word, kids-length, lives-slot, leaf-found, leaf-missing, value-of, branch-found, branch-missing}
 use Rattle.ledger.proofs.Ladders.{Fine, branchHeld, leaf-ways, branch-ways}
@@ -25,7 +25,7 @@ module _ (n tallest : ℕ) (t : Tables) (m : n ≤ 8) (w : WellFormed n tallest 
   one-of-a-content a b u v k x = live-inj u v (w .distinct (slot a) (slot b) (lives-slot t a u) (lives-slot t b v) k x)
 
   -- The same, with the content named.
-  pub one-has : (a b v : ℕ) (ks : List ℕ) → Has t a ks v → Has t b ks v → a ≡ b
+  pub one-has : (a b v : ℕ) (ks : List ℕ) → HasContent t a ks v → HasContent t b ks v → a ≡ b
   one-has a b v ks p q =
       one-of-a-content a b (p .live) (q .live)
       (λ i l. kid-word (W t) (slot a) i l ∙ ap (λ (k : List ℕ). getD k i 0) (p .kids ∙ sym (q .kids)) ∙ sym (kid-word (W t) (slot b) i l))
@@ -43,7 +43,7 @@ module _ (n tallest : ℕ) (t : Tables) (m : n ≤ 8) (w : WellFormed n tallest 
       (record { live = v; kids = q; worth = value-of n tallest t m w ks e d b v q })
 
 -- content goes through where nothing ends
-has-grew : (t u : Tables) (y v : ℕ) (ks : List ℕ) → Grew t u → Has t y ks v → Has u y ks v
+has-grew : (t u : Tables) (y v : ℕ) (ks : List ℕ) → Grew t u → HasContent t y ks v → HasContent u y ks v
 has-grew t u y v ks g h =
     let s = g .stays y (h .live) in
     record {
@@ -54,7 +54,7 @@ has-grew t u y v ks g h =
 
 -- ---- the node that is there, and the fresh one
 
-there : (n tallest : ℕ) (t u : Tables) (id v : ℕ) (ks : List ℕ) → n ≤ 8 → WellFormed n tallest t → Grew t u → u .arena ≡ t .arena → Has t id ks v
+there : (n tallest : ℕ) (t u : Tables) (id v : ℕ) (ks : List ℕ) → n ≤ 8 → WellFormed n tallest t → Grew t u → u .arena ≡ t .arena → HasContent t id ks v
     → Interned t ks v (record { no = 0; id = id; after = u })
 there n tallest t u id v ks m w g e h = record {
   has = has-grew t u id v ks g h;
@@ -62,7 +62,7 @@ there n tallest t u id v ks m w g e h = record {
   fresh = λ none l. none id h;
 }
 
-made : (t : Tables) (v : ℕ) (ks : List ℕ) (o : Out) → ((y : ℕ) → Has t y ks v → ⊥) → Has (o .after) (o .id) ks v → (Lives t (o .id) → ⊥) → Interned t ks v o
+made : (t : Tables) (v : ℕ) (ks : List ℕ) (o : Out) → ((y : ℕ) → HasContent t y ks v → ⊥) → HasContent (o .after) (o .id) ks v → (Lives t (o .id) → ⊥) → Interned t ks v o
 made t v ks o none h new = record { has = h; again = λ y q. absurd (none y q); fresh = λ z l. new l }
 
 -- Interning a leaf, accepted: a live node of that value; the live one of that value if there is one, else a fresh one.

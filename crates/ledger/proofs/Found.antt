@@ -25,7 +25,7 @@ use Rattle.arena.proofs.Fits.{both}
 use Rattle.arena.proofs.Ids.{flag-floor, leaf-flag, node-leaf, node-slot, gen-small}
 use Rattle.arena.proofs.Rows.{empties-length, empties-at}
 use Rattle.arena.proofs.Scan.{find-hit, find-miss}
-use Rattle.ledger.specs.Fates.{Lives, Has}
+use Rattle.ledger.specs.Fates.{Lives, HasContent}
 
 pub kid-word : (U : Words) (s i : ℕ) → i < 8 → U s i ≡ getD (kidsOf 8 U s) i 0
 kid-word U s i l = kids-at U s i l
@@ -56,7 +56,7 @@ module _ (n tallest : ℕ) (t : Tables) (m : n ≤ 8) (w : WellFormed n tallest 
       let p = floor-pos in
       omega arith
 
-  has-slot : (s v : ℕ) (ks : List ℕ) → LiveSlot t s → kidsOf 8 (W t) s ≡ ks → W t s value ≡ v → Has t (W t s own) ks v
+  has-slot : (s v : ℕ) (ks : List ℕ) → LiveSlot t s → kidsOf 8 (W t) s ≡ ks → W t s value ≡ v → HasContent t (W t s own) ks v
   has-slot s v ks l k x =
       let e = slot-own s l in
       record { live = slot-lives s l; kids = ap (kidsOf 8 (W t)) e ∙ k; worth = ap (λ (b : ℕ). W t b value) e ∙ x }
@@ -69,7 +69,7 @@ module _ (n tallest : ℕ) (t : Tables) (m : n ≤ 8) (w : WellFormed n tallest 
       (λ b. absurd (let k = b .some in let j = k .1 in k .2 (bare (k .0) (omega arith))))
       (w .nodes s l .kind)
 
-  pub leaf-found : (v : ℕ) → leafSlot t v ≢ 0 → LiveSlot t (leafSlot t v) × Has t (W t (leafSlot t v) own) empties v
+  pub leaf-found : (v : ℕ) → leafSlot t v ≢ 0 → LiveSlot t (leafSlot t v) × HasContent t (W t (leafSlot t v) own) empties v
   unfolding leafSlot leafIn
   leaf-found v d =
       let r = find-hit (leafIn t v) (cap t) d in
@@ -78,13 +78,13 @@ module _ (n tallest : ℕ) (t : Tables) (m : n ≤ 8) (w : WellFormed n tallest 
       let f = node-leaf m (l .0) (w .sized .most) (w .nodes (leafSlot t v) l) (b .0) in
       (l, has-slot (leafSlot t v) v empties l (kids-are (W t) (leafSlot t v) empties empties-length (λ i j. f .bare i j ∙ sym (empties-at i j))) (eqb-true (W t (leafSlot t v) value) v (b .1)))
 
-  leaf-in : (v y : ℕ) → Has t y empties v → leafIn t v (slot y) ≡ true
+  leaf-in : (v y : ℕ) → HasContent t y empties v → leafIn t v (slot y) ≡ true
   unfolding leafIn
   leaf-in v y h =
       rw (bare-leaf (slot y) (lives-slot t y (h .live)) (λ i j. kid-word (W t) (slot y) i j ∙ ap (λ (l : List ℕ). getD l i 0) (h .kids) ∙ empties-at i j))
       (eq-eqb (W t (slot y) value) v (h .worth))
 
-  pub leaf-missing : (v : ℕ) → leafSlot t v ≡ 0 → (y : ℕ) → Has t y empties v → ⊥
+  pub leaf-missing : (v : ℕ) → leafSlot t v ≡ 0 → (y : ℕ) → HasContent t y empties v → ⊥
   unfolding leafSlot
   leaf-missing v z y h =
       true≢false (sym (leaf-in v y h) ∙ find-miss (leafIn t v) (cap t) z (slot y) (h .live .low) (not-ground y (h .live)))
@@ -103,7 +103,7 @@ module _ (n tallest : ℕ) (t : Tables) (m : n ≤ 8) (w : WellFormed n tallest 
       (w .nodes (slot y) (lives-slot t y v) .kind)
 
   pub branch-found : (ks : List ℕ) → length ks ≡ 8 → noneOf ks ≡ false → branchSlot t ks ≢ 0
-      → LiveSlot t (branchSlot t ks) × Has t (W t (branchSlot t ks) own) ks (valueFor n (W t) ks)
+      → LiveSlot t (branchSlot t ks) × HasContent t (W t (branchSlot t ks) own) ks (valueFor n (W t) ks)
   unfolding branchSlot branchIn
   branch-found ks e some d =
       let r = find-hit (branchIn t ks) (cap t) d in

@@ -23,7 +23,7 @@ use Rattle.arena.specs.Tables.{Tables, tables, cap, W, WellFormed, Sized}
 use Rattle.arena.proofs.Branches.{alive, affords, some-kid}
 use Rattle.arena.proofs.Fits.{live-is, fits-sized, sized-fits, room-yes}
 use Rattle.ledger.specs.Ledger.{holdsOn}
-use Rattle.ledger.specs.Fates.{Lives, Has}
+use Rattle.ledger.specs.Fates.{Lives, HasContent}
 use Rattle.ledger.specs.Refusals.{Crowded, Full, HasIds, LeafWhy, BranchWhy, HoldWhy, ReleaseWhy, unsizedLeaf, unsizedBranch, unsizedHeld, unsizedReleased, deadChild, deadHeld, deadReleased, poorChild, poorReleased, nothing, allEmpty, tall, fullLeaf, fullBranch, fullHeld, crowdedLeaf, crowdedBranch, CountsWhy, unsizedCounts, deadCounted, FreshWhy, unsizedFresh, Exactly}
 use Rattle.ledger.proofs.Contents.{one-has, one-of-eight-ids}
 use Rattle.ledger.proofs.Effects.{live-true, by-life, holds-live}
@@ -313,7 +313,7 @@ module _ (n tallest : ℕ) (t : Tables) (m : n ≤ 8) (fair : Fair n tallest t) 
   leaf-listed j (fullLeaf y h f) = List·Memᴰ·tail (List·Memᴰ·tail (List·Memᴰ·head refl))
   leaf-listed j (crowdedLeaf h f) = List·Memᴰ·tail (List·Memᴰ·tail (List·Memᴰ·tail (List·Memᴰ·head refl)))
 
-  leaf-at : WellFormed n tallest t → leafSlot t v ≢ 0 → (y : ℕ) × (slot y ≡ leafSlot t v) × Has t y empties v × ((x : ℕ) → Has t x empties v → x ≡ y)
+  leaf-at : WellFormed n tallest t → leafSlot t v ≢ 0 → (y : ℕ) × (slot y ≡ leafSlot t v) × HasContent t y empties v × ((x : ℕ) → HasContent t x empties v → x ≡ y)
   leaf-at w s =
       let h = leaf-found n tallest t m w v s in
       let y = W t (leafSlot t v) own in
@@ -334,7 +334,7 @@ module _ (n tallest : ℕ) (t : Tables) (m : n ≤ 8) (fair : Fair n tallest t) 
   )
     where
       Asked : ℕ → Type 0
-      Asked y = Has t y empties v
+      Asked y = HasContent t y empties v
 
       one : Leaf 1 → Sized t → ⊥
       one (unsizedLeaf u) = u

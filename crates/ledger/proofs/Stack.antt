@@ -31,7 +31,7 @@ use Rattle.arena.proofs.Fresh.{Fresh}
 use Rattle.arena.proofs.Make.{fresh-free}
 use Rattle.arena.proofs.Releasing.{less-word, takes-empty, u-word}
 use Rattle.arena.proofs.Rows.{dead-length, dead-link, empties-length}
-use Rattle.ledger.specs.Fates.{Lives, Has}
+use Rattle.ledger.specs.Fates.{Lives, HasContent}
 use Rattle.ledger.specs.Refusals.{HasIds}
 use Rattle.ledger.specs.Stack.{Stack, pushed, popped, lastFreed, recycledBy}
 use Rattle.ledger.proofs.Balance.{leaf-one, branch-one, placings}
@@ -178,7 +178,7 @@ module _ (n tallest : ℕ) (t : Tables) (m : n ≤ 8) (w : WellFormed n tallest 
 
   -- Interning a leaf of a value that is not there, accepted: its slot is the last one freed, else the lowest never used, and then the one freed before
   -- it is the last.
-  pub leaf-takes : (v : ℕ) → internLeafOf t v .no ≡ 0 → ((y : ℕ) → Has t y empties v → ⊥)
+  pub leaf-takes : (v : ℕ) → internLeafOf t v .no ≡ 0 → ((y : ℕ) → HasContent t y empties v → ⊥)
       → (slot (internLeafOf t v .id) ≡ lastFreed fs (t .arena .next)) × Stack (internLeafOf t v .after) (popped fs)
   leaf-takes v z none =
       leaf-ways (λ o. o .no ≡ 0 → Takes t fs o) t v (λ k d y. absurd (d y)) (λ x r y. leaf-made-takes v (room-yes (t .arena) r))
@@ -192,7 +192,7 @@ module _ (n tallest : ℕ) (t : Tables) (m : n ≤ 8) (w : WellFormed n tallest 
       (λ f x y. absurd (let h = branch-found n tallest t m w ks e8 (f .some) x .1 in none (W t (branchSlot t ks) own) (h .live, h .kids))) z
 
   -- Interning what is there leaves the freed slots as they were; so does a refusal, which changes nothing.
-  pub leaf-spares : (v y : ℕ) → Has t y empties v → Stack (internLeafOf t v .after) fs
+  pub leaf-spares : (v y : ℕ) → HasContent t y empties v → Stack (internLeafOf t v .after) fs
   leaf-spares v y h =
       leaf-ways (λ o. Stack (o .after) fs) t v (λ k d. s) (λ x r. absurd (leaf-missing n tallest t m w v x y h)) (λ x. held-stack t (leafSlot t v) fs s)
 

@@ -19,7 +19,7 @@ use Rattle.arena.specs.Tables.{Tables, cap, W, Sized}
 use Rattle.arena.proofs.Fresh.{Fresh, fresh-gens}
 use Rattle.arena.proofs.Inv.{sized-within}
 use Rattle.ledger.specs.Ledger.{on, holdsOn}
-use Rattle.ledger.specs.Fates.{Lives, Grew, Has}
+use Rattle.ledger.specs.Fates.{Lives, Grew, HasContent}
 use Rattle.ledger.proofs.Effects.{on-same, on-diff, holds-live, holds-dead, counted-holds, still-live, was-live}
 
 -- ---- one hold more
@@ -159,7 +159,7 @@ module _ (t p u : Tables) (id : ℕ) (ks : List ℕ) (v : ℕ) (eight : length k
       (λ q. inr (was-live t u caps y (new-word (slot y) own q (omega arith)) l))
 
   -- it has the content asked for, and was not there before
-  pub new-has : Has u id ks v × (Lives t id → ⊥)
+  pub new-has : HasContent u id ks v × (Lives t id → ⊥)
   new-has = (record { live = new-lives; kids = kids-are (W u) (slot id) ks eight (new .kid); worth = new .worth }, (λ l. away id l refl))
 
   -- its slot keeps its generation, and so do all others

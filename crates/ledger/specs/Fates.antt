@@ -16,18 +16,18 @@ abbrev pub Lives : Tables → ℕ → Type 0
 Lives t y = Live (cap t) (W t) y
 
 -- y has the same id, eight children, stored value and height in u as in t: all its words but the two counts (and the link and the spare word)
-abbrev pub Same : Tables → Tables → ℕ → Type 0
-Same t u y = (f : ℕ) → f < holds → W u (slot y) f ≡ W t (slot y) f
+abbrev pub SameNode : Tables → Tables → ℕ → Type 0
+SameNode t u y = (f : ℕ) → f < holds → W u (slot y) f ≡ W t (slot y) f
 
 -- from t to u no node ends: each that is live in t is live in u, and has there all that it had but its counts
 pub record Grew (t u : Tables) : Type 0 where
   pub size : cap u ≡ cap t
-  pub stays : (y : ℕ) → Lives t y → Lives u y × Same t u y
+  pub stays : (y : ℕ) → Lives t y → Lives u y × SameNode t u y
 
 -- ## Contents
 
 -- y is a live node with the eight children ks and the stored value v
-pub record Has (t : Tables) (y : ℕ) (ks : List ℕ) (v : ℕ) : Type 0 where
+pub record HasContent (t : Tables) (y : ℕ) (ks : List ℕ) (v : ℕ) : Type 0 where
   pub live : Lives t y
   pub kids : kidsOf kidWords (W t) (slot y) ≡ ks
   pub worth : W t (slot y) value ≡ v
@@ -35,9 +35,9 @@ pub record Has (t : Tables) (y : ℕ) (ks : List ℕ) (v : ℕ) : Type 0 where
 -- interning the content ks, v answered o: the id of a live node of exactly that content; the one that was there if there was one, and then no
 -- slot was given out; else an id that was not live before
 pub record Interned (t : Tables) (ks : List ℕ) (v : ℕ) (o : Out) : Type 0 where
-  pub has : Has (o .after) (o .id) ks v
-  pub again : (y : ℕ) → Has t y ks v → (o .id ≡ y) × (o .after .arena ≡ t .arena)
-  pub fresh : ((y : ℕ) → Has t y ks v → ⊥) → Lives t (o .id) → ⊥
+  pub has : HasContent (o .after) (o .id) ks v
+  pub again : (y : ℕ) → HasContent t y ks v → (o .id ≡ y) × (o .after .arena ≡ t .arena)
+  pub fresh : ((y : ℕ) → HasContent t y ks v → ⊥) → Lives t (o .id) → ⊥
 
 -- ## Generations
 

@@ -11,7 +11,7 @@ use Rattle.arena.specs.Calls.{empties, freeSlots, fresh}
 use Rattle.arena.specs.Node.{heightFor}
 use Rattle.arena.specs.Tables.{Tables, tables, W, Sized}
 use Rattle.ledger.specs.Ledger.{holdsOn}
-use Rattle.ledger.specs.Fates.{Lives, Has}
+use Rattle.ledger.specs.Fates.{Lives, HasContent}
 
 -- no free slot
 abbrev pub Crowded : Tables → Type 0
@@ -38,8 +38,8 @@ HasIds t y ks = Lives t y × (kidsOf kidWords (W t) (slot y) ≡ ks)
 pub data LeafWhy (t : Tables) (v : ℕ) : ℕ → Type 0 where
   unsizedLeaf : (Sized t → ⊥) → LeafWhy t v 1
   nothing : v ≡ 0 → LeafWhy t v 6
-  fullLeaf : (y : ℕ) → Has t y empties v → Full t y → LeafWhy t v 10
-  crowdedLeaf : ((y : ℕ) → Has t y empties v → ⊥) → Crowded t → LeafWhy t v 11
+  fullLeaf : (y : ℕ) → HasContent t y empties v → Full t y → LeafWhy t v 10
+  crowdedLeaf : ((y : ℕ) → HasContent t y empties v → ⊥) → Crowded t → LeafWhy t v 11
 
 -- a number applies to interning a branch of the ids ks
 pub data BranchWhy (n tallest : ℕ) (t : Tables) (ks : List ℕ) : ℕ → Type 0 where

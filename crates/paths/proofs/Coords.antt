@@ -14,7 +14,7 @@ use mir.Syntax.{w32}
 use mir.Val.{SFits, Fits, toZ, ofZ}
 use mir.ValLaws.{toZ-ofZ}
 use Rattle.paths.specs.declared.IVec3.{IVec3}
-use Rattle.paths.specs.Paths.{low10, inside, whole, coordOf, cell, toCell}
+use Rattle.paths.specs.Paths.{low10, inside, whole, coordOf, cellFrom, toCell}
 
 -- A coordinate as its 32 bits are read back.
 abbrev pub back : ℤ → ℤ
@@ -112,7 +112,7 @@ module _ (x : ℤ) (f : SFits w32 x) where
 
 -- the cell at a position, its coordinates read from their bits
 pub cell-is : (p : IVec3) (d x y z : ℕ) → mag (p .x) < 2 ^ 31 → mag (p .y) < 2 ^ 31 → mag (p .z) < 2 ^ 31
-    → x ≡ coordOf (back (p .x)) → y ≡ coordOf (back (p .y)) → z ≡ coordOf (back (p .z)) → cell d x y z ≡ toCell p d
+    → x ≡ coordOf (back (p .x)) → y ≡ coordOf (back (p .y)) → z ≡ coordOf (back (p .z)) → cellFrom d x y z ≡ toCell p d
 cell-is p d x y z hx hy hz ex ey ez =
     let i = back-is (p .x) (record { sfits = hx }) in
     let j = back-is (p .y) (record { sfits = hy }) in

@@ -65,11 +65,11 @@ coordOf (pos n) = n
 coordOf (negsuc n) = 2 ^ 32 - 1
 
 -- The cell (x, y, z) of the cube of depth d, and the one at a position.
-abbrev pub cell : ℕ → ℕ → ℕ → ℕ → Cell
-cell d x y z = record { x = x; y = y; z = z; depth = d }
+abbrev pub cellFrom : ℕ → ℕ → ℕ → ℕ → Cell
+cellFrom d x y z = record { x = x; y = y; z = z; depth = d }
 
 abbrev pub toCell : IVec3 → ℕ → Cell
-toCell p d = cell d (coordOf (p .x)) (coordOf (p .y)) (coordOf (p .z))
+toCell p d = cellFrom d (coordOf (p .x)) (coordOf (p .y)) (coordOf (p .z))
 
 -- the lowest number that applies
 unfoldable pub childNo : IVec3 → ℕ → ℕ → ℕ

@@ -21,7 +21,7 @@ use Rattle.arena.specs.Node.{LeafNode, valueFor}
 use Rattle.arena.specs.Tables.{Tables, cap, W, WellFormed}
 use Rattle.arena.proofs.Leaves.{leaf-well}
 use Rattle.arena.proofs.Rows.{empties-at}
-use Rattle.ledger.specs.Fates.{Lives, Has}
+use Rattle.ledger.specs.Fates.{Lives, HasContent}
 use Rattle.ledger.proofs.Contents.{leaf-interned, branch-interned}
 use Rattle.ledger.proofs.Found.{kid-word, lives-slot}
 use Rattle.read_cell.proofs.Meaning.{wf-made}
@@ -90,7 +90,7 @@ none-value : (U : Words) → valueFor cubeKids U empties ≡ 0
 unfolding valueFor empties sumTo valueAt
 none-value U = refl
 
-module _ (u : Tables) (w : WellFormed cubeKids deepest u) (id v : ℕ) (ks : List ℕ) (k : Has u id ks v) where
+module _ (u : Tables) (w : WellFormed cubeKids deepest u) (id v : ℕ) (ks : List ℕ) (k : HasContent u id ks v) where
   pub value-is : valueAt (W u) id ≡ v
   unfolding valueAt
   value-is = rw (ne-eqb id 0 (live-nonzero (k .live))) (k .worth)

@@ -33,7 +33,7 @@ use Rattle.calls.proofs.Roots.{kept-there, kept-look}
 use Rattle.edit.specs.Edit.{editNo}
 use Rattle.edit.specs.Promises.{then, gives}
 use Rattle.edit.proofs.Edits.{edit-right}
-use Rattle.promises.specs.Promises.{Cube, sameCell, changed, onto, scaled, Within, There}
+use Rattle.promises.specs.Promises.{Cube, sameAt, changed, onto, scaled, Within, There}
 
 pub record Shows (d : ℕ) (t : Tables) (a : ℕ) (F : Cube d) : Type 0 where
   pub well : WellFormed cubeKids deepest t
@@ -49,14 +49,14 @@ empty-shows d t w = record {
   cells = λ c. look-flat (W t) (way c) 0 (inl refl) ∙ value-empty (W t) 0 refl;
 }
 
-pub same-spot : {d : ℕ} (s c : At d) → sameCell s c ≡ true → (s .x ≡ c .x) × (s .y ≡ c .y) × (s .z ≡ c .z)
-unfolding sameCell
+pub same-spot : {d : ℕ} (s c : At d) → sameAt s c ≡ true → (s .x ≡ c .x) × (s .y ≡ c .y) × (s .z ≡ c .z)
+unfolding sameAt
 same-spot s c e =
     let a = both (eqb (s .x) (c .x)) (pick (eqb (s .y) (c .y)) (eqb (s .z) (c .z)) false) e in
     let b = both (eqb (s .y) (c .y)) (eqb (s .z) (c .z)) (a .1) in
     (eqb-true (s .x) (c .x) (a .0), eqb-true (s .y) (c .y) (b .0), eqb-true (s .z) (c .z) (b .1))
 
-same-yes : {d : ℕ} (s c : At d) → sameCell s c ≡ true → way s ≡ way c
+same-yes : {d : ℕ} (s c : At d) → sameAt s c ≡ true → way s ≡ way c
 same-yes s c e =
     let r = same-spot s c e in
     let x = r .0 in
@@ -64,19 +64,19 @@ same-yes s c e =
     let z = r .2 in
     cc
 
-same-no : {d : ℕ} (s c : At d) → sameCell s c ≡ false → way s ≢ way c
-unfolding sameCell
+same-no : {d : ℕ} (s c : At d) → sameAt s c ≡ false → way s ≢ way c
+unfolding sameAt
 same-no {d} s c e k =
     let r = cube-one d (s .in-x) (s .in-y) (s .in-z) (c .in-x) (c .in-y) (c .in-z) k in
     true≢false (sym (rw (eq-eqb (s .x) (c .x) (r .0), eq-eqb (s .y) (c .y) (r .1), eq-eqb (s .z) (c .z) (r .2))) ∙ e)
 
 pub changed-here : {d : ℕ} (F : Cube d) (c : At d) (v : ℕ) → changed F c v c ≡ v
-unfolding changed sameCell
+unfolding changed sameAt
 changed-here F c v = rw (eq-eqb (c .x) (c .x) refl, eq-eqb (c .y) (c .y) refl, eq-eqb (c .z) (c .z) refl)
 
 pub changed-elsewhere : {d : ℕ} (F : Cube d) (c : At d) (v : ℕ) (s : At d) → ¬ ((s .x ≡ c .x) × (s .y ≡ c .y) × (s .z ≡ c .z)) → changed F c v s ≡ F s
 unfolding changed
-changed-elsewhere F c v s n = split (sameCell s c) (λ q. absurd (n (same-spot s c q))) (λ q. rw q)
+changed-elsewhere F c v s n = split (sameAt s c) (λ q. absurd (n (same-spot s c q))) (λ q. rw q)
 
 pub edit-shows : (d : ℕ) (t : Tables) (a : ℕ) (F : Cube d) (c : At d) (v : ℕ) → v ≤ largestValue → editNo t a d (spot c) v ≡ 0 → Shows d t a F
     → Shows d (then t a c v) (gives t a c v) (changed F c v)
@@ -88,7 +88,7 @@ edit-shows d t a F c v h ok s =
       well = r .well;
       there = subst (λ (k : ℕ). LiveOr0 k (W (then t a c v)) (gives t a c v)) (sym (r .size)) (e .there);
       low = e .low;
-      cells = λ i. split (sameCell i c)
+      cells = λ i. split (sameAt i c)
           (λ q. rw q (ap (λ (l : List ℕ). look (W (then t a c v)) l (gives t a c v)) (same-yes i c q) ∙ e .changed))
           (λ q. rw q (e .others (way i) (cube-cell d (i .x) (i .y) (i .z)) (same-no i c q) ∙ s .cells i));
     }

@@ -105,12 +105,12 @@ abbrev pub Cube : ℕ → Type 0
 Cube d = At d → ℕ
 
 -- the same cell
-unfoldable pub sameCell : {d : ℕ} → At d → At d → Bool
-sameCell c s = pick (eqb (c .x) (s .x)) (pick (eqb (c .y) (s .y)) (eqb (c .z) (s .z)) false) false
+unfoldable pub sameAt : {d : ℕ} → At d → At d → Bool
+sameAt c s = pick (eqb (c .x) (s .x)) (pick (eqb (c .y) (s .y)) (eqb (c .z) (s .z)) false) false
 
 -- the cube with one cell changed
 unfoldable pub changed : {d : ℕ} → Cube d → At d → ℕ → Cube d
-changed F c v s = pick (sameCell s c) v (F s)
+changed F c v s = pick (sameAt s c) v (F s)
 
 -- ## A cube at another depth
 

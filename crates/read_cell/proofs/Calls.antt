@@ -18,7 +18,7 @@ use Rattle.nodes.proofs.Access.{word-fact}
 use Rattle.nodes.proofs.Sums.{cases}
 use Rattle.paths.specs.declared.Cell.{Cell}
 use Rattle.paths.specs.declared.IVec3.{IVec3}
-use Rattle.paths.specs.Paths.{coordOf, inside, whole, cell, toCell}
+use Rattle.paths.specs.Paths.{coordOf, inside, whole, cellFrom, toCell}
 use Rattle.nodes.specs.Values.{valueAt}
 use Rattle.tree.specs.Cells.{pathTo}
 use Rattle.arena.specs.declared.Arena.{Arena}
@@ -26,7 +26,7 @@ use Rattle.arena.specs.Tables.{tables}
 use Rattle.arena.specs.Calls.{fits, liveOf, liveOrEmpty}
 use Rattle.read_cell.specs.declared.End.{End}
 use Rattle.read_cell.specs.declared.Looked.{Looked}
-use Rattle.read_cell.specs.Reading.{descent, endOf, cellOf}
+use Rattle.read_cell.specs.Reading.{descent, endOf, readAt}
 use Rattle.read_cell.specs.Calls.{lookNo, looked, lookOf}
 use Rattle.read_cell.specs.Models.{val, within, lookNoAt, lookAt}
 use Rattle.read_cell.proofs.Ends.{look-descent, end-kids, val-facts}
@@ -126,7 +126,7 @@ module _ (a : Arena) (ks fs es : List ℕ) (id : ℕ) where
       let four : ℕ = pick (liveOrEmpty (a .capacity) (wordOf (nodes ks fs)) id) 0 4 in
       let l : c .depth ≤ 6 = ladder-deep (fits (tables a ks fs es)) (c .depth) (within c four) (sym e ∙ h) .0 in
       let q : t ≡ descent M 0 (pathTo c) id = et ∙ end-kids ks fs id c ∙ pick-yes _ _ _ (le-leb (c .depth) 6 l) in
-      let m : r ≡ cellOf M (c .depth) id (c .x) (c .y) (c .z) =
+      let m : r ≡ readAt M (c .depth) id (c .x) (c .y) (c .z) =
       er ∙ val-facts ks fs (t .id .0) ∙ ap (λ (i : End). valueAt M (i .id .0) % 2 ^ 16) q
       ∙ ap (λ (i : ℕ). i % 2 ^ 16) (sym (look-descent M 0 (pathTo c) id)) in
       rung-yes _ _ _ _ (eq-via k _ 0 e h) (λ i. looked 0 (m i))
@@ -150,7 +150,7 @@ module _ (a : Arena) (ks fs es : List ℕ) (id : ℕ) where
         let z = past-yes (inside d (p .z)) four 3 0 (omega arith) (y .1) in
         (x .0, y .0, z .0)
 
-    pub cell-same : lookNo (tables a ks fs es) id d p ≡ 0 → toCell p d ≡ cell d (whole (p .x)) (whole (p .y)) (whole (p .z))
+    pub cell-same : lookNo (tables a ks fs es) id d p ≡ 0 → toCell p d ≡ cellFrom d (whole (p .x)) (whole (p .y)) (whole (p .z))
     cell-same e =
         let i = look-inside e in
         rw (coord-is d (p .x) (i .0), coord-is d (p .y) (i .1), coord-is d (p .z) (i .2))

@@ -10,7 +10,7 @@ use lib.ListN.{length, getD}
 use lib.Seq.{ext-getD}
 use Rattle.nodes.specs.Words.{Words}
 use Rattle.nodes.proofs.Sums.{tabFrom-length, tab-at}
-use Rattle.read_cell.specs.Reading.{cellOf, cubeOf}
+use Rattle.read_cell.specs.Reading.{readAt, cubeOf}
 
 -- ---- where cell (x, y, z) stands: s cells a row, t rows a plane (t is s for a cube, 1 for a sheet)
 
@@ -87,12 +87,12 @@ module _ (W : Words) (d id : ℕ) where
   unfolding cubeOf
   cube-length = tabFrom-length (8 ^ d) 0 _
 
-  cell-as : {x y z x′ y′ z′ : ℕ} → x ≡ x′ → y ≡ y′ → z ≡ z′ → cellOf W d id x y z ≡ cellOf W d id x′ y′ z′
+  cell-as : {x y z x′ y′ z′ : ℕ} → x ≡ x′ → y ≡ y′ → z ≡ z′ → readAt W d id x y z ≡ readAt W d id x′ y′ z′
   cell-as {x} {y} {z} {x′} {y′} ex ey ez =
-      ap (λ (i : ℕ). cellOf W d id i y z) ex ∙ ap (λ (i : ℕ). cellOf W d id x′ i z) ey ∙ ap (λ (i : ℕ). cellOf W d id x′ y′ i) ez
+      ap (λ (i : ℕ). readAt W d id i y z) ex ∙ ap (λ (i : ℕ). readAt W d id x′ i z) ey ∙ ap (λ (i : ℕ). readAt W d id x′ y′ i) ez
 
   -- the cell (x, y, z) of expansion is what lookup reads there
-  pub cube-cell : (x y z : ℕ) → x < 2 ^ d → y < 2 ^ d → z < 2 ^ d → getD (cubeOf W d id) (y * 4 ^ d + z * 2 ^ d + x) 0 ≡ cellOf W d id x y z
+  pub cube-cell : (x y z : ℕ) → x < 2 ^ d → y < 2 ^ d → z < 2 ^ d → getD (cubeOf W d id) (y * 4 ^ d + z * 2 ^ d + x) 0 ≡ readAt W d id x y z
   unfolding cubeOf
   cube-cell x y z hx hy hz =
       let s = 2 ^ d in
@@ -105,7 +105,7 @@ module _ (W : Words) (d id : ℕ) where
 
   -- a list of the right length with those cells is the cube
   pub cube-one : (l : List ℕ) → length l ≡ 8 ^ d
-      → ((x y z : ℕ) → x < 2 ^ d → y < 2 ^ d → z < 2 ^ d → getD l (y * 4 ^ d + z * 2 ^ d + x) 0 ≡ cellOf W d id x y z)
+      → ((x y z : ℕ) → x < 2 ^ d → y < 2 ^ d → z < 2 ^ d → getD l (y * 4 ^ d + z * 2 ^ d + x) 0 ≡ readAt W d id x y z)
       → l ≡ cubeOf W d id
   cube-one l e h =
       ext-getD 0 l (cubeOf W d id) (e ∙ sym cube-length)

@@ -18,7 +18,7 @@ use Rattle.nodes.specs.Values.{valueAt}
 use Rattle.tree.proofs.CellLaws.{cube-cell}
 use Rattle.tree.proofs.Canon.{look-empty, look-leaf, look-branch, look-end, value-empty}
 use Rattle.read_cell.specs.declared.End.{End}
-use Rattle.read_cell.specs.Reading.{ended, descent, endOf}
+use Rattle.read_cell.specs.Reading.{endAt, descent, endOf}
 use Rattle.read_cell.specs.Models.{endsAt, val}
 
 pub ends-empty : (a : ℕ) → a ≡ 0 → endsAt a ≡ true
@@ -46,15 +46,15 @@ ends-high a h = sym (ends-leaf a h)
 -- ---- the clauses of descent
 
 module _ (W : Words) (k : ℕ) where
-  pub descent-end : (a : ℕ) → descent W k [] a ≡ ended a k
+  pub descent-end : (a : ℕ) → descent W k [] a ≡ endAt a k
   unfolding descent
   descent-end a = refl
 
-  pub descent-stop : (c : ℕ) (p : List ℕ) (a : ℕ) → endsAt a ≡ true → descent W k (c ∷ p) a ≡ ended a k
+  pub descent-stop : (c : ℕ) (p : List ℕ) (a : ℕ) → endsAt a ≡ true → descent W k (c ∷ p) a ≡ endAt a k
   unfolding descent
   descent-stop c p a e = go (kind a)
     where
-      go : (n : Kind a) → _≡_ {A = End} (elim n [ empty _ ↦ ended a k | leaf _ ↦ ended a k | branch _ ↦ descent W (k + 1) p (childOf W a c) ]) (ended a k)
+      go : (n : Kind a) → _≡_ {A = End} (elim n [ empty _ ↦ endAt a k | leaf _ ↦ endAt a k | branch _ ↦ descent W (k + 1) p (childOf W a c) ]) (endAt a k)
       go (empty h) = refl
       go (leaf h) = refl
       go (branch h) = let z : true ≡ false = cc (e, ends-not a h) in absurd (never z)
@@ -63,7 +63,7 @@ module _ (W : Words) (k : ℕ) where
   unfolding descent
   descent-on c p a e = go (kind a)
     where
-      go : (n : Kind a) → _≡_ {A = End} (elim n [ empty _ ↦ ended a k | leaf _ ↦ ended a k | branch _ ↦ descent W (k + 1) p (childOf W a c) ]) (descent W (k + 1) p (childOf W a c))
+      go : (n : Kind a) → _≡_ {A = End} (elim n [ empty _ ↦ endAt a k | leaf _ ↦ endAt a k | branch _ ↦ descent W (k + 1) p (childOf W a c) ]) (descent W (k + 1) p (childOf W a c))
       go (empty h) = let z : true ≡ false = cc (e, ends-empty a h) in absurd (never z)
       go (leaf h) = let z : true ≡ false = cc (e, ends-leaf a h) in absurd (never z)
       go (branch h) = refl
@@ -117,4 +117,4 @@ module _ (ks fs : List ℕ) where
 
   pub end-kids : (id : ℕ) (c : place.Cell) → endOf (kidOf ks) id c ≡ endOf (wordOf (nodes ks fs)) id c
   unfolding endOf
-  end-kids id c = ap (λ (e : End). pick (leb (c .depth) 6) e (ended invalid 0)) (descent-kids 0 id (cube-cell (c .depth) (c .x) (c .y) (c .z)))
+  end-kids id c = ap (λ (e : End). pick (leb (c .depth) 6) e (endAt invalid 0)) (descent-kids 0 id (cube-cell (c .depth) (c .x) (c .y) (c .z)))

@@ -19,7 +19,7 @@ use Rattle.tree.specs.Cells.{pathBy, cubePath}
 use Rattle.paths.specs.Paths.{octant}
 use Rattle.tree.proofs.Canon.{live, kid-lower, low-flat, flat-low, look-deeper}
 use Rattle.tree.proofs.CellLaws.{path-cong, cube-cell}
-use Rattle.read_cell.specs.Reading.{cellOf, descent}
+use Rattle.read_cell.specs.Reading.{readAt, descent}
 use Rattle.read_cell.proofs.Ends.{ends-empty, ends-leaf, ends-not, look-descent, descent-end, descent-stop, descent-on}
 
 -- ---- 16 bits are enough where every stored value has no more
@@ -28,7 +28,7 @@ value-small : (W : Words) → ((s : ℕ) → W s value < 2 ^ 16) → (a : ℕ) �
 unfolding valueAt
 value-small W h a = cases (ℕ-discrete a 0) (λ e. rw (eq-eqb a 0 e) (omega arith)) (λ e. rw (ne-eqb a 0 e) (h (slot a)))
 
-pub cell-whole : (W : Words) → ((s : ℕ) → W s value < 2 ^ 16) → (d id x y z : ℕ) → cellOf W d id x y z ≡ look W (cubePath d x y z) id
+pub cell-whole : (W : Words) → ((s : ℕ) → W s value < 2 ^ 16) → (d id x y z : ℕ) → readAt W d id x y z ≡ look W (cubePath d x y z) id
 cell-whole W h d id x y z =
     mod-eq-of-lt (rw (look-descent W 0 (cubePath d x y z) id) (value-small W h (descent W 0 (cubePath d x y z) id .id .0)))
 
@@ -80,7 +80,7 @@ module _ (cap : ℕ) (W : Words) (w : WellMade 8 cap W) where
 
   -- a greater depth shows the same cube in larger blocks: each cell as 2^e by 2^e by 2^e equal ones
   pub plain-deeper : (d e a x y z : ℕ) → LiveOr0 cap W a → heightAt W a ≤ d
-      → cellOf W (d + e) a x y z ≡ cellOf W d a (x / 2 ^ e) (y / 2 ^ e) (z / 2 ^ e)
+      → readAt W (d + e) a x y z ≡ readAt W d a (x / 2 ^ e) (y / 2 ^ e) (z / 2 ^ e)
   plain-deeper d e a x y z l h =
       let q : cubePath (d + e) x y z ≡ cubePath d (x / 2 ^ e) (y / 2 ^ e) (z / 2 ^ e) ++ cubePath e x y z =
       path-deeper (λ b. octant b x y z) d e

@@ -12,12 +12,12 @@ use Rattle.paths.specs.declared.Cell.{Cell}
 use Rattle.paths.specs.Paths.{octant}
 use Rattle.tree.specs.Cells.{pathBy, cubePath, pathTo}
 use Rattle.read_cell.specs.declared.End.{End}
-use Rattle.read_cell.specs.Reading.{ended, descent, endOf}
+use Rattle.read_cell.specs.Reading.{endAt, descent, endOf}
 use Rattle.read_cell.specs.Models.{endsAt, pathWord}
 use Rattle.read_cell.proofs.Ends.{descent-end, descent-stop, descent-on}
 use Rattle.read_cell.proofs.PathWord.{word-done, word-more, word-rest, word-first}
 
-stops : (W : Words) (k : ℕ) (p : List ℕ) (a : ℕ) → endsAt a ≡ true → descent W k p a ≡ ended a k
+stops : (W : Words) (k : ℕ) (p : List ℕ) (a : ℕ) → endsAt a ≡ true → descent W k p a ≡ endAt a k
 stops W k [] a e = descent-end W k a
 stops W k (c ∷ p) a e = descent-stop W k c p a e
 
@@ -32,7 +32,7 @@ module _ (W : Words) (c : Cell) (id : ℕ) where
   abbrev pub Walked : ℕ → ℕ → Type 0
   Walked level a = descent W 0 (pathTo c) id ≡ descent W level (last c (c .depth - level)) a
 
-  pub walk-none : 6 < c .depth → ended invalid 0 ≡ endOf W id c
+  pub walk-none : 6 < c .depth → endAt invalid 0 ≡ endOf W id c
   unfolding endOf
   walk-none h = rung-no _ _ _ _ (lt-leb (c .depth) 6 h) refl
 
@@ -40,8 +40,8 @@ module _ (W : Words) (c : Cell) (id : ℕ) where
   unfolding endOf
   walk-is e h k = rung-yes _ _ _ e (le-leb (c .depth) 6 h) k
 
-  walk-stop : (level a : ℕ) (t : Bool) → c .depth ≤ 6 → t ≡ endsAt a → t ≡ true → Walked level a → ended a level ≡ endOf W id c
-  walk-stop level a t l e u k = walk-is (ended a level) l (sym (k ∙ stops W level (last c (c .depth - level)) a (sym e ∙ u)))
+  walk-stop : (level a : ℕ) (t : Bool) → c .depth ≤ 6 → t ≡ endsAt a → t ≡ true → Walked level a → endAt a level ≡ endOf W id c
+  walk-stop level a t l e u k = walk-is (endAt a level) l (sym (k ∙ stops W level (last c (c .depth - level)) a (sym e ∙ u)))
 
   pub walk-start : Walked 0 id
   walk-start = let e : c .depth ≡ c .depth - 0 = omega arith in ap (λ (n : ℕ). descent W 0 (last c n) id) e
@@ -49,16 +49,16 @@ module _ (W : Words) (c : Cell) (id : ℕ) where
   pub walk-word : (w : ℕ) → w ≡ pathWord (c .depth) c → w ≡ pathWord (c .depth - 0) c
   walk-word w e = let q : c .depth ≡ c .depth - 0 = omega arith in e ∙ ap (λ (n : ℕ). pathWord n c) q
 
-  pub walk-first : (t : Bool) → c .depth ≤ 6 → t ≡ endsAt id → t ≡ true → ended id 0 ≡ endOf W id c
+  pub walk-first : (t : Bool) → c .depth ≤ 6 → t ≡ endsAt id → t ≡ true → endAt id 0 ≡ endOf W id c
   walk-first t l e u = walk-stop 0 id t l e u walk-start
 
   module _ (level a w : ℕ) (e : w ≡ pathWord (c .depth - level) c) (k : Walked level a) where
-    pub walk-end : level ≤ c .depth → c .depth ≤ 6 → w ≤ 1 → ended a (c .depth) ≡ endOf W id c
+    pub walk-end : level ≤ c .depth → c .depth ≤ 6 → w ≤ 1 → endAt a (c .depth) ≡ endOf W id c
     unfolding pathBy
     walk-end b l h =
         let q : c .depth - level ≡ 0 = word-done c (c .depth - level) (subst (λ (i : ℕ). i ≤ 1) e h) in
         let m : c .depth ≡ level = omega arith in
-        walk-is (ended a (c .depth)) l (ap (ended a) m ∙ sym (k ∙ ap (λ (i : ℕ). descent W level (last c i) a) q ∙ descent-end W level a))
+        walk-is (endAt a (c .depth)) l (ap (endAt a) m ∙ sym (k ∙ ap (λ (i : ℕ). descent W level (last c i) a) q ∙ descent-end W level a))
 
     module _ (h : 1 < w) where
       more : 0 < c .depth - level
@@ -87,5 +87,5 @@ module _ (W : Words) (c : Cell) (id : ℕ) where
             ∙ descent-on W level (octant n (c .x) (c .y) (c .z)) (last c n) a f
             ∙ ap (descent W (level + 1) (last c n)) (sym m)
 
-        pub walk-last : (t : Bool) → c .depth ≤ 6 → t ≡ endsAt b → t ≡ true → ended b (level + 1) ≡ endOf W id c
+        pub walk-last : (t : Bool) → c .depth ≤ 6 → t ≡ endsAt b → t ≡ true → endAt b (level + 1) ≡ endOf W id c
         walk-last t l i u = walk-stop (level + 1) b t l i u walk-on

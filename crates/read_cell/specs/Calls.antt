@@ -10,7 +10,7 @@ use Rattle.paths.specs.Paths.{inside, whole}
 use Rattle.arena.specs.Tables.{Tables, cap, W}
 use Rattle.arena.specs.Calls.{fits, liveOrEmpty}
 use Rattle.read_cell.specs.declared.Looked.{Looked}
-use Rattle.read_cell.specs.Reading.{cellOf, cubeOf}
+use Rattle.read_cell.specs.Reading.{readAt, cubeOf}
 
 -- ## Lookup
 
@@ -27,7 +27,7 @@ looked k u = record { no = k; value = u }
 -- the value at the cell p of depth d, or the refusal with value 0
 unfoldable pub lookOf : Tables → ℕ → ℕ → IVec3 → Looked
 lookOf t id d p =
-    pick (eqb (lookNo t id d p) 0) (looked 0 (cellOf (W t) d id (whole (p .x)) (whole (p .y)) (whole (p .z))))
+    pick (eqb (lookNo t id d p) 0) (looked 0 (readAt (W t) d id (whole (p .x)) (whole (p .y)) (whole (p .z))))
     (looked (lookNo t id d p) 0)
 
 -- ## Expansion

@@ -12,7 +12,7 @@ use Rattle.paths.specs.Paths.{octant}
 use Rattle.arena.specs.Tables.{Tables, cap, W}
 use Rattle.arena.specs.Calls.{fits, liveOrEmpty}
 use Rattle.read_cell.specs.declared.Looked.{Looked}
-use Rattle.read_cell.specs.Reading.{cellOf}
+use Rattle.read_cell.specs.Reading.{readAt}
 use Rattle.read_cell.specs.Calls.{looked}
 
 -- EMPTY or a leaf
@@ -46,4 +46,4 @@ lookNoAt t id c = pick (fits t) (pick (leb (c .depth) deepest) (within c (pick (
 
 unfoldable pub lookAt : Tables → ℕ → Cell → Looked
 lookAt t id c =
-    pick (eqb (lookNoAt t id c) 0) (looked 0 (cellOf (W t) (c .depth) id (c .x) (c .y) (c .z))) (looked (lookNoAt t id c) 0)
+    pick (eqb (lookNoAt t id c) 0) (looked 0 (readAt (W t) (c .depth) id (c .x) (c .y) (c .z))) (looked (lookNoAt t id c) 0)

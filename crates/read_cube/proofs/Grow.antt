@@ -16,7 +16,7 @@ use Rattle.nodes.specs.Values.{valueAt}
 use Rattle.tree.specs.Cells.{pathBy, cubePath}
 use Rattle.paths.specs.Paths.{octant}
 use Rattle.tree.proofs.Canon.{look-empty, look-leaf, look-branch, look-end}
-use Rattle.read_cell.specs.Reading.{cellOf}
+use Rattle.read_cell.specs.Reading.{readAt}
 use Rattle.read_cell.specs.Models.{val, endsAt}
 use Rattle.read_cell.proofs.Ends.{ends-leaf, ends-not}
 use Rattle.read_cell.proofs.Cube.{addr}
@@ -105,12 +105,12 @@ module _ (W : Words) (n s t : ℕ) where
   Grows k =
       (xb yb zb a at : ℕ) → suc xb * 2 ^ k ≤ s → suc yb * 2 ^ k ≤ s → Deep n t k zb
       → at ≡ addr s t (xb * 2 ^ k) (yb * 2 ^ k) (zb * 2 ^ k)
-      → Paints s t (At k xb yb zb) (cellOf W k a) (grow W n s (t * s) k (2 ^ k) a at)
+      → Paints s t (At k xb yb zb) (readAt W k a) (grow W n s (t * s) k (2 ^ k) a at)
 
   grow-zero : Grows 0
   unfolding grow val pathBy
   grow-zero xb yb zb a at hx hy hz e =
-      recast s t (One xb yb zb) (At 0 xb yb zb) (all (val W a)) (cellOf W 0 a) (λ l. set l at (val W a))
+      recast s t (One xb yb zb) (At 0 xb yb zb) (all (val W a)) (readAt W 0 a) (λ l. set l at (val W a))
       (λ x y z _ _ _ r. (omega (arith, r .0), omega (arith, r .1), omega (arith, r .2)))
       (λ x y z _ _ _ r. (omega (arith, r .0), omega (arith, r .1), omega (arith, r .2)))
       (λ x y z _ _ _ r. rw (look-end W a))
@@ -120,7 +120,7 @@ module _ (W : Words) (n s t : ℕ) where
   end-paints : (k xb yb zb a at : ℕ) → suc xb * 2 ^ suc k ≤ s → suc yb * 2 ^ suc k ≤ s → Deep n t (suc k) zb
       → at ≡ addr s t (xb * 2 ^ suc k) (yb * 2 ^ suc k) (zb * 2 ^ suc k)
       → ((x y z : ℕ) → look W (cubePath (suc k) x y z) a ≡ valueAt W a)
-      → Paints s t (At (suc k) xb yb zb) (cellOf W (suc k) a) (fillBlock s (t * s) at (2 ^ suc k) (thick n (2 ^ suc k)) (val W a))
+      → Paints s t (At (suc k) xb yb zb) (readAt W (suc k) a) (fillBlock s (t * s) at (2 ^ suc k) (thick n (2 ^ suc k)) (val W a))
   unfolding val
   end-paints k xb yb zb a at hx hy hz e same = go hz
     where
@@ -132,16 +132,16 @@ module _ (W : Words) (n s t : ℕ) where
 
       -- the rows of the block in each plane, w of them from zb * p, are those that the block has of the cube or the sheet
       by : (w : ℕ) → zb * p + w ≤ t → ((z : ℕ) → z < t → z / p ≡ zb → Within (zb * p) w z) → ((z : ℕ) → z < t → Within (zb * p) w z → z / p ≡ zb) → thick n p ≡ w
-          → Paints s t (At (suc k) xb yb zb) (cellOf W (suc k) a) (fillBlock s (t * s) at p (thick n p) (val W a))
+          → Paints s t (At (suc k) xb yb zb) (readAt W (suc k) a) (fillBlock s (t * s) at p (thick n p) (val W a))
       by w hw into out ew =
           rw ew
-          (recast s t (Block p w (xb * p) (yb * p) (zb * p)) (At (suc k) xb yb zb) (all (val W a)) (cellOf W (suc k) a) (fillBlock s (t * s) at p w (val W a))
+          (recast s t (Block p w (xb * p) (yb * p) (zb * p)) (At (suc k) xb yb zb) (all (val W a)) (readAt W (suc k) a) (fillBlock s (t * s) at p w (val W a))
           (λ x y z _ _ lz r. (in-block p xb x pos (r .0), in-block p yb y pos (r .1), into z lz (r .2)))
           (λ x y z _ _ lz r. (block-in p xb x pos (r .0), block-in p yb y pos (r .1), out z lz (r .2)))
           (λ x y z _ _ _ r. rw (same x y z))
           (block-paints s t p w (xb * p) (yb * p) (zb * p) at (val W a) (omega arith) (omega arith) hw e))
 
-      go : Deep n t (suc k) zb → Paints s t (At (suc k) xb yb zb) (cellOf W (suc k) a) (fillBlock s (t * s) at p (thick n p) (val W a))
+      go : Deep n t (suc k) zb → Paints s t (At (suc k) xb yb zb) (readAt W (suc k) a) (fillBlock s (t * s) at p (thick n p) (val W a))
       go (inl h) = by p (omega (arith, h .1)) (λ z _ q. in-block p zb z pos q) (λ z _ q. block-in p zb z pos q) (thick-cube n p (h .0))
       go (inr h) =
           let o : zb * p ≡ 0 = ap (λ (i : ℕ). i * p) (h .2) ∙ zero-mul p in
@@ -151,14 +151,14 @@ module _ (W : Words) (n s t : ℕ) where
   -- part c of a branch
   oct-paints : (k : ℕ) → Grows k → (xb yb zb a at c : ℕ) → suc xb * 2 ^ suc k ≤ s → suc yb * 2 ^ suc k ≤ s → Deep n t (suc k) zb
       → at ≡ addr s t (xb * 2 ^ suc k) (yb * 2 ^ suc k) (zb * 2 ^ suc k) → Branch a → c < n
-      → Paints s t (Oct k xb yb zb c) (cellOf W (suc k) a) (grow W n s (t * s) k (2 ^ suc k / 2) (childOf W a c) (at + offset s (t * s) (2 ^ suc k / 2) c))
+      → Paints s t (Oct k xb yb zb c) (readAt W (suc k) a) (grow W n s (t * s) k (2 ^ suc k / 2) (childOf W a c) (at + offset s (t * s) (2 ^ suc k / 2) c))
   unfolding offset pathBy octant
   oct-paints k ih xb yb zb a at c hx hy hz e b hc =
       let kx : suc xb * (2 * 2 ^ k) ≤ s = rw (pow-succ' 2 k) at hx in
       let ky : suc yb * (2 * 2 ^ k) ≤ s = rw (pow-succ' 2 k) at hy in
       let ke : at ≡ addr s t (xb * (2 * 2 ^ k)) (yb * (2 * 2 ^ k)) (zb * (2 * 2 ^ k)) = rw (pow-succ' 2 k) at e in
       rw (half k)
-      (recast s t (Oct k xb yb zb c) (Oct k xb yb zb c) (cellOf W k (childOf W a c)) (cellOf W (suc k) a) _
+      (recast s t (Oct k xb yb zb c) (Oct k xb yb zb c) (readAt W k (childOf W a c)) (readAt W (suc k) a) _
       (λ x y z _ _ _ r. r)
       (λ x y z _ _ _ r. r)
       (λ x y z _ _ _ r. same x y z (r .0) (r .1) (r .2))
@@ -168,7 +168,7 @@ module _ (W : Words) (n s t : ℕ) where
       (deep-part n t k zb c hc hz)
       (corner s t (2 ^ k) xb yb zb (c % 2) (c / 2 % 2) (c / 4) at ke)))
     where
-      same : (x y z : ℕ) → x / 2 ^ k ≡ 2 * xb + c % 2 → y / 2 ^ k ≡ 2 * yb + c / 2 % 2 → z / 2 ^ k ≡ 2 * zb + c / 4 → cellOf W k (childOf W a c) x y z ≡ cellOf W (suc k) a x y z
+      same : (x y z : ℕ) → x / 2 ^ k ≡ 2 * xb + c % 2 → y / 2 ^ k ≡ 2 * yb + c / 2 % 2 → z / 2 ^ k ≡ 2 * zb + c / 4 → readAt W k (childOf W a c) x y z ≡ readAt W (suc k) a x y z
       same x y z ex ey ez =
           let o : octant k x y z ≡ c = oct-back (x / 2 ^ k) (y / 2 ^ k) (z / 2 ^ k) xb yb zb c (omega (arith, deep-low n t (suc k) zb hz)) ex ey ez in
           let q : look W (octant k x y z ∷ cubePath k x y z) a ≡ look W (cubePath k x y z) (childOf W a c) = rw (look-branch W (octant k x y z) (cubePath k x y z) a b, o) in
@@ -177,14 +177,14 @@ module _ (W : Words) (n s t : ℕ) where
   -- a branch, by its n parts
   branch-paints : (k : ℕ) → Grows k → (xb yb zb a at : ℕ) → suc xb * 2 ^ suc k ≤ s → suc yb * 2 ^ suc k ≤ s → Deep n t (suc k) zb
       → at ≡ addr s t (xb * 2 ^ suc k) (yb * 2 ^ suc k) (zb * 2 ^ suc k) → Branch a
-      → Paints s t (At (suc k) xb yb zb) (cellOf W (suc k) a) (times (λ c m. grow W n s (t * s) k (2 ^ suc k / 2) (childOf W a c) (at + offset s (t * s) (2 ^ suc k / 2) c) m) n)
+      → Paints s t (At (suc k) xb yb zb) (readAt W (suc k) a) (times (λ c m. grow W n s (t * s) k (2 ^ suc k / 2) (childOf W a c) (at + offset s (t * s) (2 ^ suc k / 2) c) m) n)
   unfolding octant
   branch-paints k ih xb yb zb a at hx hy hz e b =
-      recast s t (Some n (Oct k xb yb zb)) (At (suc k) xb yb zb) (cellOf W (suc k) a) (cellOf W (suc k) a) _
+      recast s t (Some n (Oct k xb yb zb)) (At (suc k) xb yb zb) (readAt W (suc k) a) (readAt W (suc k) a) _
       (λ x y z _ _ lz r. into x y z lz (sym (up k x) ∙ r .0) (sym (up k y) ∙ r .1) (sym (up k z) ∙ r .2))
       (λ x y z _ _ _ r. (up k x ∙ omega (arith, r .2 .0), up k y ∙ omega (arith, r .2 .1), up k z ∙ omega (arith, r .1, r .2 .2, deep-low n t (suc k) zb hz)))
       (λ x y z _ _ _ r. refl)
-      (times-paints s t n (Oct k xb yb zb) (cellOf W (suc k) a) _
+      (times-paints s t n (Oct k xb yb zb) (readAt W (suc k) a) _
       (λ c x y z. three? (ℕ-discrete (x / 2 ^ k) (2 * xb + c % 2)) (ℕ-discrete (y / 2 ^ k) (2 * yb + c / 2 % 2)) (ℕ-discrete (z / 2 ^ k) (2 * zb + c / 4)))
       apart
       (λ c hc. oct-paints k ih xb yb zb a at c hx hy hz e b hc))
@@ -217,7 +217,7 @@ module _ (W : Words) (n s t : ℕ) where
   unfolding pathBy
   grow-suc k ih xb yb zb a at hx hy hz e = go (kind a)
     where
-      none : a ≡ 0 → Paints s t (At (suc k) xb yb zb) (cellOf W (suc k) a) (λ l. l)
+      none : a ≡ 0 → Paints s t (At (suc k) xb yb zb) (readAt W (suc k) a) (λ l. l)
       none h =
           record {
             size = λ l. refl;
@@ -225,7 +225,7 @@ module _ (W : Words) (n s t : ℕ) where
             miss = λ l _ x y z _ _ _ _. refl;
           }
 
-      go : Kind a → Paints s t (At (suc k) xb yb zb) (cellOf W (suc k) a) (grow W n s (t * s) (suc k) (2 ^ suc k) a at)
+      go : Kind a → Paints s t (At (suc k) xb yb zb) (readAt W (suc k) a) (grow W n s (t * s) (suc k) (2 ^ suc k) a at)
       go (empty h) = alike s t _ _ _ _ (λ l. grow-none k (2 ^ suc k) a at l h) (none h)
       go (leaf h) = alike s t _ _ _ _ (λ l. grow-end k (2 ^ suc k) a at l (leaf-some a h) (ends-leaf a h)) (end-paints k xb yb zb a at hx hy hz e (λ x y z. look-leaf W _ _ a h))
       go (branch h) = alike s t _ _ _ _ (λ l. grow-on k (2 ^ suc k) a at l (h .0) (ends-not a h)) (branch-paints k ih xb yb zb a at hx hy hz e h)

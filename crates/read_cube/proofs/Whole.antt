@@ -15,7 +15,7 @@ use Rattle.nodes.specs.Values.{valueAt}
 use Rattle.tree.specs.Tree.{Leaf, look}
 use Rattle.tree.specs.Cells.{cubePath}
 use Rattle.tree.proofs.Canon.{look-leaf, look-end}
-use Rattle.read_cell.specs.Reading.{cellOf, cubeOf}
+use Rattle.read_cell.specs.Reading.{readAt, cubeOf}
 use Rattle.read_cell.specs.Models.{val}
 use Rattle.read_cell.proofs.Cube.{addr, addr-lt, pow-four, pow-eight, cube-one}
 use Rattle.read_cube.specs.Models.{times, fillRow, grow, cubeFrom}
@@ -63,7 +63,7 @@ module _ (W : Words) (d id : ℕ) where
   leaf-look [] h = look-end W id
   leaf-look (c ∷ p) h = look-leaf W c p id h
 
-  leaf-cell : (x y z : ℕ) → Leaf id → val W id ≡ cellOf W d id x y z
+  leaf-cell : (x y z : ℕ) → Leaf id → val W id ≡ readAt W d id x y z
   unfolding val
   leaf-cell x y z h = ap (λ (i : ℕ). i % 2 ^ 16) (sym (leaf-look (cubePath d x y z) h))
 

@@ -33,7 +33,7 @@ use Rattle.edit.proofs.Edits.{edit-number, posed}
 use Rattle.edit.proofs.Theorems.{past-no}
 use Rattle.edit.proofs.Lacking.{missing-some, eleven-right, result-there, result-one, result-dead}
 use Rattle.refusals.specs.Why.{Beyond, LookWhy, unsizedLook, deepLook, beyondLook, deadLook, EditWhy, unsizedEdit, deepEdit, beyondEdit, deadEdit, tallEdit, fullEdit, crowdedEdit}
-use Rattle.refusals.specs.Rungs.{within, lookRungs, tenOf, elevenOf, editRungs}
+use Rattle.refusals.specs.Rungs.{allInside, lookRungs, tenOf, elevenOf, editRungs}
 use Rattle.refusals.proofs.Reading.{above, beyond, look-ladder, look-no-refusals}
 
 -- ---- the number as a ladder
@@ -174,7 +174,7 @@ module _ (t : Tables) (root d : ℕ) (p : IVec3) (v : ℕ) where
           λ a. (
             via (not (leb d deepest)) (above d deepest) deepEdit why-2,
             λ b. (
-              via (not (within d p)) (beyond d p) beyondEdit why-3,
+              via (not (allInside d p)) (beyond d p) beyondEdit why-3,
               λ c. (
                 via (not (liveOrEmpty (cap t) (W t) root)) (dead t root) (λ n. deadEdit (n .0) (n .1)) why-4,
                 λ e. (

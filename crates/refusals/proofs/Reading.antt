@@ -26,7 +26,7 @@ use Rattle.ledger.proofs.Exact.{exactly, exactly-as}
 use Rattle.ledger.proofs.Refusals.{unsized, dead}
 use Rattle.read_cell.specs.Calls.{lookNo, lookOf, expandNo, expandOf}
 use Rattle.refusals.specs.Why.{Outside, Beyond, at-x, at-y, at-z, PackWhy, late, DecodeWhy, long, ChildWhy, deepChild, level, beyondChild, LookWhy, unsizedLook, deepLook, beyondLook, deadLook, ExpandWhy, unsizedExpand, deepExpand, deadExpand, buffer}
-use Rattle.refusals.specs.Rungs.{within, leveled, packRungs, decodeRungs, childRungs, lookRungs, expandRungs}
+use Rattle.refusals.specs.Rungs.{allInside, leveled, packRungs, decodeRungs, childRungs, lookRungs, expandRungs}
 
 -- ---- what each test decides
 
@@ -42,9 +42,9 @@ unfolding inside
 outside d (pos n) = fails (ltb n (2 ^ d)) (ltb-false n (2 ^ d)) (le-ltb n (2 ^ d))
 outside d (negsuc n) = fails false (λ e. tt) (λ e. refl)
 
-pub beyond : (d : ℕ) (p : IVec3) → Decides (not (within d p)) (Beyond d p)
-unfolding within
-beyond d p = fails (within d p) to from
+pub beyond : (d : ℕ) (p : IVec3) → Decides (not (allInside d p)) (Beyond d p)
+unfolding allInside
+beyond d p = fails (allInside d p) to from
   where
     out : (x : ℤ) → inside d x ≡ false → Outside d x
     out x e = outside d x .0 (ap not e)
@@ -52,7 +52,7 @@ beyond d p = fails (within d p) to from
     off : (x : ℤ) → Outside d x → inside d x ≡ false
     off x o = not-true (inside d x) (outside d x .1 o)
 
-    to : within d p ≡ false → Beyond d p
+    to : allInside d p ≡ false → Beyond d p
     to e = split (inside d (p .x))
         (λ a. split (inside d (p .y))
         (λ b. at-z (out (p .z) (rw (a, b) at e)))
@@ -63,7 +63,7 @@ beyond d p = fails (within d p) to from
     no true = refl
     no false = refl
 
-    from : Beyond d p → within d p ≡ false
+    from : Beyond d p → allInside d p ≡ false
     from (at-x o) = rw (off (p .x) o)
     from (at-y o) = rw (off (p .y) o) (no (inside d (p .x)))
     from (at-z o) = rw (off (p .z) o) (split (inside d (p .x)) (λ e. rw e (no (inside d (p .y)))) (λ e. rw e))
@@ -83,7 +83,7 @@ none = refl
 
 module _ (p : IVec3) (k d : ℕ) where
   child-ladder : childNo p k d ≡ ladder (childRungs p k d)
-  unfolding childNo ladder within leveled
+  unfolding childNo ladder allInside leveled
   child-ladder = split (leb d deepest)
       (λ a. split (ltb k d)
       (λ b. rw (a, b) (within-rung (inside d (p .x)) (inside d (p .y)) (inside d (p .z)) 0 [] refl))
@@ -114,7 +114,7 @@ module _ (p : IVec3) (k d : ℕ) where
 
   child-no-refusals : Exactly (ChildWhy p k d) (childNo p k d)
   child-no-refusals = exactly (ChildWhy p k d) (childRungs p k d) (childNo p k d) child-ladder (omega arith) child-listed
-      (childless, λ _. (via (not (within d p)) (beyond d p) beyondChild out-3, λ _. tt))
+      (childless, λ _. (via (not (allInside d p)) (beyond d p) beyondChild out-3, λ _. tt))
 
   child-number : childIndexOf p k d .no ≡ childNo p k d
   unfolding childIndexOf
@@ -164,7 +164,7 @@ module _ (code : ℕ) where
 
 module _ (t : Tables) (id d : ℕ) (p : IVec3) where
   pub look-ladder : lookNo t id d p ≡ ladder (lookRungs t id d p)
-  unfolding lookNo within
+  unfolding lookNo allInside
   look-ladder = rung-not (fits t) _ 1 _ (rung-not (leb d deepest) _ 2 _ (within-rung (inside d (p .x)) (inside d (p .y)) (inside d (p .z)) _ _
       (rung-not (liveOrEmpty (cap t) (W t) id) 0 4 [] none)))
 
@@ -193,7 +193,7 @@ module _ (t : Tables) (id d : ℕ) (p : IVec3) where
         λ _. (
           via (not (leb d deepest)) (above d deepest) deepLook look-2,
           λ _. (
-            via (not (within d p)) (beyond d p) beyondLook look-3,
+            via (not (allInside d p)) (beyond d p) beyondLook look-3,
             λ _. (via (not (liveOrEmpty (cap t) (W t) id)) (dead t id) (λ n. deadLook (n .0) (n .1)) look-4, λ _. tt),
           ),
         ),

@@ -16,8 +16,8 @@ use Rattle.arena.specs.Calls.{fits, liveOrEmpty, fullOf, freeSlots}
 use Rattle.edit.specs.Edit.{resultOf, cellAt}
 
 -- all three coordinates are inside
-unfoldable pub within : ℕ → IVec3 → Bool
-within d p = pick (inside d (p .x)) (pick (inside d (p .y)) (inside d (p .z)) false) false
+unfoldable pub allInside : ℕ → IVec3 → Bool
+allInside d p = pick (inside d (p .x)) (pick (inside d (p .y)) (inside d (p .z)) false) false
 
 -- the depth is not above the deepest, and the level is below it
 unfoldable pub leveled : ℕ → ℕ → Bool
@@ -30,10 +30,10 @@ abbrev pub decodeRungs : ℕ → List (Bool × ℕ)
 decodeRungs code = (not (ltb code (2 ^ 30)), 3) ∷ []
 
 abbrev pub childRungs : IVec3 → ℕ → ℕ → List (Bool × ℕ)
-childRungs p k d = (not (leveled k d), 2) ∷ (not (within d p), 3) ∷ []
+childRungs p k d = (not (leveled k d), 2) ∷ (not (allInside d p), 3) ∷ []
 
 abbrev pub lookRungs : Tables → ℕ → ℕ → IVec3 → List (Bool × ℕ)
-lookRungs t id d p = (not (fits t), 1) ∷ (not (leb d deepest), 2) ∷ (not (within d p), 3) ∷ (not (liveOrEmpty (cap t) (W t) id), 4) ∷ []
+lookRungs t id d p = (not (fits t), 1) ∷ (not (leb d deepest), 2) ∷ (not (allInside d p), 3) ∷ (not (liveOrEmpty (cap t) (W t) id), 4) ∷ []
 
 abbrev pub expandRungs : Tables → ℕ → ℕ → ℕ → List (Bool × ℕ)
 expandRungs t id d n =
@@ -51,5 +51,5 @@ elevenOf t (lack k) = not (leb k (freeSlots (t .arena)))
 
 abbrev pub editRungs : Tables → ℕ → ℕ → IVec3 → ℕ → List (Bool × ℕ)
 editRungs t root d p v =
-    (not (fits t), 1) ∷ (not (leb d deepest), 2) ∷ (not (within d p), 3) ∷ (not (liveOrEmpty (cap t) (W t) root), 4)
+    (not (fits t), 1) ∷ (not (leb d deepest), 2) ∷ (not (allInside d p), 3) ∷ (not (liveOrEmpty (cap t) (W t) root), 4)
     ∷ (not (leb (heightAt (W t) root) d), 8) ∷ (tenOf t (resultOf cubeKids t v (cellAt d p) root), 10) ∷ (elevenOf t (resultOf cubeKids t v (cellAt d p) root), 11) ∷ []

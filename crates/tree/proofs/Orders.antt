@@ -5,7 +5,7 @@ use mathlib.Core.List.{List, [], _∷_, List·Permᴰ, List·Permᴰ·nil, List�
 use Prim.Native.Nat.{ℕ, _<_}
 use Rattle.nodes.specs.Words.{Words}
 use Rattle.tree.specs.Tree.{LiveOr0, WellMade, Tidy, Cell, look, SameCube, Root, Keeps}
-use Rattle.tree.specs.Edits.{Edited, Later, Change, sameCell, put, after, Not-at, Distinct, notAt, lastOnly, Run, done, enter, other}
+use Rattle.tree.specs.Edits.{Edited, Later, Change, sameCell, put, afterAll, Not-at, Distinct, notAt, lastOnly, Run, done, enter, other}
 use Rattle.tree.proofs.Canon.{canon}
 use Rattle.tree.proofs.Grow.{extends-keeps, look-later, root-later, there-later, keeps-trans}
 
@@ -43,25 +43,25 @@ module _ {n cap d : ℕ} {W : Words} {a : ℕ} {c : List ℕ} {x : ℕ} {W′ : 
 pub record Ended (n cap d : ℕ) (W : Words) (a : ℕ) (es : List Change) (W′ : Words) (a′ : ℕ) : Type 0 where
   pub made : WellMade n cap W′
   pub root : Root n cap d W′ a′
-  pub cube : (q : List ℕ) → Cell n d q → look W′ q a′ ≡ after es q (look W q a)
+  pub cube : (q : List ℕ) → Cell n d q → look W′ q a′ ≡ afterAll es q (look W q a)
 
 pub run-ended : {n cap d h : ℕ} {W : Words} {a : ℕ} {es : List Change} {W′ : Words} {a′ : ℕ} → WellMade n cap W → Root n cap d W a
     → Run n cap d h W a es W′ a′ → Ended n cap d W a es W′ a′
-unfolding after
+unfolding afterAll
 run-ended w r done = record { made = w; root = r; cube = λ q k. refl }
 run-ended w r (enter {e = e} {es = es} c t u) =
     let s = run-ended (t .made) (edited-root t (r .tidy)) u in
     record {
       made = s .made;
       root = s .root;
-      cube = λ q k. s .cube q k ∙ ap (after es q) (edited-cube t q k);
+      cube = λ q k. s .cube q k ∙ ap (afterAll es q) (edited-cube t q k);
     }
 run-ended {n} {cap} {d} {a = a} w r (other {W = W} {es = es} {W₁ = W₁} m s l u) =
     let z = run-ended m (root-later n cap W W₁ w d a s r) u in
     record {
       made = z .made;
       root = z .root;
-      cube = λ q k. z .cube q k ∙ ap (after es q) (sym (look-later n cap W W₁ w a (r .there) s k));
+      cube = λ q k. z .cube q k ∙ ap (afterAll es q) (sym (look-later n cap W W₁ w a (r .there) s k));
     }
 
 -- it keeps the root that someone holds throughout
@@ -81,14 +81,14 @@ run-keeps {n} {cap} {h = h} {W′ = W′} w l (other {W = W} {W₁ = W₁} m s t
 -- its cube is the old one after either list.
 module _ (n cap d : ℕ) (n≥1 : 0 < n) {W₀ W₁ W₂ : Words} {root r₁ r₂ : ℕ} {es fs : List Change} (w : WellMade n cap W₀)
     (r : Root n cap d W₀ root) (first : Run n cap d root W₀ root es W₁ r₁) (second : Run n cap d r₁ W₁ root fs W₂ r₂) where
-  pub second-cube : (q : List ℕ) → Cell n d q → look W₂ q r₂ ≡ after fs q (look W₀ q root)
+  pub second-cube : (q : List ℕ) → Cell n d q → look W₂ q r₂ ≡ afterAll fs q (look W₀ q root)
   second-cube q k =
       let s = run-ended w r first in
       let l = run-keeps w (r .there) first in
       let z = run-ended (s .made) (root-later n cap W₀ W₁ w d root l r) second in
-      z .cube q k ∙ ap (after fs q) (sym (look-later n cap W₀ W₁ w root (r .there) l k))
+      z .cube q k ∙ ap (afterAll fs q) (sym (look-later n cap W₀ W₁ w root (r .there) l k))
 
-  pub two-runs : ((q : List ℕ) → Cell n d q → (x : ℕ) → after es q x ≡ after fs q x) → r₁ ≡ r₂
+  pub two-runs : ((q : List ℕ) → Cell n d q → (x : ℕ) → afterAll es q x ≡ afterAll fs q x) → r₁ ≡ r₂
   two-runs same =
       let s = run-ended w r first in
       let l = run-keeps w (r .there) first in
@@ -128,7 +128,7 @@ pub both-orders : {n cap d : ℕ} {W₀ W₁ V₁ W₂ V₂ W₃ V₃ W₄ : Wor
     → Edited n cap d W₀ root p x W₁ r₁ → Later n cap W₁ V₁ → Edited n cap d V₁ r₁ q y W₂ r₂ → Later n cap W₂ V₂
     → Edited n cap d V₂ root q y W₃ r₃ → Later n cap W₃ V₃ → Edited n cap d V₃ r₃ p x W₄ r₄
     → Both n cap d W₀ root p x q y W₄ r₂ r₄
-unfolding after
+unfolding afterAll
 both-orders {n} {cap} {d} {W₀} {W₁} {V₁} {W₂} {V₂} {W₃} {V₃} {W₄} {root} {r₁} {r₂} {r₃} {r₄} {p} {q} {x} {y}
     n≥1 w r cp cq h t₁ l₁ t₂ l₂ t₃ l₃ t₄ =
     record {
@@ -181,13 +181,13 @@ distinct-order (List·Permᴰ·swap {l = l} e f) h = (
 )
 distinct-order (List·Permᴰ·trans t u) h = distinct-order u (distinct-order t h)
 
-pub after-order : {es fs : List Change} → List·Permᴰ es fs → Distinct es → (q : List ℕ) (x : ℕ) → after es q x ≡ after fs q x
-unfolding after
+pub after-order : {es fs : List Change} → List·Permᴰ es fs → Distinct es → (q : List ℕ) (x : ℕ) → afterAll es q x ≡ afterAll fs q x
+unfolding afterAll
 after-order List·Permᴰ·nil h q x = refl
 after-order (List·Permᴰ·cons {a = a} {l₂ = fs} e t) h q x =
-    after-order t (h .1) q (put a q x) ∙ ap (λ (c : Change). after fs q (put c q x)) e
+    after-order t (h .1) q (put a q x) ∙ ap (λ (c : Change). afterAll fs q (put c q x)) e
 after-order (List·Permᴰ·swap {a = a} {b = b} {b′ = b′} {l = l} e f) h q x =
-    ap (after l q)
+    ap (afterAll l q)
     (put-swap a b q x (h .0 .0)
     ∙ ap (λ (c : Change). put c q (put b q x)) e ∙ ap (λ (c : Change). put b′ q (put c q x)) f)
 after-order (List·Permᴰ·trans t u) h q x = after-order t h q x ∙ after-order u (distinct-order t h) q x
@@ -201,27 +201,27 @@ any-order {n} {cap} {d} n≥1 w r h t first second = two-runs n cap d n≥1 w r 
 -- ## Where a cell comes twice, the last value entered for it decides
 
 -- a cell that the list changes does not show what it held before
-after-overruled : (q : List ℕ) (es : List Change) → ¬ (Not-at q es) → (x y : ℕ) → after es q x ≡ after es q y
-unfolding after
+after-overruled : (q : List ℕ) (es : List Change) → ¬ (Not-at q es) → (x y : ℕ) → afterAll es q x ≡ afterAll es q y
+unfolding afterAll
 after-overruled q [] h x y = absurd (h tt)
 after-overruled q (e ∷ es) h x y = go (sameCell q (e .cell)) (after-overruled q es)
   where
-    go : Dec (q ≡ e .cell) → (¬ (Not-at q es) → (x y : ℕ) → after es q x ≡ after es q y)
-        → after es q (put e q x) ≡ after es q (put e q y)
-    go (yes k) ih = ap (after es q) (put-same e q x k ∙ sym (put-same e q y k))
+    go : Dec (q ≡ e .cell) → (¬ (Not-at q es) → (x y : ℕ) → afterAll es q x ≡ afterAll es q y)
+        → afterAll es q (put e q x) ≡ afterAll es q (put e q y)
+    go (yes k) ih = ap (afterAll es q) (put-same e q x k ∙ sym (put-same e q y k))
     go (no k) ih = ih (λ m. h (k, m)) (put e q x) (put e q y)
 
-pub after-last : (es : List Change) (q : List ℕ) (x : ℕ) → after (lastOnly es) q x ≡ after es q x
-unfolding after lastOnly
+pub after-last : (es : List Change) (q : List ℕ) (x : ℕ) → afterAll (lastOnly es) q x ≡ afterAll es q x
+unfolding afterAll lastOnly
 after-last [] q x = refl
 after-last (e ∷ es) q x = go (notAt (e .cell) es) (after-last es q)
   where
-    skip : ¬ (Not-at (e .cell) es) → Dec (q ≡ e .cell) → after es q x ≡ after es q (put e q x)
+    skip : ¬ (Not-at (e .cell) es) → Dec (q ≡ e .cell) → afterAll es q x ≡ afterAll es q (put e q x)
     skip h (yes k) = after-overruled q es (λ m. h (subst (λ (c : List ℕ). Not-at c es) k m)) x (put e q x)
-    skip h (no k) = ap (after es q) (sym (put-other e q x k))
+    skip h (no k) = ap (afterAll es q) (sym (put-other e q x k))
 
-    go : (k : Dec (Not-at (e .cell) es)) → ((y : ℕ) → after (lastOnly es) q y ≡ after es q y)
-        → after (elim k [ yes _ ↦ e ∷ lastOnly es | no _ ↦ lastOnly es ]) q x ≡ after es q (put e q x)
+    go : (k : Dec (Not-at (e .cell) es)) → ((y : ℕ) → afterAll (lastOnly es) q y ≡ afterAll es q y)
+        → afterAll (elim k [ yes _ ↦ e ∷ lastOnly es | no _ ↦ lastOnly es ]) q x ≡ afterAll es q (put e q x)
     go (yes k) ih = ih (put e q x)
     go (no k) ih = ih x ∙ skip k (sameCell q (e .cell))
 

@@ -40,9 +40,9 @@ unfoldable pub put : Change → List ℕ → ℕ → ℕ
 put e q x = elim (sameCell q (e .cell)) [ yes _ ↦ e .value | no _ ↦ x ]
 
 -- what it holds after a list of changes, entered from the left
-unfoldable pub after : List Change → List ℕ → ℕ → ℕ
-after [] q x = x
-after (e ∷ es) q x = after es q (put e q x)
+unfoldable pub afterAll : List Change → List ℕ → ℕ → ℕ
+afterAll [] q x = x
+afterAll (e ∷ es) q x = afterAll es q (put e q x)
 
 -- no change of the list is at the cell q
 abbrev pub Not-at : List ℕ → List Change → Type 0

@@ -7,7 +7,7 @@ use Rattle.ids.specs.Ids as ids
 use Rattle.ids_text.specs.Text.{idTextOf}
 use Rattle.paths.specs.Paths.{decodedOf, childIndexOf}
 use Rattle.capi_ids.specs.declared.Packed.{Packed}
-use Rattle.capi_paths.specs.Cells.{cellAt}
+use Rattle.capi_paths.specs.Cells.{positionAt}
 use Rattle.capi_paths.specs.declared.Cell.{Cell}
 use Rattle.capi_paths.specs.declared.Child.{Child}
 use Rattle.capi_paths.specs.declared.Text.{Text}
@@ -29,6 +29,6 @@ ExportSaid (text raw) = Text
 abbrev pub ExportMeets : (q : Export) → ExportSaid q → Type 0
 ExportMeets (newLeaf i g) a = (a .no ≡ ids.packingNo g) × (a .id ≡ ids.newLeaf i g)
 ExportMeets (newBranch i g y m) a = (a .no ≡ ids.packingNo g) × (a .id ≡ ids.newBranch i g y m)
-ExportMeets (decode c) a = (a .no ≡ decodedOf c .no) × (cellAt (a .x) (a .y) (a .z) ≡ decodedOf c .position)
-ExportMeets (child x y z k d) a = (a .no ≡ childIndexOf (cellAt x y z) k d .no) × (a .index ≡ childIndexOf (cellAt x y z) k d .index)
+ExportMeets (decode c) a = (a .no ≡ decodedOf c .no) × (positionAt (a .x) (a .y) (a .z) ≡ decodedOf c .position)
+ExportMeets (child x y z k d) a = (a .no ≡ childIndexOf (positionAt x y z) k d .no) × (a .index ≡ childIndexOf (positionAt x y z) k d .index)
 ExportMeets (text raw) a = (a .bytes ≡ idTextOf raw .bytes) × (a .len ≡ idTextOf raw .len)

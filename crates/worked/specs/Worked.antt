@@ -18,9 +18,9 @@ abbrev pub _says_ : ℕ → ℕ → Entry
 n says m = record { is = n; says = m }
 
 -- Every entry of the list is what the paper says.
-abbrev pub All : List Entry → Type 0
-All [] = Unit
-All (e ∷ es) = (e .is ≡ e .says) × All es
+abbrev pub AllSay : List Entry → Type 0
+AllSay [] = Unit
+AllSay (e ∷ es) = (e .is ≡ e .says) × AllSay es
 
 abbrev pub table : List Entry
 table =

@@ -10,7 +10,7 @@ use Rattle.arena.specs.Models.{dropPlace}
 use Rattle.arena.specs.Tables.{tables}
 use Rattle.arena.proofs.Eight.{each-end}
 use Rattle.arena.proofs.slot_of.Reads as slot-of-reads
-use Rattle.arena_release.specs.Drop.{stateOf}
+use Rattle.arena_release.specs.Drop.{arenaOf}
 use Rattle.arena_release.proofs.Dropping.{again-last, again-taken, slot-all, slot-bare, slot-none}
 use Rattle.arena_release.proofs.drop_all.Reads as drop-all
 use Rattle.arena_release.proofs.drop_all.Kinds as drop-all-kinds
@@ -47,8 +47,8 @@ slot-below t = and 3 drop-slot-kinds.ps (falls 3 drop-slot-kinds.ps _<_ μ-slot 
 abbrev Inv-loop : all-lts.InvT-loop
 Inv-loop capacity kids₀ facts₀ find₀ levels ids b₀ i₀ kids facts find b i =
     (i ≤ 8) × (length ids ≡ 8) × (length kids ≡ length kids₀) × (length facts ≡ length facts₀) × (length find ≡ length find₀)
-    × (each (dropPlace (levels + 1)) (tables (stateOf capacity (b₀ .next) (b₀ .top) (b₀ .live)) kids₀ facts₀ find₀) ids
-    ≡ each (dropPlace (levels + 1)) (tables (stateOf capacity (b .next) (b .top) (b .live)) kids facts find) (drop i ids))
+    × (each (dropPlace (levels + 1)) (tables (arenaOf capacity (b₀ .next) (b₀ .top) (b₀ .live)) kids₀ facts₀ find₀) ids
+    ≡ each (dropPlace (levels + 1)) (tables (arenaOf capacity (b .next) (b .top) (b .live)) kids facts find) (drop i ids))
 
 abbrev μ-loop : all-lts.MeasureT-loop
 μ-loop capacity kids₀ facts₀ find₀ levels ids b₀ i₀ kids facts find b i = 8 - i
