@@ -20,25 +20,27 @@ use Rattle.find.specs.Cells.{cellOf}
 use Rattle.find.specs.Content.{contentIs}
 use Rattle.find.proofs.Contents.{content-true, content-words, kids-are}
 use Rattle.arena.specs.Calls.{rawIds, Out, said, refused, fits, Fair, fullOf, roomOf, heldAt, branchAnew, allLive, enough, noneOf, branchIn, branchSlot, internBranchNo, unheld, placed, branchMade, internBranchOf}
-use Rattle.arena.specs.Models.{branchLow, branchAt, topFor, cellFor, moreOf, valueBy, heldBy, branchMissBy, branchHitBy, branchBy, kidsNo, internBranchBy}
+use Rattle.arena.specs.Models.{branchLow, branchAt, topFor, cellFor, valueBy, branchMissBy, branchHitBy, branchBy, kidsNo, internBranchBy}
 use Rattle.arena.specs.Node.{valueFor, heightFor}
 use Rattle.arena.specs.Tables.{tablesOf, Tables, cap, W, LiveSlot, WellFormed}
 use Rattle.arena.proofs.Branches.{alive, affords, some-kid, branch-words, slot-lone, unheld-eased, unheld-inv, Placing, placing}
 use Rattle.arena.proofs.Eight.{raw-length}
 use Rattle.arena.proofs.Fits.{live-is, kids-fine, kids-fits, room-yes}
-use Rattle.arena.proofs.Fresh.{more-few, value-same, height-same, value-by, branch-makes, search-ends, branch-fresh}
+use Rattle.arena.proofs.Fresh.{value-same, height-same, value-by, branch-makes, search-ends, branch-fresh}
 use Rattle.arena.proofs.Inv.{Inv, Content, wf-inv, wf-content, inv-wf, content-recount}
-use Rattle.arena.proofs.Leaves.{not-ground, held-kept, search-hit, search-miss}
+use Rattle.arena.proofs.Leaves.{not-ground, held-kept, hit-is-held, search-hit, search-miss}
 use Rattle.arena.proofs.Scan.{find-hit}
 
 hit-full : (t : Tables) (ks : List ℕ) (s : ℕ) → fullOf (W t) s ≡ true → branchHitBy t ks s ≡ refused 10 t
 unfolding branchHitBy
 hit-full t ks s f = rw f
 
-hit-held : (t : Tables) (ks : List ℕ) (s : ℕ) → fullOf (W t) s ≡ false → moreOf (wordOf (unheld (t .nodes) ks) s holds) ≡ wordOf (unheld (t .nodes) ks) s holds + 1
+hit-held : (t : Tables) (ks : List ℕ) (s : ℕ) → fullOf (W t) s ≡ false → fullOf (wordOf (unheld (t .nodes) ks)) s ≡ false
     → branchHitBy t ks s ≡ said 0 (W t s own) (heldAt (tablesOf (t .arena) (unheld (t .nodes) ks) (t .find)) s)
-unfolding branchHitBy heldBy heldAt
-hit-held t ks s f e = rw (f, e)
+unfolding branchHitBy
+hit-held t ks s f g =
+    let u = tablesOf (t .arena) (unheld (t .nodes) ks) (t .find) in
+    rw f (hit-is-held u s g ∙ ap (λ (o : ℕ). said 0 o (heldAt u s)) (unheld-eased ks (t .nodes) .words s own (omega arith) (omega arith) (omega arith)))
 
 pub full-few : (t : Tables) (s : ℕ) → fullOf (W t) s ≡ false → W t s holds < 1000000
 unfolding fullOf
@@ -101,8 +103,9 @@ module _ (n tallest : ℕ) (t : Tables) (m : n ≤ 8) (pos : 1 ≤ n) (w : WellF
       let r = search-hit n tallest t w ks v e (branchSlot t ks) (q .0) (q .1) in
       rw (value-is, r, ne-eqb (branchSlot t ks) 0 d)
 
-  hold-few : fullOf (W t) (branchSlot t ks) ≡ false → wordOf (unheld (t .nodes) ks) (branchSlot t ks) holds < 1000000
-  hold-few f = let p = unheld-eased ks (t .nodes) .fewer (branchSlot t ks) in let q = full-few t (branchSlot t ks) f in omega arith
+  hold-few : fullOf (W t) (branchSlot t ks) ≡ false → fullOf (wordOf (unheld (t .nodes) ks)) (branchSlot t ks) ≡ false
+  hold-few f = few-full (tablesOf (t .arena) (unheld (t .nodes) ks) (t .find)) (branchSlot t ks)
+      (let p = unheld-eased ks (t .nodes) .fewer (branchSlot t ks) in let q = full-few t (branchSlot t ks) f in omega arith)
 
   hit-kept : branchSlot t ks ≢ 0 → fullOf (W t) (branchSlot t ks) ≡ false → WellFormed n tallest (heldAt (tablesOf (t .arena) (unheld (t .nodes) ks) (t .find)) (branchSlot t ks))
   hit-kept d f =
@@ -117,7 +120,7 @@ module _ (n tallest : ℕ) (t : Tables) (m : n ≤ 8) (pos : 1 ≤ n) (w : WellF
       (λ b l h. let x = eased .fewer b in let y = w .nodes b (l, h) .few in omega arith) con) in
       held-kept n tallest (tablesOf (t .arena) (unheld (t .nodes) ks) (t .find)) (branchSlot t ks) m well
       (q .0 .0, (let x = eased .words (branchSlot t ks) own (omega arith) (omega arith) (omega arith) in let y = q .0 .1 in omega arith))
-      (few-full (tablesOf (t .arena) (unheld (t .nodes) ks) (t .find)) (branchSlot t ks) (hold-few f))
+      (hold-few f)
 
   -- ---- there is none
   abbrev u : Tables
@@ -242,7 +245,7 @@ module _ (n tallest : ℕ) (t : Tables) (m : n ≤ 8) (pos : 1 ≤ n) (w : WellF
       refl w)
       (λ f. ends (said 0 (W t (branchSlot t ks) own) (heldAt (tablesOf (t .arena) (unheld (t .nodes) ks) (t .find)) (branchSlot t ks))) 0
       (by ∙ hit-law n tallest t m pos w ks e beyond fine (topFor (W t) ks n) z
-      ∙ hit-held t ks (branchSlot t ks) f (more-few (wordOf (unheld (t .nodes) ks) (branchSlot t ks) holds) (hold-few n tallest t m pos w ks e beyond fine f)))
+      ∙ hit-held t ks (branchSlot t ks) f (hold-few n tallest t m pos w ks e beyond fine f))
       (no-is ∙ rw (le-leb (heightFor n (W t) ks) tallest hl, ne-eqb (branchSlot t ks) 0 z, f))
       (rw (ne-eqb (branchSlot t ks) 0 z))
       (hit-kept n tallest t m pos w ks e beyond fine z f))))

@@ -89,7 +89,7 @@ hit-is-full : (t : Tables) (s : ℕ) → fullOf (W t) s ≡ true → hitBy t s �
 unfolding hitBy
 hit-is-full t s f = rw f
 
-hit-is-held : (t : Tables) (s : ℕ) → fullOf (W t) s ≡ false → hitBy t s ≡ said 0 (W t s own) (heldAt t s)
+pub hit-is-held : (t : Tables) (s : ℕ) → fullOf (W t) s ≡ false → hitBy t s ≡ said 0 (W t s own) (heldAt t s)
 unfolding hitBy
 hit-is-held t s f = rw f
 
@@ -168,14 +168,8 @@ module _ (n tallest : ℕ) (t : Tables) (m : n ≤ 8) (w : WellFormed n tallest 
       (λ r. rw (eq-eqb (leafSlot t v) 0 z, r) (miss-law z ∙ made-law z r))
       (λ r. rw (eq-eqb (leafSlot t v) 0 z, r) (miss-law z ∙ full-law r)))
       (λ z. split (fullOf (W t) (leafSlot t v))
-      (λ f. rw (ne-eqb (leafSlot t v) 0 z, f) (hit-law z ∙ hit-full z f))
-      (λ f. rw (ne-eqb (leafSlot t v) 0 z, f) (hit-law z ∙ hit-held z f))))
-    where
-      hit-full : leafSlot t v ≢ 0 → fullOf (W t) (leafSlot t v) ≡ true → hitBy t (leafSlot t v) ≡ refused 10 t
-      hit-full z f = hit-is-full t (leafSlot t v) f
-
-      hit-held : leafSlot t v ≢ 0 → fullOf (W t) (leafSlot t v) ≡ false → hitBy t (leafSlot t v) ≡ said 0 (W t (leafSlot t v) own) (heldAt t (leafSlot t v))
-      hit-held z f = hit-is-held t (leafSlot t v) f
+      (λ f. rw (ne-eqb (leafSlot t v) 0 z, f) (hit-law z ∙ hit-is-full t (leafSlot t v) f))
+      (λ f. rw (ne-eqb (leafSlot t v) 0 z, f) (hit-law z ∙ hit-is-held t (leafSlot t v) f))))
 
   -- ---- well formed afterwards
 

@@ -131,17 +131,12 @@ topFor W ks n = maxTo n (λ i. heightAt W (getD ks i 0))
 unfoldable pub valueBy : ℕ → Words → List ℕ → ℕ
 valueBy n W ks = wrapSum W ks n / n
 
--- one hold more
-unfoldable pub heldBy : Tables → ℕ → Tables
-heldBy t s = tablesOf (t .arena) (putOf (t .nodes) s holds (moreOf (W t s holds))) (t .find)
-
 unfoldable pub branchMissBy : Tables → List ℕ → ℕ → ℕ → ℕ → Out
 branchMissBy t ks v up at =
     pick (roomOf (t .arena)) (branchFresh (tablesOf (t .arena) (settles (t .nodes) ks) (t .find)) ks v up 1 0 at) (refused 11 t)
 
 unfoldable pub branchHitBy : Tables → List ℕ → ℕ → Out
-branchHitBy t ks s =
-    pick (fullOf (W t) s) (refused 10 t) (said 0 (W t s own) (heldBy (tablesOf (t .arena) (unheld (t .nodes) ks) (t .find)) s))
+branchHitBy t ks s = pick (fullOf (W t) s) (refused 10 t) (hitBy (tablesOf (t .arena) (unheld (t .nodes) ks) (t .find)) s)
 
 unfoldable pub branchAt : Tables → List ℕ → ℕ → ℕ → ℕ → ℕ → Out
 branchAt t ks v up s at = pick (eqb s 0) (branchMissBy t ks v up at) (branchHitBy t ks s)

@@ -4,6 +4,7 @@
 use basics::FACT_WORDS;
 use basics::KID_WORDS;
 use basics::LEAST_SLOTS;
+use basics::MOST_HOLDS;
 use basics::MOST_SLOTS;
 use basics::SLOT_CELLS;
 use ids::BlockId;
@@ -14,11 +15,13 @@ use nodes::fact;
 use nodes_write::put_fact;
 use std::num::wrapping_add_u64;
 ghost use mathlib.Core.Path.{_≡_};
-ghost use Prim.Native.Nat.{_-_};
+ghost use mathlib.Core.List.{List};
+ghost use Prim.Native.Nat.{ℕ, _-_};
 ghost use Rattle.nodes.specs.Words.{holds as holdsWord, places as placesWord, factOf, factPut, slot};
-ghost use Rattle.arena.specs.Calls.{fitOf, liveOf, thereNo};
+ghost use Rattle.arena.specs.Calls.{madeOf, fitOf, liveOf, thereNo};
 ghost use Rattle.arena.specs.Lent.{before};
-ghost use Rattle.arena.specs.Models.{moreOf};
+ghost use Rattle.arena.specs.Models.{moreOf, hitBy};
+ghost use Rattle.arena.specs.Tables.{tables};
 
 // An arena's state: how many slots its tables have, the lowest never given out, the last one freed (0: none), how many live.
 #[repr(C)]
@@ -57,6 +60,13 @@ pub fn less(x: u64) -> u64
     ensures { λ r. ⌜ r ≡ x - 1 ⌝ }
 {
     if x == 0 { 0 } else { x - 1 }
+}
+
+// One more, running over at 2^64. (No count comes near it.)
+pub fn more(x: u64) -> u64
+    ensures { λ r. ⌜ r ≡ moreOf x ⌝ }
+{
+    wrapping_add_u64(x, 1)
 }
 
 // The slot of an id: its index.
@@ -118,7 +128,7 @@ pub fn settle(facts: &mut [u64], s: usize)
     let h = fact(facts, s, HOLDS);
     let p = fact(facts, s, PLACES);
     put_fact(facts, s, HOLDS, less(h));
-    put_fact(facts, s, PLACES, wrapping_add_u64(p, 1));
+    put_fact(facts, s, PLACES, more(p));
 }
 
 // One hold more on the node in slot s.
@@ -126,5 +136,26 @@ pub fn grant(facts: &mut [u64], s: usize)
     ensures { λ _. ⌜ now (facts .exit) ≡ factPut (now (facts .entry)) s holdsWord (moreOf (factOf (now (facts .entry)) s holdsWord)) ⌝ }
 {
     let held = fact(facts, s, HOLDS);
-    put_fact(facts, s, HOLDS, wrapping_add_u64(held, 1));
+    put_fact(facts, s, HOLDS, more(held));
+}
+
+// One hold more on the node in slot s, which is there already.
+pub fn hit(a: Arena, facts: &mut [u64], s: usize) -> Made
+    ensures { λ r. ⌜ ((k e : List ℕ) → madeOf r k (now (facts .exit)) e ≡ hitBy (tables a k (now (facts .entry)) e) s) ⌝ }
+{
+    let h = fact(facts, s, HOLDS);
+    if MOST_HOLDS <= h {
+        return Made {
+            no: 10,
+            id: BlockId::INVALID,
+            arena: a,
+        };
+    }
+    let o = fact(facts, s, OWN);
+    put_fact(facts, s, HOLDS, h + 1);
+    Made {
+        no: 0,
+        id: BlockId(o),
+        arena: a,
+    }
 }

@@ -3,7 +3,7 @@
 use arena::Arena;
 use arena::Made;
 use arena::fit;
-use arena::grant;
+use arena::hit;
 use arena::is_live;
 use arena::less;
 use arena::settle;
@@ -18,7 +18,6 @@ use new_node::free_slots;
 use new_node::fresh_branch;
 use new_value::sums_of;
 use nodes::HOLDS;
-use nodes::OWN;
 use nodes::fact;
 use nodes_write::put_fact;
 ghost use mathlib.Core.Path.{_≡_};
@@ -169,14 +168,8 @@ fn branch_hit(a: Arena, facts: &mut [u64], ks: Kids, s: usize) -> Made
             arena: a,
         };
     }
-    let o = fact(facts, s, OWN);
     unhold_all(facts, ks);
-    grant(facts, s);
-    Made {
-        no: 0,
-        id: BlockId(o),
-        arena: a,
-    }
+    hit(a, facts, s)
 }
 
 // A fresh branch, named in the cell `at`; refusal 11 where no slot is free.

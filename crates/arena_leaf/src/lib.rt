@@ -2,44 +2,17 @@
 use arena::Arena;
 use arena::Made;
 use arena::fit;
-use basics::MOST_HOLDS;
+use arena::hit;
 use find::search_leaf;
 use ids::BlockId;
 use new_node::free_slots;
 use new_node::fresh_leaf;
-use nodes::HOLDS;
-use nodes::OWN;
-use nodes::fact;
-use nodes_write::put_fact;
 ghost use mathlib.Core.Path.{_≡_};
-ghost use mathlib.Core.List.{List};
 ghost use Prim.Native.Nat.{ℕ, _≤_};
 ghost use Rattle.basics.specs.Limits.{kidWords};
-ghost use Rattle.arena.specs.Calls.{madeOf, Fair, internLeafOf};
-ghost use Rattle.arena.specs.Models.{hitBy, leafMissBy, leafAt, leafBy, internLeafBy};
-ghost use Rattle.arena.specs.Tables.{tables};
+ghost use Rattle.arena.specs.Calls.{Fair, internLeafOf};
+ghost use Rattle.arena.specs.Models.{leafMissBy, leafAt, leafBy, internLeafBy};
 ghost use Rattle.arena.specs.Lent.{before, made};
-
-// One hold more on the node in slot s, which is there already.
-fn hit(a: Arena, facts: &mut [u64], s: usize) -> Made
-    ensures { λ r. ⌜ ((k e : List ℕ) → madeOf r k (now (facts .exit)) e ≡ hitBy (tables a k (now (facts .entry)) e) s) ⌝ }
-{
-    let h = fact(facts, s, HOLDS);
-    if MOST_HOLDS <= h {
-        return Made {
-            no: 10,
-            id: BlockId::INVALID,
-            arena: a,
-        };
-    }
-    let o = fact(facts, s, OWN);
-    put_fact(facts, s, HOLDS, h + 1);
-    Made {
-        no: 0,
-        id: BlockId(o),
-        arena: a,
-    }
-}
 
 // A fresh leaf, named in the cell `at`; refusal 11 where no slot is free.
 fn leaf_miss(

@@ -1,5 +1,6 @@
 // The tally of all nodes of any tables, whatever they hold, in three passes over the slots: a counter in the link word of live slots, 0 before and 0
 // again after. See specs/Models.antt.
+use arena::more;
 use arena::slot_of;
 use basics::KID_WORDS;
 use basics::Kids;
@@ -10,20 +11,10 @@ use nodes::PLACES;
 use nodes::children;
 use nodes::fact;
 use nodes_write::put_fact;
-use std::num::wrapping_add_u64;
 ghost use mathlib.Core.Path.{_≡_};
-ghost use Prim.Native.Nat.{_+_};
-ghost use Rattle.find_hash.specs.Hash.{wrap};
 ghost use Rattle.arena.specs.Calls.{each};
 ghost use Rattle.check_freed.specs.Models.{allIn};
 ghost use Rattle.check_places.specs.Models.{bumped, countTo, unlinked, clearTo, agreeAt};
-
-// One more. (A counter never comes near 2^64.)
-fn more(x: u64) -> u64
-    ensures { λ r. ⌜ r ≡ wrap (x + 1) ⌝ }
-{
-    wrapping_add_u64(x, 1)
-}
 
 // A child place that names y, or EMPTY.
 fn bump(facts: &mut [u64], y: u64)

@@ -2,6 +2,7 @@
 // first and upward (crate `edit_make`). What the call answers and leaves: specs/Edit.antt.
 use arena::Arena;
 use arena::Made;
+use arena::more;
 use arena::slot_of;
 use basics::MOST_HOLDS;
 use edit_make::make;
@@ -17,7 +18,6 @@ use paths::Cell;
 use paths::IVec3;
 use paths::to_cell;
 use read_cell::look_no;
-use std::num::wrapping_add_u64;
 ghost use mathlib.Core.Path.{_≡_};
 ghost use Rattle.basics.specs.Limits.{deepest, cubeKids};
 ghost use Rattle.arena.specs.Calls.{Fair};
@@ -65,7 +65,7 @@ fn grant(facts: &mut [u64], id: u64)
     if id != BlockId::EMPTY.0 {
         let s = slot_of(id);
         let n = fact(facts, s, HOLDS);
-        put_fact(facts, s, HOLDS, wrapping_add_u64(n, 1));
+        put_fact(facts, s, HOLDS, more(n));
     }
 }
 

@@ -1,6 +1,7 @@
 // The making of an edit: the nodes of the result that are not there, made anew, leaf first and upward.
 use arena::Arena;
 use arena::Made;
+use arena::more;
 use arena::slot_of;
 use basics::DEEPEST;
 use basics::KID_WORDS;
@@ -20,7 +21,6 @@ use nodes::fact;
 use nodes_write::put_fact;
 use paths::Cell;
 use paths::octant;
-use std::num::wrapping_add_u64;
 ghost use mathlib.Core.Path.{_≡_};
 ghost use Prim.Native.Nat.{_≤_, _<_};
 ghost use lib.Dec.{eqb};
@@ -39,7 +39,7 @@ fn owe(facts: &mut [u64], id: u64)
     if id != BlockId::EMPTY.0 {
         let s = slot_of(id);
         let p = fact(facts, s, PLACES);
-        put_fact(facts, s, PLACES, wrapping_add_u64(p, 1));
+        put_fact(facts, s, PLACES, more(p));
     }
 }
 
@@ -88,7 +88,7 @@ fn branch_anew(
     ensures { λ r. ⌜ made r kids facts find ≡ branchAnewBy (before a kids facts find) ks h q ⌝ }
 {
     let sums = sums_of(facts, ks);
-    let up = wrapping_add_u64(sums.top, 1);
+    let up = more(sums.top);
     let at = place_for(a, find, ks, sums.value);
     fresh_branch(a, kids, facts, find, at, ks, sums.value, up, h, q)
 }

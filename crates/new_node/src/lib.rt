@@ -1,6 +1,7 @@
 // A new node: a free slot, a leaf's id in it, and the node written and named. Intern leaf, intern branch and the edit all make their nodes with these.
 use arena::Arena;
 use arena::Made;
+use arena::more;
 use basics::Kids;
 use basics::NO_KIDS;
 use find::put_cell;
@@ -10,7 +11,6 @@ use nodes::LINK;
 use nodes::OWN;
 use nodes::fact;
 use nodes_write::write_slot;
-use std::num::wrapping_add_u64;
 ghost use mathlib.Core.Path.{_≡_};
 ghost use Prim.Native.Nat.{_%_, _^_};
 ghost use Rattle.ids.specs.Ids.{generationOf, newLeaf};
@@ -43,9 +43,9 @@ fn give(a: Arena, facts: &[u64]) -> Arena
     if a.top == 0 {
         return Arena {
             capacity: a.capacity,
-            next: wrapping_add_u64(a.next as u64, 1) as usize,
+            next: more(a.next as u64) as usize,
             top: 0,
-            live: wrapping_add_u64(a.live as u64, 1) as usize,
+            live: more(a.live as u64) as usize,
         };
     }
     let top = fact(facts, a.top, LINK) as usize;
@@ -53,7 +53,7 @@ fn give(a: Arena, facts: &[u64]) -> Arena
         capacity: a.capacity,
         next: a.next,
         top: top,
-        live: wrapping_add_u64(a.live as u64, 1) as usize,
+        live: more(a.live as u64) as usize,
     }
 }
 

@@ -1,7 +1,7 @@
 use borrow.Author.Needs.{needs}
 use mathlib.Core.Path.{_≡_, ap, ap₂, _∙_}
 use mathlib.Core.List.{List}
-use Prim.Native.Nat.{ℕ, _+_, _%_, _^_}
+use Prim.Native.Nat.{ℕ}
 use lib.Dec.{eqb}
 use Rattle.nodes.specs.Words.{factOf}
 use Rattle.find_hash.specs.Hash.{homeFor}
@@ -15,14 +15,14 @@ use Rattle.new_value.proofs.Facts.{sum-facts, top-facts}
 use Rattle.edit_make.proofs.branch_anew.Statement.{statement}
 use Rattle.edit_make.proofs.branch_anew.Tie as tie
 
-done : (a : Arena) (k f e ks : List ℕ) (h q v top up at : ℕ) (r : Out) → v ≡ valueBy 8 (factOf f) ks → top ≡ topFor (factOf f) ks 8 → up ≡ (top + 1) % 2 ^ 64
+done : (a : Arena) (k f e ks : List ℕ) (h q v top up at : ℕ) (r : Out) → v ≡ valueBy 8 (factOf f) ks → top ≡ topFor (factOf f) ks 8 → up ≡ moreOf top
     → at ≡ probe (eqb (freshSlot a)) e (homeFor (a .capacity) ks v)
     → r ≡ branchFresh (tables a k f e) ks v up h q at → r ≡ branchAnewBy (tables a k f e) ks h q
-unfolding branchAnewBy moreOf
+unfolding branchAnewBy
 done a k f e ks h q v top up at r ev et eu ea er =
     er ∙ ap (branchFresh (tables a k f e) ks v up h q) ea
     ∙ ap₂ (λ (x y : ℕ). branchFresh (tables a k f e) ks x y h q (placeFor (tables a k f e) ks x))
-    (ev ∙ sum-facts k f ks) (eu ∙ ap (λ (x : ℕ). (x + 1) % 2 ^ 64) (et ∙ top-facts k f ks))
+    (ev ∙ sum-facts k f ks) (eu ∙ ap moreOf (et ∙ top-facts k f ks))
 
 pub branch-anew-spec : {M : Type 1} → statement M
 branch-anew-spec =

@@ -1,7 +1,7 @@
 use borrow.Author.Needs.{needs}
 use mathlib.Core.Path.{_≡_, ap, ap₂, _∙_}
 use mathlib.Core.List.{List}
-use Prim.Native.Nat.{ℕ, _+_, _%_, _^_}
+use Prim.Native.Nat.{ℕ}
 use borrow.Author.Tests.{eq-eqb, ne-eqb}
 use Rattle.nodes.specs.Words.{factOf, factPut, slot, places}
 use Rattle.arena.specs.Models.{moreOf}
@@ -14,11 +14,11 @@ module _ (f : List ℕ) (id : ℕ) where
   unfolding owe
   nothing e = rw (eq-eqb id 0 e)
 
-  node : (g : List ℕ) (s p q : ℕ) → (id ≡ 0 → ⊥) → s ≡ slot id → p ≡ factOf f s places → q ≡ (p + 1) % 2 ^ 64 → g ≡ factPut f s places q → g ≡ owe f id
-  unfolding owe moreOf
+  node : (g : List ℕ) (s p q : ℕ) → (id ≡ 0 → ⊥) → s ≡ slot id → p ≡ factOf f s places → q ≡ moreOf p → g ≡ factPut f s places q → g ≡ owe f id
+  unfolding owe
   node g s p q d es ep eq eg =
       rw (ne-eqb id 0 d)
-      (eg ∙ ap₂ (λ (x y : ℕ). factPut f x places y) es (eq ∙ ap (λ (x : ℕ). (x + 1) % 2 ^ 64) (ep ∙ ap (λ (x : ℕ). factOf f x places) es)))
+      (eg ∙ ap₂ (λ (x y : ℕ). factPut f x places y) es (eq ∙ ap moreOf (ep ∙ ap (λ (x : ℕ). factOf f x places) es)))
 
 ruleset mine = (nothing, node)
 

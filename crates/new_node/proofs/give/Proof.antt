@@ -22,7 +22,6 @@ module _ (a : Arena) (f : List ℕ) (l : ℕ) (el : l ≡ moreOf (a .live)) wher
 ruleset mine = (up, down)
 
 pub give-spec : {M : Type 1} → statement M
-unfolding moreOf
 give-spec =
     tie.close
     (tie.spec (λ c κs. search needs) (λ c κs. search needs) (λ c. search mine) (λ c κs. search needs) (λ c κs. search needs)

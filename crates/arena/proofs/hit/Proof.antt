@@ -6,13 +6,13 @@ use native.Mathlib.Omega.{arith}
 use borrow.Author.Tests.{le-leb, lt-leb}
 use Rattle.nodes.specs.Words.{factOf, factPut, holds, own, putOf, wordOf}
 use Rattle.nodes.proofs.Access.{nodes-path}
 use Rattle.arena.specs.Calls.{fullOf, heldAt, refused, said}
 use Rattle.arena.specs.Models.{hitBy}
 use Rattle.arena.specs.Tables.{tables}
 use Rattle.arena.specs.declared.Arena.{Arena}
 use Rattle.arena.proofs.Outs.{said-path, tables-path}
-use Rattle.arena_leaf.proofs.hit.Statement.{statement}
-use Rattle.arena_leaf.proofs.hit.Tie as tie
+use Rattle.arena.proofs.hit.Statement.{statement}
+use Rattle.arena.proofs.hit.Tie as tie
 
 module _ (a : Arena) (f : List ℕ) (s h : ℕ) (eh : h ≡ factOf f s holds) where
   full : 1000000 ≤ h → (k e : List ℕ) → refused 10 (tables a k f e) ≡ hitBy (tables a k f e) s

@@ -1,0 +1,10 @@
+use borrow.Author.Needs.{needs}
+use Rattle.arena.specs.Models.{moreOf}
+use Rattle.arena.proofs.more.Statement.{statement}
+use Rattle.arena.proofs.more.Tie as tie
+
+pub more-spec : {M : Type 1} → statement M
+unfolding moreOf
+more-spec =
+    tie.close
+    (tie.spec (λ c κs. search needs) (λ c. search needs))
