@@ -6,6 +6,7 @@ use Prim.Native.Nat.{ℕ, _+_, _≤_}
 use native.Mathlib.Decide.{ℕ-discrete}
 use native.Mathlib.Omega.{arith}
 use borrow.Author.Tests.{eq-eqb, ne-eqb}
+use Rattle.basics.specs.Limits.{kidWords}
 use Rattle.nodes.specs.Tally.{Live, occ}
 use Rattle.nodes.specs.Values.{heightAt, valueAt}
 use Rattle.nodes.specs.Words.{own, value, height, holds, places, slot, wordOf, putOf}
@@ -42,7 +43,7 @@ module _ {n tallest : ℕ} {t u : Tables} {d : List ℕ} {k : ℕ} (g : Grown n 
   }
 
   -- nothing that was there moved
-  pub grown-extends : n ≤ 8 → Extends n (cap t) (W t) (W u)
+  pub grown-extends : n ≤ kidWords → Extends n (cap t) (W t) (W u)
   unfolding valueAt heightAt
   grown-extends m a l =
       let z = ne-eqb a 0 (live-nonzero l) in
@@ -67,7 +68,7 @@ pub owed-node : (t : Tables) (s : ℕ) → s ≢ 0 → owed t s ≡ tablesOf (t 
 unfolding owed
 owed-node t s e = rw (ne-eqb s 0 e)
 
-module _ (n tallest : ℕ) (m : n ≤ 8) (t : Tables) (d : List ℕ) (i : Inv t d) (c : Content n tallest (cap t) (W t)) where
+module _ (n tallest : ℕ) (m : n ≤ kidWords) (t : Tables) (d : List ℕ) (i : Inv t d) (c : Content n tallest (cap t) (W t)) where
   placed-grown : (s : ℕ) → Live (cap t) (W t) s
       → Grown n tallest t (tablesOf (t .arena) (putOf (t .nodes) (slot s) places (W t (slot s) places + 1)) (t .find)) (s ∷ d) 0
   placed-grown s l =
@@ -135,7 +136,7 @@ module _ (n tallest : ℕ) (t : Tables) (k : ℕ) (ks d : List ℕ) where
   rest-live g h y a b = grown-live g y (h y a (omega (arith, occ-cons y k ks)))
 
 -- each of the list gets one place more
-pub each-grown : (n tallest : ℕ) → n ≤ 8 → (ks : List ℕ) (t : Tables) (d : List ℕ) → Inv t d → Content n tallest (cap t) (W t)
+pub each-grown : (n tallest : ℕ) → n ≤ kidWords → (ks : List ℕ) (t : Tables) (d : List ℕ) → Inv t d → Content n tallest (cap t) (W t)
     → ((y : ℕ) → y ≢ 0 → 1 ≤ occ y ks → Live (cap t) (W t) y) → Grown n tallest t (each owed t ks) (ks ++ d) 0
 each-grown n tallest m [] t d i c h = rw (each-nil t) (grown-none i c)
 each-grown n tallest m (k ∷ ks) t d i c h =

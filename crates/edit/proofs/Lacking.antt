@@ -101,7 +101,7 @@ module _ {n tallest : ℕ} {t : Tables} {root d : ℕ} {cell : List ℕ} (q : Po
         newly = lacks-newly (lack-right q v low k (o .id) (o .slots) (o .words) e u (o .made) (o .grows) (o .anew));
       }
 
-  -- the result has a number of nodes that are not live (at depths that ids of 32 bits for a slot leave room for) ..
+  -- the result has a number of nodes that are not live (at a depth below 2^31: an arena imagined has no more than 2^32 slots) ..
   pub missing-some : d < 2 ^ 31 → (k : ℕ) × Missing n t root cell v k
   missing-some h = cases (ℕ-discrete (look (W t) cell root) v)
       (λ z. (0, itself root (q .there) (asked z refl)))

@@ -7,6 +7,7 @@ use Prim.Native.Nat.{ℕ, zero, suc, _+_, _-_, _≤_, _<_}
 use native.Mathlib.Decide.{ℕ-discrete, decLt}
 use native.Mathlib.Omega.{arith}
 use lib.Dec.{eqb}
+use Rattle.basics.specs.Limits.{kidWords, largestValue, mostHolds}
 use Rattle.basics.specs.Pick.{pick}
 use lib.ListN.{length, getD, set, replicate, length-set}
 use borrow.Author.Tests.{eqb-true, ne-eqb}
@@ -99,9 +100,9 @@ pub record Low (n tallest : ℕ) (t : Tables) (x : ℕ) (p : List ℕ) (a c j : 
   pub mixed : Mixed n (replace (part (W t) a) c (o .id))
   pub holds-kept : (s : ℕ) → s < cap t → W (o .after) s holds ≡ W t s holds
   pub only : (y : ℕ) → Live (cap t) (W (o .after)) y → Live (cap t) (W t) y ⊎ Below n (W (o .after)) (o .id) y
-  pub lone : (s : ℕ) → LiveSlot (o .after) s → ((i : ℕ) → i < 8 → W (o .after) s i ≡ getD (wordsOf n (replace (part (W t) a) c (o .id))) i 0) → ⊥
+  pub lone : (s : ℕ) → LiveSlot (o .after) s → ((i : ℕ) → i < kidWords → W (o .after) s i ≡ getD (wordsOf n (replace (part (W t) a) c (o .id))) i 0) → ⊥
 
-module _ (n tallest : ℕ) (t : Tables) (m : n ≤ 8) (two : 1 < n) (w : WellFormed n tallest t) (x : ℕ) (small : x ≤ 65535) where
+module _ (n tallest : ℕ) (t : Tables) (m : n ≤ kidWords) (two : 1 < n) (w : WellFormed n tallest t) (x : ℕ) (small : x ≤ largestValue) where
   pos : 1 ≤ n
   pos = omega arith
 
@@ -119,7 +120,7 @@ module _ (n tallest : ℕ) (t : Tables) (m : n ≤ 8) (two : 1 < n) (w : WellFor
   grown-made {u} g = subst (λ (c : ℕ). WellMade n c (W u)) (g .caps) (content-made n tallest (cap u) (W u) m (g .inv .sized .most) (g .content))
 
   -- ---- the leaf
-  leaf-done : (a k h q : ℕ) → planOf n t x [] a ≡ lack k → t .arena .live + k < cap t → h ≤ 1000000 → 1 ≤ h + q → Done n tallest t x [] a k h q (makeOf n t x [] a h q)
+  leaf-done : (a k h q : ℕ) → planOf n t x [] a ≡ lack k → t .arena .live + k < cap t → h ≤ mostHolds → 1 ≤ h + q → Done n tallest t x [] a k h q (makeOf n t x [] a h q)
   unfolding planOf makeOf
   leaf-done a k h q e room few held = go (cell-came n tallest t m pos w x)
     where
@@ -182,7 +183,7 @@ module _ (n tallest : ℕ) (t : Tables) (m : n ≤ 8) (two : 1 < n) (w : WellFor
         lack-inj (sym o ∙ e),
       )
         where
-          lone-have : (i : ℕ) → LiveSlot (owed t s) i → ((j : ℕ) → j < 8 → W (owed t s) i j ≡ getD (wordsOf n f) j 0) → branchSlot t (wordsOf n f) ≡ 0 → ⊥
+          lone-have : (i : ℕ) → LiveSlot (owed t s) i → ((j : ℕ) → j < kidWords → W (owed t s) i j ≡ getD (wordsOf n f) j 0) → branchSlot t (wordsOf n f) ≡ 0 → ⊥
           lone-have i lv same z =
               let o = owed-word t s i own (omega arith) in
               let c = g .caps in
@@ -219,8 +220,8 @@ module _ (n tallest : ℕ) (t : Tables) (m : n ≤ 8) (two : 1 < n) (w : WellFor
         let pl = i .counts .placed (o .id) lo in
         let pu = r .put in
         let kid : W (o .after) s c ≡ o .id = same c (omega arith) ∙ words-at n (replace (part (W t) a) c (o .id)) c (omega arith) b ∙ replace-same (part (W t) a) c (o .id) c refl in
-        let oc : 1 ≤ occ (o .id) (kidsOf 8 (W (o .after)) s) = subst (λ (z : ℕ). 1 ≤ occ z (kidsOf 8 (W (o .after)) s)) kid (kid-occ 8 (W (o .after)) s c (omega arith)) in
-        omega (arith, occ-le-tally 8 (cap (o .after)) (W (o .after)) s (o .id) (lv .0), occ-here (o .id) [], occ-nil (o .id));
+        let oc : 1 ≤ occ (o .id) (kidsOf kidWords (W (o .after)) s) = subst (λ (z : ℕ). 1 ≤ occ z (kidsOf kidWords (W (o .after)) s)) kid (kid-occ kidWords (W (o .after)) s c (omega arith)) in
+        omega (arith, occ-le-tally kidWords (cap (o .after)) (W (o .after)) s (o .id) (lv .0), occ-here (o .id) [], occ-nil (o .id));
   }
     where
       new : LiveOr0 (cap t) (W t) (o .id) → ⊥
@@ -230,7 +231,7 @@ module _ (n tallest : ℕ) (t : Tables) (m : n ≤ 8) (two : 1 < n) (w : WellFor
   -- ---- the branch over it
 
   module _ (d c a j h q : ℕ) (p : List ℕ) (o : Out) (l : LiveOr0 (cap t) (W t) a) (low : heightAt (W t) a ≤ suc d) (b : c < n) (cell : Cell n d p)
-      (tall : suc d ≤ tallest) (room : t .arena .live + suc j < cap t) (few : h ≤ 1000000) (held : 1 ≤ h + q) (r : Low n tallest t x p a c j o) where
+      (tall : suc d ≤ tallest) (room : t .arena .live + suc j < cap t) (few : h ≤ mostHolds) (held : 1 ≤ h + q) (r : Low n tallest t x p a c j o) where
     abbrev f : ℕ → ℕ
     f = replace (part (W t) a) c (o .id)
 
@@ -243,7 +244,7 @@ module _ (n tallest : ℕ) (t : Tables) (m : n ≤ 8) (two : 1 < n) (w : WellFor
     abbrev v : Tables
     v = each owed u (set ks c 0)
 
-    pub eight : length ks ≡ 8
+    pub eight : length ks ≡ kidWords
     eight = words-length n f
 
     at-c : getD ks c 0 ≡ o .id
@@ -279,12 +280,12 @@ module _ (n tallest : ℕ) (t : Tables) (m : n ≤ 8) (two : 1 < n) (w : WellFor
     others-live y e z =
         let k = occ-in (set ks c 0) y z in
         let i = k .0 in
-        let g : length (set ks c 0) ≡ 8 = length-set ks c 0 ∙ eight in
-        let i8 : i < 8 = (let q = k .1 in omega arith) in
+        let g : length (set ks c 0) ≡ kidWords = length-set ks c 0 ∙ eight in
+        let in-words : i < kidWords = (let q = k .1 in omega arith) in
         let ne : i ≢ c = (λ (s : i ≡ c). e (sym (k .2) ∙ ap (λ (z : ℕ). getD (set ks c 0) z 0) s ∙ set-at ks c 0 (omega (arith, eight)))) in
         let w₁ : getD ks i 0 ≡ y = sym (set-other ks c 0 i ne) ∙ k .2 in
-        let i-n : i < n = cases (decLt i n) (λ s. s) (λ s. absurd (e (sym w₁ ∙ words-past n f i (omega arith) i8))) in
-        let fy : f i ≡ y = sym (words-at n f i i8 i-n) ∙ w₁ in
+        let i-n : i < n = cases (decLt i n) (λ s. s) (λ s. absurd (e (sym w₁ ∙ words-past n f i (omega arith) in-words))) in
+        let fy : f i ≡ y = sym (words-at n f i in-words i-n) ∙ w₁ in
         live-u y (subst (λ (z : ℕ). LiveOr0 (cap t) (W u) z) fy (part-fine i i-n .0)) e
 
     pub placed : Grown n tallest u v (ks ++ []) 0
@@ -312,7 +313,7 @@ module _ (n tallest : ℕ) (t : Tables) (m : n ≤ 8) (two : 1 < n) (w : WellFor
         omega arith) in
         omega arith
 
-    lone-v : (s : ℕ) → LiveSlot v s → ((i : ℕ) → i < 8 → W v s i ≡ getD ks i 0) → ⊥
+    lone-v : (s : ℕ) → LiveSlot v s → ((i : ℕ) → i < kidWords → W v s i ≡ getD ks i 0) → ⊥
     lone-v s lv same =
         let e = each-word (set ks c 0) u s own (omega arith) in
         let z = each-cap (set ks c 0) u in
@@ -346,10 +347,10 @@ module _ (n tallest : ℕ) (t : Tables) (m : n ≤ 8) (two : 1 < n) (w : WellFor
     branch-end =
         let g = one .grown in
         let s = some-kid ks some in
-        let i8 : s .0 < 8 = (let q = s .1 in let e = eight in omega arith) in
+        let in-words : s .0 < kidWords = (let q = s .1 in let e = eight in omega arith) in
         is-branch n tallest (cap (end .after)) (W (end .after)) m (g .inv .sized .most) (g .content) (end .id) (s .0)
-        (subst (λ (k : ℕ). Live k (W (end .after)) (end .id)) (sym (g .caps)) (one .fresh .live)) i8
-        (λ e. s .2 (sym (one .fresh .kid (s .0) i8) ∙ e))
+        (subst (λ (k : ℕ). Live k (W (end .after)) (end .id)) (sym (g .caps)) (one .fresh .live)) in-words
+        (λ e. s .2 (sym (one .fresh .kid (s .0) in-words) ∙ e))
 
     -- its slot was dead: what was live in t is live in v, and there its slot is dead
     dead-end : W t (slot (end .id)) own < floor
@@ -358,7 +359,7 @@ module _ (n tallest : ℕ) (t : Tables) (m : n ≤ 8) (two : 1 < n) (w : WellFor
         let s = slot (end .id) in
         let i = wf-inv n tallest t m w in
         let low = live-end .low in
-        let lv = live-own 8 (cap t) (W t) [] (i .counts) s low (omega arith) in
+        let lv = live-own kidWords (cap t) (W t) [] (i .counts) s low (omega arith) in
         let e = i .counts .ids s low (omega arith) in
         let g = grown-live (grown-trans (r .grown) placed) (W t s own) lv in
         let y : W v s own ≡ W t s own = ap (λ (k : ℕ). W v k own) (sym e) ∙ g .is in
@@ -400,7 +401,7 @@ module _ (n tallest : ℕ) (t : Tables) (m : n ≤ 8) (two : 1 < n) (w : WellFor
   up-step : (d c a k h q : ℕ) (p : List ℕ) → LiveOr0 (cap t) (W t) a → heightAt (W t) a ≤ suc d → c < n → Cell n d p → suc d ≤ tallest
       → (pl : Need) (new : Out) → Plan n (cap t) (W t) x p (part (W t) a c) pl
       → ((j : ℕ) → pl ≡ lack j → t .arena .live + j < cap t → Done n tallest t x p (part (W t) a c) j 0 1 new)
-      → upNeed (λ s. needOf n t (replace (part (W t) a) c s)) pl ≡ lack k → t .arena .live + k < cap t → h ≤ 1000000 → 1 ≤ h + q
+      → upNeed (λ s. needOf n t (replace (part (W t) a) c s)) pl ≡ lack k → t .arena .live + k < cap t → h ≤ mostHolds → 1 ≤ h + q
       → Done n tallest t x (c ∷ p) a k h q (over c a h q (lowOf t pl new))
   unfolding upNeed lowOf
   up-step d c a k h q p l low b cell tall (have s) new u ih e room few held =
@@ -415,7 +416,7 @@ module _ (n tallest : ℕ) (t : Tables) (m : n ≤ 8) (two : 1 < n) (w : WellFor
 
   -- what the making leaves
   pub make-done : {d : ℕ} {p : List ℕ} (a k h q : ℕ) → LiveOr0 (cap t) (W t) a → heightAt (W t) a ≤ d → d ≤ tallest → Cell n d p
-      → planOf n t x p a ≡ lack k → t .arena .live + k < cap t → h ≤ 1000000 → 1 ≤ h + q → Done n tallest t x p a k h q (makeOf n t x p a h q)
+      → planOf n t x p a ≡ lack k → t .arena .live + k < cap t → h ≤ mostHolds → 1 ≤ h + q → Done n tallest t x p a k h q (makeOf n t x p a h q)
   unfolding makeOf planOf
   make-done a k h q l low tall here e room few held = leaf-done a k h q e room few held
   make-done a k h q l low tall (down {d = d} {c = c} {p = p} b cell) e room few held =
