@@ -2,13 +2,14 @@
 use mathlib.Core.Path.{_≡_, refl, sym, ap, ap₂, _∙_}
 use mathlib.Core.Bool.{Bool, true, false}
 use mathlib.Core.List.{List}
-use Prim.Native.Nat.{ℕ, _+_, _-_, _≤_, _<_}
+use Prim.Native.Nat.{ℕ, suc, _+_, _-_, _≤_, _<_}
 use native.Mathlib.Decide.{ℕ-discrete}
 use native.Mathlib.Numerals.{add-one}
 use native.Mathlib.Omega.{arith}
 use lib.Dec.{eqb}
 use lib.ListN.{length, getD, drop}
 use borrow.Author.Tests.{eq-eqb, eqb-true, ne-eqb, lt-ltb, le-ltb}
+use Rattle.basics.specs.Limits.{deepest}
 use Rattle.basics.specs.Pick.{pick}
 use Rattle.nodes.specs.Tally.{kidsOf}
 use Rattle.nodes.specs.Words.{factOf, factPut, holds, kidOf, nodes, places, putOf, slot, value, wordOf}
@@ -123,12 +124,12 @@ module _ (a : Arena) (k f e : List ℕ) (id s : ℕ) (m m′ : List ℕ) (r : Bo
   unfolding settled settledN putOf wordOf
   settled-is = ap (λ (l : List ℕ). tables a k l e) (em ∙ ap (λ (z : ℕ). factPut (factPut f z holds (factOf f z holds - 1)) z places (moreOf (factOf f z places))) es)
 
-  by-drop : (x : Tables) → x ≡ dropPlace 7 (tables a k m e) id → x ≡ releaseBy 6 (tables a k f e) id
+  by-drop : (x : Tables) → x ≡ dropPlace (suc deepest) (tables a k m e) id → x ≡ releaseBy deepest (tables a k f e) id
   unfolding releaseBy
-  by-drop x ex = ex ∙ ap (λ (t : Tables). dropPlace 7 t id) settled-is
+  by-drop x ex = ex ∙ ap (λ (t : Tables). dropPlace (suc deepest) t id) settled-is
 
-  pub hold-stays : r ≡ false → tables a k m′ e ≡ releaseBy 6 (tables a k f e) id
+  pub hold-stays : r ≡ false → tables a k m′ e ≡ releaseBy deepest (tables a k f e) id
   hold-stays z = by-drop (tables a k m′ e) (drop-taken 6 a k m e id r m′ eo z)
 
-  pub hold-goes : (x : Tables) → r ≡ true → x ≡ dropSlot 6 (tables a k m′ e) s → x ≡ releaseBy 6 (tables a k f e) id
+  pub hold-goes : (x : Tables) → r ≡ true → x ≡ dropSlot deepest (tables a k m′ e) s → x ≡ releaseBy deepest (tables a k f e) id
   hold-goes x z ex = by-drop x (drop-last 6 a k m e id r m′ eo s x z es ex)

@@ -8,6 +8,7 @@ use native.Mathlib.Decide.{ℕ-discrete, decLt}
 use native.Mathlib.Omega.{arith}
 use lib.Dec.{eqb, leb}
 use lib.ListN.{getD}
+use Rattle.basics.specs.Limits.{deepest, cubeKids}
 use Rattle.basics.specs.Pick.{pick}
 use Rattle.basics.specs.Sums.{average}
 use Rattle.ids.specs.Ids.{generationOf}
@@ -103,7 +104,7 @@ module _ (k f : List ℕ) (s : ℕ) where
     unfolding leafFine wordOf
     leaf-tells = tells-and leaf-named (λ e. tells-not (tells-eq (U s value) 0) (tells-eq (U s height) 0))
 
-    tall-tells : (top : ℕ) → Tells (tallAt f top s) ((U s height ≡ suc top) × (U s height ≤ 6))
+    tall-tells : (top : ℕ) → Tells (tallAt f top s) ((U s height ≡ suc top) × (U s height ≤ deepest))
     unfolding tallAt wordOf
     tall-tells top =
         tells-map (λ r. let d = r .0 in cases (ℕ-discrete (U s height) 0) (λ z. absurd (d z)) (λ z. omega arith)) (λ r. ((λ z. omega arith), (r .1, omega arith)))
@@ -114,7 +115,7 @@ module _ (k f : List ℕ) (s : ℕ) where
       Parts =
           (U s own ≡ branchId (kidsOf 8 U s) s gen)
           × (((i : ℕ) → i < 8 → U s i ≢ 0 → Live c U (U s i))
-          × ((U s value ≡ average 8 (λ i. valueAt U (U s i))) × ((U s height ≡ suc (maxTo 8 (λ i. heightAt U (U s i)))) × (U s height ≤ 6))))
+          × ((U s value ≡ average 8 (λ i. valueAt U (U s i))) × ((U s height ≡ suc (maxTo 8 (λ i. heightAt U (U s i)))) × (U s height ≤ deepest))))
 
       each-tells : Tells (allLive c (factOf f) (kidsOf 8 U s)) ((i : ℕ) → i < 8 → U s i ≢ 0 → Live c U (U s i))
       unfolding liveOrEmpty liveOf wordOf
@@ -133,7 +134,7 @@ module _ (k f : List ℕ) (s : ℕ) where
           (λ l. tells-and (value-tells l) (λ v. rw (top-facts k f (kidsOf 8 U s), top-kids c U s) (tall-tells (maxTo 8 (λ i. heightAt U (U s i)))))))
 
       -- without children it is a leaf, else a branch
-      kind-tells : Tells (kindFine f c (kidsOf 8 U s) s) (LeafNode U s ⊎ BranchNode 8 6 c U s)
+      kind-tells : Tells (kindFine f c (kidsOf 8 U s) s) (LeafNode U s ⊎ BranchNode cubeKids deepest c U s)
       unfolding kindFine
       kind-tells =
           tells-if (none-tells c U s)
@@ -155,7 +156,7 @@ module _ (k f : List ℕ) (s : ℕ) where
           branch-tells)
 
       live-fine : Tells (liveFine k f c s)
-          (((U s holds ≤ 1000000) × ((1 ≤ U s holds + U s places) × (U s link ≡ 0))) × (LeafNode U s ⊎ BranchNode 8 6 c U s))
+          (((U s holds ≤ 1000000) × ((1 ≤ U s holds + U s places) × (U s link ≡ 0))) × (LeafNode U s ⊎ BranchNode cubeKids deepest c U s))
       unfolding liveFine countsFine wordOf
       live-fine =
           tells-and
@@ -215,7 +216,7 @@ module _ (k f : List ℕ) (c next : ℕ) where
   X = wordOf (nodes k f)
 
   abbrev Good : ℕ → Type 0
-  Good s = GoodSlot 8 6 c next X s
+  Good s = GoodSlot cubeKids deepest c next X s
 
   -- a slot that the code calls fine has a small value, and so has a good one
   fine-small : (s : ℕ) → slotFine k f c next s ≡ true → X s value ≤ 65535
@@ -251,7 +252,7 @@ module _ (k f : List ℕ) (c next : ℕ) where
     where
       either : (X s spare ≡ 0) × ((X s value ≤ 65535) × (generationOf (X s own) ≤ 0x7FFD))
           → Tells (pick (leb floor (factOf f s own)) (liveFine k f c s) (deadFine k f s))
-          ((floor ≤ X s own → ((X s holds ≤ 1000000) × ((1 ≤ X s holds + X s places) × (X s link ≡ 0))) × (LeafNode X s ⊎ BranchNode 8 6 c X s)) × (X s own < floor → Cleared X s))
+          ((floor ≤ X s own → ((X s holds ≤ 1000000) × ((1 ≤ X s holds + X s places) × (X s link ≡ 0))) × (LeafNode X s ⊎ BranchNode cubeKids deepest c X s)) × (X s own < floor → Cleared X s))
       either p =
           let e : X s own ≡ factOf f s own = word-fact (nodes k f) s own (omega arith) in
           tells-if (tells-le floor (factOf f s own))

@@ -5,6 +5,7 @@ use Prim.Native.Nat.{ℕ, suc, _-_, _≤_, _<_}
 use native.Mathlib.Omega.{arith}
 use lib.ListN.{getD}
 use borrow.Author.Tests.{eq-eqb, ne-eqb, le-leb, lt-leb}
+use Rattle.basics.specs.Limits.{deepest}
 use Rattle.nodes.specs.Words.{wordOf, nodes, kidOf}
 use Rattle.tree.specs.Cells.{pathBy, cubePath, pathTo}
 use Rattle.tree.specs.Anew.{part}
@@ -19,31 +20,31 @@ use Rattle.edit_plan.proofs.Plans.{parts-kids, part-at}
 use Rattle.edit_make.specs.Models.{owe, oweAll, leafAnewBy, upBy, makeBy, makeAt}
 
 -- at a depth of at most 6 the nodes over the cell's path
-pub make-path : (t : Tables) (v : ℕ) (c : Cell) (id : ℕ) (b : Plan) (h q : ℕ) → c .depth ≤ 6 → makeAt t v c id b h q ≡ makeBy t v (pathTo c) id b h q
+pub make-path : (t : Tables) (v : ℕ) (c : Cell) (id : ℕ) (b : Plan) (h q : ℕ) → c .depth ≤ deepest → makeAt t v c id b h q ≡ makeBy t v (pathTo c) id b h q
 unfolding makeAt
-make-path t v c id b h q l = rw (le-leb (c .depth) 6 l)
+make-path t v c id b h q l = rw (le-leb (c .depth) deepest l)
 
 module _ (a : Arena) (k f e : List ℕ) (v id : ℕ) (c : Cell) (b : Plan) (h q : ℕ) where
-  pub make-deep : 6 < c .depth → refused 2 (tables a k f e) ≡ makeAt (tables a k f e) v c id b h q
+  pub make-deep : deepest < c .depth → refused 2 (tables a k f e) ≡ makeAt (tables a k f e) v c id b h q
   unfolding makeAt
-  make-deep l = rw (lt-leb (c .depth) 6 l)
+  make-deep l = rw (lt-leb (c .depth) deepest l)
 
   none : (p g : List ℕ) → b .new ≡ 0 → g ≡ owe f (b .id) → said 0 (b .id) (tables a k g e) ≡ makeBy (tables a k f e) v p id b h q
   unfolding makeBy oweAll
   none [] g n eg = rw (eq-eqb (b .new) 0 n) (ap (λ (m : List ℕ). said 0 (b .id) (tables a k m e)) eg)
   none (o ∷ p) g n eg = rw (eq-eqb (b .new) 0 n) (ap (λ (m : List ℕ). said 0 (b .id) (tables a k m e)) eg)
 
-  pub make-up : (r : Out) → c .depth ≤ 6 → r ≡ makeBy (tables a k f e) v (pathTo c) id b h q → r ≡ makeAt (tables a k f e) v c id b h q
+  pub make-up : (r : Out) → c .depth ≤ deepest → r ≡ makeBy (tables a k f e) v (pathTo c) id b h q → r ≡ makeAt (tables a k f e) v c id b h q
   make-up r l er = er ∙ sym (make-path (tables a k f e) v c id b h q l)
 
-  pub make-none : (g : List ℕ) → c .depth ≤ 6 → b .new ≡ 0 → g ≡ owe f (b .id) → said 0 (b .id) (tables a k g e) ≡ makeAt (tables a k f e) v c id b h q
+  pub make-none : (g : List ℕ) → c .depth ≤ deepest → b .new ≡ 0 → g ≡ owe f (b .id) → said 0 (b .id) (tables a k g e) ≡ makeAt (tables a k f e) v c id b h q
   make-none g l n eg = make-up _ l (none (pathTo c) g n eg)
 
   pub make-end : (r : Out) → c .depth ≡ 0 → (b .new ≡ 0 → ⊥) → r ≡ leafAnewBy (tables a k f e) v h q → r ≡ makeAt (tables a k f e) v c id b h q
   unfolding makeAt makeBy pathBy
   make-end r l n er = rw (l, ne-eqb (b .new) 0 n) er
 
-  pub make-step : (o : ℕ) (ks : List ℕ) (low r : Out) → 1 ≤ c .depth → c .depth ≤ 6 → 1 ≤ b .new → ks ≡ eightParts (kidOf k) id
+  pub make-step : (o : ℕ) (ks : List ℕ) (low r : Out) → 1 ≤ c .depth → c .depth ≤ deepest → 1 ≤ b .new → ks ≡ eightParts (kidOf k) id
       → o ≡ octant (c .depth - 1) (c .x) (c .y) (c .z) → o < 8
       → low ≡ makeAt (tables a k f e) v (cellFrom (c .depth - 1) (c .x) (c .y) (c .z)) (getD ks o 0) (planned (b .new - 1) (b .id)) 0 1
       → r ≡ upBy low ks o h q → r ≡ makeBy (tables a k f e) v (pathTo c) id b h q

@@ -13,6 +13,7 @@ use lib.Signed.{mag}
 use mir.Syntax.{w32}
 use mir.Val.{Fits, SFits, toZ}
 use mir.ValLaws.{toZ-ofZ}
+use Rattle.basics.specs.Limits.{deepest}
 use Rattle.basics.specs.Bits.{bit}
 use Rattle.paths.specs.declared.IVec3.{IVec3}
 use Rattle.paths.specs.declared.ChildIndex.{ChildIndex}
@@ -86,30 +87,30 @@ too-long c h = rw (le-ltb c (2 ^ 30) h)
 
 module _ (p : IVec3) (k d : ℕ) where
   -- Each way through the tests.
-  pub no-depth : 6 < d → 2 ≡ childNo p k d
+  pub no-depth : deepest < d → 2 ≡ childNo p k d
   unfolding childNo
-  no-depth h = rw (lt-leb d 6 h)
+  no-depth h = rw (lt-leb d deepest h)
 
-  pub no-level : d ≤ 6 → d ≤ k → 2 ≡ childNo p k d
+  pub no-level : d ≤ deepest → d ≤ k → 2 ≡ childNo p k d
   unfolding childNo
-  no-level h l = rw (le-leb d 6 h, le-ltb k d l)
+  no-level h l = rw (le-leb d deepest h, le-ltb k d l)
 
-  module _ (h : d ≤ 6) (l : k < d) where
+  module _ (h : d ≤ deepest) (l : k < d) where
     pub off-x : inside d (p .x) ≡ false → 3 ≡ childNo p k d
     unfolding childNo
-    off-x x = rw (le-leb d 6 h, lt-ltb k d l, x)
+    off-x x = rw (le-leb d deepest h, lt-ltb k d l, x)
 
     pub off-y : inside d (p .x) ≡ true → inside d (p .y) ≡ false → 3 ≡ childNo p k d
     unfolding childNo
-    off-y x y = rw (le-leb d 6 h, lt-ltb k d l, x, y)
+    off-y x y = rw (le-leb d deepest h, lt-ltb k d l, x, y)
 
     pub off-z : inside d (p .x) ≡ true → inside d (p .y) ≡ true → inside d (p .z) ≡ false → 3 ≡ childNo p k d
     unfolding childNo
-    off-z x y z = rw (le-leb d 6 h, lt-ltb k d l, x, y, z)
+    off-z x y z = rw (le-leb d deepest h, lt-ltb k d l, x, y, z)
 
     pub in-all : inside d (p .x) ≡ true → inside d (p .y) ≡ true → inside d (p .z) ≡ true → 0 ≡ childNo p k d
     unfolding childNo
-    in-all x y z = rw (le-leb d 6 h, lt-ltb k d l, x, y, z)
+    in-all x y z = rw (le-leb d deepest h, lt-ltb k d l, x, y, z)
 
 -- A test of a coordinate, from the flag that a call gave for it.
 pub seen : (d : ℕ) (x : ℤ) (t b : Bool) → mag x < 2 ^ 31 → t ≡ inside d (back x) → t ≡ b → inside d x ≡ b

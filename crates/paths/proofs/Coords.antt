@@ -13,6 +13,7 @@ use lib.Signed.{ltZ, nonNeg, mag}
 use mir.Syntax.{w32}
 use mir.Val.{SFits, Fits, toZ, ofZ}
 use mir.ValLaws.{toZ-ofZ}
+use Rattle.basics.specs.Limits.{deepest}
 use Rattle.paths.specs.declared.IVec3.{IVec3}
 use Rattle.paths.specs.Paths.{low10, inside, whole, coordOf, cellFrom, toCell}
 
@@ -104,7 +105,7 @@ module _ (x : ℤ) (f : SFits w32 x) where
     unfolding coordOf
     coord-plain m e = rw (e, back-is) (sym (ap coordOf is-plain))
 
-    pub inside-plain : (d m : ℕ) → d ≤ 6 → m ≡ mag (back x) → ltb m (1 * 2 ^ d % 2 ^ 32) ≡ inside d x
+    pub inside-plain : (d m : ℕ) → d ≤ deepest → m ≡ mag (back x) → ltb m (1 * 2 ^ d % 2 ^ 32) ≡ inside d x
     unfolding inside
     inside-plain d m l e =
         let q : 2 ^ d < 2 ^ 32 = lt-of-le-of-lt (pow-mono l) (lit< tt) in

@@ -9,6 +9,7 @@ use lib.Dec.{leb, ltb}
 use lib.IntN.{ℤ, pos, negsuc}
 use lib.Bits.{bitOr, or-lt, or-zero-r}
 use lib.Pow.{pow-pos, pow-mono, pow-add, shr-shr}
+use Rattle.basics.specs.Limits.{deepest}
 use Rattle.basics.specs.Bits.{bit, field}
 use Rattle.basics.specs.Pick.{pick}
 use Rattle.paths.specs.declared.IVec3.{IVec3}
@@ -175,7 +176,7 @@ low10-inside d (negsuc n) h l = let q : _≡_ {A = ℕ} 0 1 = cc in absurd (omeg
 
 -- What the number 0 says of a child number that was asked: depth, level and cell are in range.
 pub record Accepted (p : IVec3) (k d : ℕ) : Type 0 where
-  pub depth : d ≤ 6
+  pub depth : d ≤ deepest
   pub level : k < d
   pub on-x : inside d (p .x) ≡ true
   pub on-y : inside d (p .y) ≡ true
@@ -190,7 +191,7 @@ past false x r h e = absurd (h e)
 pub child-accepted : (p : IVec3) (k d : ℕ) → childNo p k d ≡ 0 → Accepted p k d
 unfolding childNo
 child-accepted p k d e =
-    let a = past (leb d 6) _ 2 (omega arith) e in
+    let a = past (leb d deepest) _ 2 (omega arith) e in
     let b = past (ltb k d) _ 2 (omega arith) (a .1) in
     let x = past (inside d (p .x)) _ 3 (omega arith) (b .1) in
     let y = past (inside d (p .y)) _ 3 (omega arith) (x .1) in

@@ -11,6 +11,7 @@ use lib.Bits.{bitOr, or-lt, or-add-and, and-le-l, and-le-r}
 use lib.Dec.{ltb, leb, eqb}
 use lib.IntN.{ℤ, pos, negsuc}
 use lib.Pow.{pow-mono}
+use Rattle.basics.specs.Limits.{deepest}
 use Rattle.basics.specs.Pick.{pick}
 use Rattle.basics.proofs.Rungs.{pick-yes, rung-yes, rung-no, via-yes, via-no, rungs, eq-via, ne-via, past-yes}
 use Rattle.nodes.specs.Words.{Words, nodes, own, kidOf, factOf, wordOf, slot, floor}
@@ -33,10 +34,10 @@ use Rattle.read_cell.proofs.Ends.{look-descent, end-kids, val-facts}
 
 -- ---- sides
 
-side-small : (d : ℕ) → d ≤ 6 → 2 ^ d ≤ 64
+side-small : (d : ℕ) → d ≤ deepest → 2 ^ d ≤ 64
 side-small d h = pow-mono h
 
-pub inside-test : (d x : ℕ) → d ≤ 6 → ltb x (1 * 2 ^ d % 2 ^ 32) ≡ ltb x (2 ^ d)
+pub inside-test : (d x : ℕ) → d ≤ deepest → ltb x (1 * 2 ^ d % 2 ^ 32) ≡ ltb x (2 ^ d)
 inside-test d x h =
     let k : 2 ^ d < 2 ^ 32 = omega (arith, side-small d h) in
     rw (one-mul (2 ^ d)) (ap (ltb x) (mod-eq-of-lt k))
@@ -73,7 +74,7 @@ module _ (d x y z : ℕ) where
 
 -- ---- a coordinate as a number
 
-coord-inside : (d : ℕ) (x : ℤ) → d ≤ 6 → ltb (coordOf x) (2 ^ d) ≡ inside d x
+coord-inside : (d : ℕ) (x : ℤ) → d ≤ deepest → ltb (coordOf x) (2 ^ d) ≡ inside d x
 unfolding coordOf inside
 coord-inside d (pos n) h = refl
 coord-inside d (negsuc n) h = le-ltb (2 ^ 32 - 1) (2 ^ d) (omega (arith, side-small d h))
@@ -94,10 +95,10 @@ module _ (c : ℕ) (F : Words) (id : ℕ) where
   unfolding liveOrEmpty
   there-live t h e = rung-no _ _ _ _ (ne-eqb id 0 h) e
 
-ladder-deep : (b : Bool) (d x : ℕ) → pick b (pick (leb d 6) x 2) 1 ≡ 0 → (d ≤ 6) × (x ≡ 0)
+ladder-deep : (b : Bool) (d x : ℕ) → pick b (pick (leb d deepest) x 2) 1 ≡ 0 → (d ≤ deepest) × (x ≡ 0)
 ladder-deep b d x e =
-    let p : (b ≡ true) × (pick (leb d 6) x 2 ≡ 0) = past-yes b _ _ 0 (omega arith) e in
-    let q : (leb d 6 ≡ true) × (x ≡ 0) = past-yes (leb d 6) x 2 0 (omega arith) (p .1) in
+    let p : (b ≡ true) × (pick (leb d deepest) x 2 ≡ 0) = past-yes b _ _ 0 (omega arith) e in
+    let q : (leb d deepest ≡ true) × (x ≡ 0) = past-yes (leb d deepest) x 2 0 (omega arith) (p .1) in
     (leb-true _ _ (q .0), q .1)
 
 module _ (a : Arena) (ks fs es : List ℕ) (id : ℕ) where
@@ -124,8 +125,8 @@ module _ (a : Arena) (ks fs es : List ℕ) (id : ℕ) where
   look-done c k r t e h et er =
       let M = wordOf (nodes ks fs) in
       let four : ℕ = pick (liveOrEmpty (a .capacity) (wordOf (nodes ks fs)) id) 0 4 in
-      let l : c .depth ≤ 6 = ladder-deep (fits (tables a ks fs es)) (c .depth) (within c four) (sym e ∙ h) .0 in
-      let q : t ≡ descent M 0 (pathTo c) id = et ∙ end-kids ks fs id c ∙ pick-yes _ _ _ (le-leb (c .depth) 6 l) in
+      let l : c .depth ≤ deepest = ladder-deep (fits (tables a ks fs es)) (c .depth) (within c four) (sym e ∙ h) .0 in
+      let q : t ≡ descent M 0 (pathTo c) id = et ∙ end-kids ks fs id c ∙ pick-yes _ _ _ (le-leb (c .depth) deepest l) in
       let m : r ≡ readAt M (c .depth) id (c .x) (c .y) (c .z) =
       er ∙ val-facts ks fs (t .id .0) ∙ ap (λ (i : End). valueAt M (i .id .0) % 2 ^ 16) q
       ∙ ap (λ (i : ℕ). i % 2 ^ 16) (sym (look-descent M 0 (pathTo c) id)) in
@@ -135,9 +136,9 @@ module _ (a : Arena) (ks fs es : List ℕ) (id : ℕ) where
     -- the number is the same, of coordinates and of what the code makes of them ..
     pub look-no-same : lookNoAt (tables a ks fs es) id (toCell p d) ≡ lookNo (tables a ks fs es) id d p
     unfolding lookNoAt lookNo
-    look-no-same = cases (decLe d 6)
+    look-no-same = cases (decLe d deepest)
         (λ h. rw (coord-inside d (p .x) h, coord-inside d (p .y) h, coord-inside d (p .z) h))
-        (λ h. rw (lt-leb d 6 (omega (arith, h))))
+        (λ h. rw (lt-leb d deepest (omega (arith, h))))
 
     -- .. and where none is refused so are the coordinates
     pub look-inside : lookNo (tables a ks fs es) id d p ≡ 0 → (inside d (p .x) ≡ true) × (inside d (p .y) ≡ true) × (inside d (p .z) ≡ true)

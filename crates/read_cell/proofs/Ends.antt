@@ -7,6 +7,7 @@ use mathlib.Core.Bool.{Bool, true, false}
 use mathlib.Core.List.{List, [], _∷_}
 use borrow.Author.Tests.{eq-eqb, ne-eqb, le-leb, lt-leb}
 use lib.Dec.{leb, eqb}
+use Rattle.basics.specs.Limits.{deepest}
 use Rattle.basics.specs.Pick.{pick}
 use Rattle.ids.specs.Ids.{invalid}
 use Rattle.nodes.specs.Words.{Words, nodes, value, kidOf, factOf, wordOf, slot}
@@ -117,4 +118,4 @@ module _ (ks fs : List ℕ) where
 
   pub end-kids : (id : ℕ) (c : place.Cell) → endOf (kidOf ks) id c ≡ endOf (wordOf (nodes ks fs)) id c
   unfolding endOf
-  end-kids id c = ap (λ (e : End). pick (leb (c .depth) 6) e (endAt invalid 0)) (descent-kids 0 id (cube-cell (c .depth) (c .x) (c .y) (c .z)))
+  end-kids id c = ap (λ (e : End). pick (leb (c .depth) deepest) e (endAt invalid 0)) (descent-kids 0 id (cube-cell (c .depth) (c .x) (c .y) (c .z)))

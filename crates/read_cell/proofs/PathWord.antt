@@ -9,6 +9,7 @@ use borrow.Author.Tests.{eqb-true}
 use lib.Bits.{bitAnd, and-le-r}
 use lib.Dec.{eqb}
 use lib.Pow.{shr-shr}
+use Rattle.basics.specs.Limits.{deepest}
 use Rattle.basics.specs.Pick.{pick}
 use Rattle.basics.proofs.Rungs.{past-yes}
 use Rattle.nodes.proofs.Sums.{cases}
@@ -94,7 +95,7 @@ module _ (c : Cell) where
       ∙ ap (λ (i : ℕ). i / 2 ^ (6 * k)) (word-rest (k + n))
       ∙ word-drop k n
 
-  pub word-is : (d i j k : ℕ) → d ≤ 6 → i ≡ 32 * spaced 6 (c .x) → j ≡ 32 * spaced 6 (c .y) → k ≡ 32 * spaced 6 (c .z)
+  pub word-is : (d i j k : ℕ) → d ≤ deepest → i ≡ 32 * spaced 6 (c .x) → j ≡ 32 * spaced 6 (c .y) → k ≡ 32 * spaced 6 (c .z)
       → (i + 2 * j + 4 * k + 0x20000000000) / 2 ^ (41 - 6 * d) ≡ pathWord d c
   word-is d i j k h ei ej ek =
       let e : 41 - 6 * d ≡ 5 + 6 * (6 - d) = omega arith in

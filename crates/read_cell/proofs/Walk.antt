@@ -5,6 +5,7 @@ use mathlib.Core.Path.{_≡_, _∙_, refl, sym, ap, subst}
 use mathlib.Core.Bool.{Bool, true, false}
 use mathlib.Core.List.{List, [], _∷_}
 use borrow.Author.Tests.{le-leb, lt-leb}
+use Rattle.basics.specs.Limits.{deepest}
 use Rattle.basics.proofs.Rungs.{rung-yes, rung-no}
 use Rattle.ids.specs.Ids.{invalid}
 use Rattle.nodes.specs.Words.{Words, slot}
@@ -32,15 +33,15 @@ module _ (W : Words) (c : Cell) (id : ℕ) where
   abbrev pub Walked : ℕ → ℕ → Type 0
   Walked level a = descent W 0 (pathTo c) id ≡ descent W level (last c (c .depth - level)) a
 
-  pub walk-none : 6 < c .depth → endAt invalid 0 ≡ endOf W id c
+  pub walk-none : deepest < c .depth → endAt invalid 0 ≡ endOf W id c
   unfolding endOf
-  walk-none h = rung-no _ _ _ _ (lt-leb (c .depth) 6 h) refl
+  walk-none h = rung-no _ _ _ _ (lt-leb (c .depth) deepest h) refl
 
-  walk-is : (e : End) → c .depth ≤ 6 → e ≡ descent W 0 (pathTo c) id → e ≡ endOf W id c
+  walk-is : (e : End) → c .depth ≤ deepest → e ≡ descent W 0 (pathTo c) id → e ≡ endOf W id c
   unfolding endOf
-  walk-is e h k = rung-yes _ _ _ e (le-leb (c .depth) 6 h) k
+  walk-is e h k = rung-yes _ _ _ e (le-leb (c .depth) deepest h) k
 
-  walk-stop : (level a : ℕ) (t : Bool) → c .depth ≤ 6 → t ≡ endsAt a → t ≡ true → Walked level a → endAt a level ≡ endOf W id c
+  walk-stop : (level a : ℕ) (t : Bool) → c .depth ≤ deepest → t ≡ endsAt a → t ≡ true → Walked level a → endAt a level ≡ endOf W id c
   walk-stop level a t l e u k = walk-is (endAt a level) l (sym (k ∙ stops W level (last c (c .depth - level)) a (sym e ∙ u)))
 
   pub walk-start : Walked 0 id
@@ -49,11 +50,11 @@ module _ (W : Words) (c : Cell) (id : ℕ) where
   pub walk-word : (w : ℕ) → w ≡ pathWord (c .depth) c → w ≡ pathWord (c .depth - 0) c
   walk-word w e = let q : c .depth ≡ c .depth - 0 = omega arith in e ∙ ap (λ (n : ℕ). pathWord n c) q
 
-  pub walk-first : (t : Bool) → c .depth ≤ 6 → t ≡ endsAt id → t ≡ true → endAt id 0 ≡ endOf W id c
+  pub walk-first : (t : Bool) → c .depth ≤ deepest → t ≡ endsAt id → t ≡ true → endAt id 0 ≡ endOf W id c
   walk-first t l e u = walk-stop 0 id t l e u walk-start
 
   module _ (level a w : ℕ) (e : w ≡ pathWord (c .depth - level) c) (k : Walked level a) where
-    pub walk-end : level ≤ c .depth → c .depth ≤ 6 → w ≤ 1 → endAt a (c .depth) ≡ endOf W id c
+    pub walk-end : level ≤ c .depth → c .depth ≤ deepest → w ≤ 1 → endAt a (c .depth) ≡ endOf W id c
     unfolding pathBy
     walk-end b l h =
         let q : c .depth - level ≡ 0 = word-done c (c .depth - level) (subst (λ (i : ℕ). i ≤ 1) e h) in
@@ -87,5 +88,5 @@ module _ (W : Words) (c : Cell) (id : ℕ) where
             ∙ descent-on W level (octant n (c .x) (c .y) (c .z)) (last c n) a f
             ∙ ap (descent W (level + 1) (last c n)) (sym m)
 
-        pub walk-last : (t : Bool) → c .depth ≤ 6 → t ≡ endsAt b → t ≡ true → endAt b (level + 1) ≡ endOf W id c
+        pub walk-last : (t : Bool) → c .depth ≤ deepest → t ≡ endsAt b → t ≡ true → endAt b (level + 1) ≡ endOf W id c
         walk-last t l i u = walk-stop (level + 1) b t l i u walk-on

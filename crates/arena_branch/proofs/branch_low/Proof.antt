@@ -3,6 +3,7 @@ use mathlib.Core.Path.{_≡_, sym, _∙_}
 use mathlib.Core.List.{List}
 use Prim.Native.Nat.{ℕ, _≤_, _<_}
 use borrow.Author.Tests.{lt-ltb, le-ltb}
+use Rattle.basics.specs.Limits.{deepest, cubeKids}
 use Rattle.nodes.specs.Words.{factOf, nodes, wordOf}
 use Rattle.arena.specs.Calls.{Out, refused}
 use Rattle.arena.specs.Models.{branchBy, branchLow, topFor}
@@ -16,13 +17,13 @@ module _ (a : Arena) (k f e ks : List ℕ) (top : ℕ) (et : top ≡ topFor (fac
   top-is : topFor (wordOf (nodes k f)) ks 8 ≡ top
   top-is = sym (et ∙ top-facts k f ks)
 
-  tall : 6 ≤ top → refused 8 (tables a k f e) ≡ branchLow 8 6 (tables a k f e) ks
+  tall : deepest ≤ top → refused 8 (tables a k f e) ≡ branchLow cubeKids deepest (tables a k f e) ks
   unfolding branchLow
-  tall l = rw (top-is, le-ltb top 6 l)
+  tall l = rw (top-is, le-ltb top deepest l)
 
-  fine : (w : Out) → top < 6 → w ≡ branchBy 8 (tables a k f e) ks top → w ≡ branchLow 8 6 (tables a k f e) ks
+  fine : (w : Out) → top < deepest → w ≡ branchBy cubeKids (tables a k f e) ks top → w ≡ branchLow cubeKids deepest (tables a k f e) ks
   unfolding branchLow
-  fine w l h = rw (top-is, lt-ltb top 6 l) h
+  fine w l h = rw (top-is, lt-ltb top deepest l) h
 
 pub branch-low-spec : {M : Type 1} → statement M
 branch-low-spec =

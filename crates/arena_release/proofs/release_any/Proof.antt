@@ -4,6 +4,7 @@ use mathlib.Core.List.{List}
 use Prim.Native.Nat.{ℕ}
 use lib.Dec.{eqb}
 use borrow.Author.Tests.{eq-eqb, ne-eqb}
+use Rattle.basics.specs.Limits.{deepest}
 use Rattle.basics.specs.Pick.{pick}
 use Rattle.nodes.specs.Words.{factOf, holds, slot, wordOf}
 use Rattle.arena.specs.Calls.{did, releaseNo, thereNo}
@@ -24,12 +25,12 @@ module _ (a : Arena) (k f e : List ℕ) (id x : ℕ) (ex : x ≡ thereNo (tables
       there-law t id (λ k. k) (pick (eqb (W t (slot id) holds) 0) 5 0)
       ∙ ap (λ (y : ℕ). pick (eqb y 0) (pick (eqb id 0) 0 (pick (eqb (W t (slot id) holds) 0) 5 0)) y) (sym ex)
 
-  refusal : (x ≡ 0 → ⊥) → did x t ≡ releaseAny 6 t id
+  refusal : (x ≡ 0 → ⊥) → did x t ≡ releaseAny deepest t id
   unfolding releaseAny
   refusal d = rw (number, ne-eqb x 0 d, ne-eqb x 0 d)
 
   module _ (z : x ≡ 0) where
-    nothing : id ≡ 0 → did 0 t ≡ releaseAny 6 t id
+    nothing : id ≡ 0 → did 0 t ≡ releaseAny deepest t id
     unfolding releaseAny
     nothing n = rw (number, eq-eqb x 0 z, eq-eqb id 0 n)
 
@@ -37,11 +38,11 @@ module _ (a : Arena) (k f e : List ℕ) (id x : ℕ) (ex : x ≡ thereNo (tables
       here : h ≡ factOf f (slot id) holds
       here = eh ∙ ap (λ (y : ℕ). factOf f y holds) es
 
-      unheld : (k′ f′ e′ : List ℕ) → k′ ≡ k → f′ ≡ f → e′ ≡ e → h ≡ 0 → did 5 (tables a k′ f′ e′) ≡ releaseAny 6 t id
+      unheld : (k′ f′ e′ : List ℕ) → k′ ≡ k → f′ ≡ f → e′ ≡ e → h ≡ 0 → did 5 (tables a k′ f′ e′) ≡ releaseAny deepest t id
       unfolding releaseAny wordOf
       unheld k′ f′ e′ ek ef ee n = rw (ek, ef, ee, number, eq-eqb x 0 z, ne-eqb id 0 d, eq-eqb (factOf f (slot id) holds) 0 (sym here ∙ n))
 
-      freed : (b : Arena) (k′ f′ e′ : List ℕ) → (h ≡ 0 → ⊥) → tables b k′ f′ e′ ≡ releaseBy 6 t id → did 0 (tables b k′ f′ e′) ≡ releaseAny 6 t id
+      freed : (b : Arena) (k′ f′ e′ : List ℕ) → (h ≡ 0 → ⊥) → tables b k′ f′ e′ ≡ releaseBy deepest t id → did 0 (tables b k′ f′ e′) ≡ releaseAny deepest t id
       unfolding releaseAny wordOf
       freed b k′ f′ e′ n eu = rw (number, eq-eqb x 0 z, ne-eqb id 0 d, ne-eqb (factOf f (slot id) holds) 0 (λ y. n (here ∙ y))) (ap (did 0) eu)
 
