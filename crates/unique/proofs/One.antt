@@ -15,7 +15,7 @@ use Rattle.read_cell.specs.Calls.{Expanded, expanded}
 use Rattle.unique.specs.Asked.{Plain, PlainSaid, PlainMeets, Asked, fromRaw, raw, packingNo, newLeaf, newBranch, index, generation, types, mask, hasChild, isLeaf, isBranch, isInvalid, isValid, isEmpty, text, path, position, child, fresh, hold, counts, leaf, branch, release, look, expand, edit, check, Left, Said, Meets, Speaks}
 
 -- what a contract equates can be undone: so two that it equates with one are one
-one : {A B : Type 0} (f : A → B) (back : B → A) → ((a : A) → back (f a) ≡ a) → {o : B} (a b : A) → f a ≡ o → f b ≡ o → a ≡ b
+pub one : {A B : Type 0} (f : A → B) (back : B → A) → ((a : A) → back (f a) ≡ a) → {o : B} (a b : A) → f a ≡ o → f b ≡ o → a ≡ b
 one f back e a b p q = sym (e a) ∙ ap back (p ∙ sym q) ∙ e b
 
 made-one : {o : Out} (a b : Left Made) → madeOf (a .0) (a .1) (a .2) (a .3) ≡ o → madeOf (b .0) (b .1) (b .2) (b .3) ≡ o → a ≡ b

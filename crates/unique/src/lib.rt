@@ -1,25 +1,29 @@
 // Each public call's contract determines its answer and the tables afterwards (proofs/One.antt). Nobody calls the functions below: each shows that the
-// contract of the call in its body is the one of which that is proved (specs/Asked.antt).
-use basics::KID_WORDS;
-ghost use Rattle.unique.specs.Asked.{PlainMeets, fromRaw, raw, packingNo, newLeaf, newBranch, index, generation, types, mask, hasChild, isLeaf, isBranch, isInvalid, isValid, isEmpty, text, path, position, child};
-ghost use Rattle.unique.specs.Asked.{Meets, fresh, hold, counts, leaf, branch, release, look, expand, edit, check};
-ghost use Rattle.unique.specs.Exports as exports;
-ghost use Rattle.unique.specs.Exports.{ExportMeets};
-ghost use Rattle.arena.specs.Lent.{before};
+// contract of the call in its body is the one of which that is proved (specs/).
 use arena::Answer;
 use arena::Arena;
 use arena::Counted;
 use arena::Made;
+use basics::KID_WORDS;
 use capi_ids::Packed;
 use capi_paths::Cell;
 use capi_paths::Child;
 use capi_paths::Text;
+use edit_listing::Ran;
+use edit_listing::Run;
+use edit_listing::Step;
 use ids::BlockId;
 use ids_text::IdText;
 use paths::ChildIndex;
 use paths::Decoded;
 use paths::IVec3;
 use read_cell::Looked;
+ghost use Rattle.unique.specs.Asked.{PlainMeets, fromRaw, raw, packingNo, newLeaf, newBranch, index, generation, types, mask, hasChild, isLeaf, isBranch, isInvalid, isValid, isEmpty, text, path, position, child};
+ghost use Rattle.unique.specs.Asked.{Meets, fresh, hold, counts, leaf, branch, release, look, expand, edit, check};
+ghost use Rattle.unique.specs.Listing.{ListingMeets, start, records, ending};
+ghost use Rattle.unique.specs.Exports as exports;
+ghost use Rattle.unique.specs.Exports.{ExportMeets};
+ghost use Rattle.arena.specs.Lent.{before};
 
 // ---- calls that are lent nothing
 
@@ -272,4 +276,31 @@ fn exported_text_meets(number: u64) -> Text
     ensures { λ r. ⌜ ExportMeets (exports.text number) r ⌝ }
 {
     capi_paths::fenpiling_text(number)
+}
+
+// ---- the listing of edit records
+
+fn start_meets(capacity: usize, kids: &mut [u64], facts: &mut [u64], find: &mut [u16]) -> Step
+    ensures { λ r. ⌜ ListingMeets (start capacity (now (kids .entry)) (now (facts .entry)) (now (find .entry))) (r, now (kids .exit), now (facts .exit), now (find .exit)) ⌝ }
+{
+    edit_listing::start(capacity, kids, facts, find)
+}
+
+fn records_meets(
+    run: Run,
+    kids: &mut [u64],
+    facts: &mut [u64],
+    find: &mut [u16],
+    bytes: &[u8],
+    out: &mut [u8],
+) -> Ran
+    ensures { λ r. ⌜ ListingMeets (records run (now (kids .entry)) (now (facts .entry)) (now (find .entry)) (now (bytes .entry)) (now (out .entry))) (r, now (kids .exit), now (facts .exit), now (find .exit), now (out .exit)) ⌝ }
+{
+    edit_listing::edit_records(run, kids, facts, find, bytes, out)
+}
+
+fn ending_meets(run: Run, cut: usize, out: &mut [u8]) -> usize
+    ensures { λ r. ⌜ ListingMeets (ending run cut (now (out .entry))) (r, now (out .exit)) ⌝ }
+{
+    edit_listing::ending(run, cut, out)
 }

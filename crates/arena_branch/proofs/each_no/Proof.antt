@@ -66,6 +66,7 @@ module _ (cap : ℕ) (U : Words) (ks : List ℕ) (i : ℕ) (eight : length ks �
 
 ruleset mine = (dead, few, empty, fine)
 
+-- invariant: whether all are live is whether all from number i on are; `held` and `none` say it of the first i
 abbrev Inv-loop : tie.InvT-loop
 Inv-loop capacity facts ks held₀ none₀ i₀ held none i =
     (i ≤ 8) × (length ks ≡ 8) × (allLive capacity (factOf facts) ks ≡ allLive capacity (factOf facts) (drop i ks)) × Passed (enoughFor (factOf facts) ks) ks i held × Passed (λ k. eqb k 0) ks i none

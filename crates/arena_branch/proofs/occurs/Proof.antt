@@ -24,6 +24,7 @@ module _ (y : ℕ) (ks : List ℕ) (n i : ℕ) (z : length ks ≡ 8) (e : n + oc
   last : 8 ≤ i → n ≡ occ y ks
   last l = let p = ap (occ y) (drop-none ks i z l) in omega (arith, occ-nil y)
 
+-- invariant: n and the times that y stands from number i on are the times that it stands in all
 abbrev Inv-loop : tie.InvT-loop
 Inv-loop y ks n₀ i₀ n i = (i ≤ 8) × (length ks ≡ 8) × (n ≤ i) × (n + occ y (drop i ks) ≡ occ y ks)
 

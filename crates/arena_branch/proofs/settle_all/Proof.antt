@@ -10,6 +10,7 @@ use Rattle.arena.proofs.Eight.{each-last, each-step}
 use Rattle.arena_branch.proofs.settle_all.Statement.{statement}
 use Rattle.arena_branch.proofs.settle_all.Tie as tie
 
+-- invariant: making all holds places is making those from number i on, which are left
 abbrev Inv-loop : tie.InvT-loop
 Inv-loop facts₀ ks i₀ facts i = (i ≤ 8) × (length ks ≡ 8) × (length facts ≡ length facts₀) × ((j : List ℕ) → each settledKid (nodes j facts₀) ks ≡ each settledKid (nodes j facts) (drop i ks))
 

@@ -9,6 +9,7 @@ use Rattle.arena.proofs.Eight.{each-last, each-step}
 use Rattle.arena_branch.proofs.unhold_all.Statement.{statement}
 use Rattle.arena_branch.proofs.unhold_all.Tie as tie
 
+-- invariant: ending the holds on all is ending those from number i on, which are left
 abbrev Inv-loop : tie.InvT-loop
 Inv-loop facts₀ ks i₀ facts i = (i ≤ 8) × (length ks ≡ 8) × (length facts ≡ length facts₀) × ((j : List ℕ) → each unheldKid (nodes j facts₀) ks ≡ each unheldKid (nodes j facts) (drop i ks))
 

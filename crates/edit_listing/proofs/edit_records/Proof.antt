@@ -12,6 +12,7 @@ use Rattle.edit_listing.proofs.Blocks.{kept-none, kept-again, told-is, 
 use Rattle.edit_listing.proofs.edit_records.Statement.{statement}
 use Rattle.edit_listing.proofs.edit_records.Tie as tie
 
+-- invariant: the first i records are entered and their lines written, and there is room for the rest
 abbrev Inv-loop : tie.InvT-loop
 Inv-loop kids₀ facts₀ find₀ bytes out₀ most now₀ i₀ len₀ kids facts find out now i len =
     (i ≤ most) × (len ≤ 84 * i) × (most ≡ takenOf (length bytes) (length out₀)) × (length out₀ < 2 ^ 64)

@@ -17,6 +17,7 @@ module _ (f₀ f ks : List ℕ) (i : ℕ) (eight : length ks ≡ 8) (e : oweAll 
   unfolding oweAll
   last l = sym (e ∙ ap (oweAll f) (drop-none ks i eight l))
 
+-- invariant: owing all a place is owing it to those from number i on, which are left
 abbrev Inv-loop : tie.InvT-loop
 Inv-loop facts₀ ks i₀ facts i = (i ≤ 8) × (length ks ≡ 8) × (length facts ≡ length facts₀) × (oweAll facts₀ ks ≡ oweAll facts (drop i ks))
 

@@ -1,0 +1,36 @@
+-- The contract of each call of the listing determines its answer and what it leaves.
+use mathlib.Core.Path.{_≡_, refl, sym, ap, ap₂, _∙_}
+use mathlib.Core.List.{List}
+use Prim.Native.Nat.{ℕ}
+use Rattle.edit_listing.specs.declared.Ran.{Ran}
+use Rattle.edit_listing.specs.declared.Step.{Step}
+use Rattle.edit_listing.specs.Listing.{Stepped, Told, stateOf, toldOf}
+use Rattle.unique.specs.Listing.{Listing, start, records, ending, ListingSaid, ListingMeets, ListingSpeaks, steppedOf, ranOf}
+use Rattle.unique.proofs.One.{one}
+
+stepped-one : {o : Stepped} (a b : Step × List ℕ × List ℕ × List ℕ) → steppedOf a ≡ o → steppedOf b ≡ o → a ≡ b
+stepped-one = one steppedOf
+    (λ o. (
+      record { run = record { arena = o .state .tables .arena; root = record { 0 = o .state .root }; count = o .state .count }; no = o .no },
+      o .state .tables .nodes .kids,
+      o .state .tables .nodes .facts,
+      o .state .tables .find,
+    ))
+    (λ a. refl)
+
+ran-one : {o : Told} (a b : Ran × List ℕ × List ℕ × List ℕ × List ℕ) → ranOf a ≡ o → ranOf b ≡ o → a ≡ b
+ran-one = one ranOf
+    (λ o. (
+      record { run = record { arena = o .state .tables .arena; root = record { 0 = o .state .root }; count = o .state .count }; records = o .records; len = o .len },
+      o .state .tables .nodes .kids,
+      o .state .tables .nodes .facts,
+      o .state .tables .find,
+      o .out,
+    ))
+    (λ a. refl)
+
+pub listing-determined : (q : Listing) → ListingSpeaks q → (a b : ListingSaid q) → ListingMeets q a → ListingMeets q b → a ≡ b
+listing-determined (start c k f e) s a b p q = stepped-one a b p q
+listing-determined (records r k f e x o) s a b p q =
+    ran-one a b (p .1 s) (q .1 s ∙ ap (toldOf (stateOf r k f e) x o) (q .0 ∙ sym (p .0)))
+listing-determined (ending r cut o) s a b p q = ap₂ (λ (n : ℕ) (l : List ℕ). (n, l)) (p .1 ∙ sym (q .1)) (p .0 ∙ sym (q .0))

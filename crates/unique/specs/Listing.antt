@@ -1,0 +1,44 @@
+-- The calls of the listing of edit records with what they are handed, what each answers and leaves, and its contract as the source has it.
+use mathlib.Core.Path.{_≡_}
+use mathlib.Core.List.{List}
+use Prim.Native.Nat.{ℕ}
+use lib.ListN.{length}
+use Rattle.basics.specs.Limits.{deepest, cubeKids}
+use Rattle.basics.specs.Puts.{putsFrom}
+use Rattle.arena.specs.Calls.{Fair}
+use Rattle.edit_listing.specs.declared.Run.{Run}
+use Rattle.edit_listing.specs.declared.Ran.{Ran}
+use Rattle.edit_listing.specs.declared.Step.{Step}
+use Rattle.edit_listing.specs.Listing.{Stepped, Told, stateOf, startOf, takenOf, toldOf, endingOf}
+
+-- A call: the run that it is handed, and the lists that are lent: the tables k, f and e, the bytes, and the room o for what it writes.
+pub data Listing : Type 0 where
+  start : (capacity : ℕ) (k f e : List ℕ) → Listing
+  records : Run → (k f e bytes o : List ℕ) → Listing
+  ending : Run → (cut : ℕ) (o : List ℕ) → Listing
+
+-- what it answers, and what it can write of what is lent
+abbrev pub ListingSaid : Listing → Type 0
+ListingSaid (start c k f e) = Step × List ℕ × List ℕ × List ℕ
+ListingSaid (records r k f e b o) = Ran × List ℕ × List ℕ × List ℕ × List ℕ
+ListingSaid (ending r cut o) = ℕ × List ℕ
+
+-- as one record
+abbrev pub steppedOf : Step × List ℕ × List ℕ × List ℕ → Stepped
+steppedOf a = record { state = stateOf (a .0 .run) (a .1) (a .2) (a .3); no = a .0 .no }
+
+abbrev pub ranOf : Ran × List ℕ × List ℕ × List ℕ × List ℕ → Told
+ranOf a = record { state = stateOf (a .0 .run) (a .1) (a .2) (a .3); records = a .0 .records; len = a .0 .len; out = a .4 }
+
+-- its contract
+abbrev pub ListingMeets : (q : Listing) → ListingSaid q → Type 0
+ListingMeets (start c k f e) a = steppedOf a ≡ startOf c k f e
+ListingMeets (records r k f e b o) a =
+    (a .0 .records ≡ takenOf (length b) (length o)) × (Fair cubeKids deepest (stateOf r k f e .tables) → ranOf a ≡ toldOf (stateOf r k f e) b o (a .0 .records))
+ListingMeets (ending r cut o) a = (a .1 ≡ putsFrom o 0 (endingOf cut (r .arena .live))) × (a .0 ≡ length (endingOf cut (r .arena .live)))
+
+-- on which tables it speaks
+abbrev pub ListingSpeaks : Listing → Type 0
+ListingSpeaks (start c k f e) = Unit {0}
+ListingSpeaks (records r k f e b o) = Fair cubeKids deepest (stateOf r k f e .tables)
+ListingSpeaks (ending r cut o) = Unit {0}
