@@ -226,7 +226,7 @@ fn branch(
     v: u64,
     top: u64,
 ) -> Made
-    requires { ⌜ (v ≡ valueBy cubeKids (factOf (now facts)) ks) × (top ≤ 6) ⌝ }
+    requires { ⌜ (v ≡ valueBy cubeKids (factOf (now facts)) ks) × (top ≤ deepest) ⌝ }
     ensures { λ r. ⌜ made r kids facts find ≡ branchBy cubeKids (before a kids facts find) ks top ⌝ }
 {
     let f = search(find, kids, facts, a.capacity, ks, v);

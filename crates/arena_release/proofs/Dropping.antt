@@ -129,7 +129,7 @@ module _ (a : Arena) (k f e : List ℕ) (id s : ℕ) (m m′ : List ℕ) (r : Bo
   by-drop x ex = ex ∙ ap (λ (t : Tables). dropPlace (suc deepest) t id) settled-is
 
   pub hold-stays : r ≡ false → tables a k m′ e ≡ releaseBy deepest (tables a k f e) id
-  hold-stays z = by-drop (tables a k m′ e) (drop-taken 6 a k m e id r m′ eo z)
+  hold-stays z = by-drop (tables a k m′ e) (drop-taken deepest a k m e id r m′ eo z)
 
   pub hold-goes : (x : Tables) → r ≡ true → x ≡ dropSlot deepest (tables a k m′ e) s → x ≡ releaseBy deepest (tables a k f e) id
-  hold-goes x z ex = by-drop x (drop-last 6 a k m e id r m′ eo s x z es ex)
+  hold-goes x z ex = by-drop x (drop-last deepest a k m e id r m′ eo s x z es ex)

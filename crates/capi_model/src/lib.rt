@@ -3,6 +3,7 @@
 ghost use mathlib.Core.Path.{_≡_};
 ghost use mathlib.Core.Bool.{true};
 ghost use mathlib.Core.Logic.{_↔_};
+ghost use Rattle.basics.specs.Limits.{deepest, cubeKids};
 ghost use Rattle.arena.specs.Tables.{WellFormed};
 ghost use Rattle.arena.specs.Calls.{Fair};
 ghost use Rattle.arena.specs.Lent.{before, made};
@@ -21,7 +22,7 @@ pub extern "C" fn fenpiling_check(
     facts: &mut [u64],
     find: &[u16],
 ) -> bool
-    ensures { λ r. ⌜ ((r ≡ true) ↔ WellFormed 8 6 (before arena kids facts find)) × (now (facts .exit) ≡ now (facts .entry)) ⌝ }
+    ensures { λ r. ⌜ ((r ≡ true) ↔ WellFormed cubeKids deepest (before arena kids facts find)) × (now (facts .exit) ≡ now (facts .entry)) ⌝ }
 {
     check_arena::check_arena(arena, kids, facts, find)
 }
@@ -67,7 +68,7 @@ pub extern "C" fn fenpiling_set_voxel(
     position: IVec3,
     value: u16,
 ) -> Made
-    ensures { λ r. ⌜ (Fair 8 6 (before arena kids facts find) → made r kids facts find ≡ editOf (before arena kids facts find) root depth position value) ⌝ }
+    ensures { λ r. ⌜ (Fair cubeKids deepest (before arena kids facts find) → made r kids facts find ≡ editOf (before arena kids facts find) root depth position value) ⌝ }
 {
     edit::set_voxel(
         arena,

@@ -7,6 +7,7 @@ use Prim.Native.Nat.{ℕ, _≤_, _<_}
 use native.Mathlib.Decide.{decLt}
 use native.Mathlib.Omega.{arith}
 use borrow.Author.Tests.{not-false}
+use Rattle.basics.specs.Limits.{deepest, cubeKids}
 use Rattle.nodes.specs.Words.{Words, own, link, nodes, kidOf, wordOf, slot, floor}
 use Rattle.nodes.specs.Tally.{occ, kidsOf, Live}
 use Rattle.nodes.proofs.Access.{word-kid}
@@ -36,7 +37,7 @@ module _ (a : Arena) (k f e : List ℕ) where
   abbrev c : ℕ
   c = a .capacity
 
-  sound-tells : Tells (soundBy a k f e) (Sound 8 6 t)
+  sound-tells : Tells (soundBy a k f e) (Sound cubeKids deepest t)
   unfolding soundBy rangedBy
   sound-tells =
       tells-map
@@ -58,7 +59,7 @@ module _ (a : Arena) (k f e : List ℕ) where
 
   -- ---- what the tally wants
 
-  module _ (w : Sound 8 6 t) where
+  module _ (w : Sound cubeKids deepest t) where
     good-kid : (s i : ℕ) → s < c → i < 8 → X s i ≢ 0 → Live c X (X s i)
     good-kid s i l m d = let g = w .slots s l in cases (decLt (X s own) floor)
         (λ h. absurd (d (g .cleared h .words i (omega arith) (omega arith) (omega arith))))
@@ -81,22 +82,22 @@ module _ (a : Arena) (k f e : List ℕ) where
 
   -- ---- the theorem
 
-  pub check-tells : Tells (checkBy a k f e) (WellFormed 8 6 t)
+  pub check-tells : Tells (checkBy a k f e) (WellFormed cubeKids deepest t)
   unfolding checkBy
   check-tells =
-      tells-map (λ r. sound-well 8 6 t (r .0) (r .1)) (λ v. (well-sound 8 6 t v, (λ s l h. v .tallied s (l, h)))) (tells-and sound-tells tally-tells)
+      tells-map (λ r. sound-well cubeKids deepest t (r .0) (r .1)) (λ v. (well-sound cubeKids deepest t v, (λ s l h. v .tallied s (l, h)))) (tells-and sound-tells tally-tells)
 
   -- ---- as the code meets it
 
-  answer : (r : Bool) → r ≡ checkBy a k f e → (r ≡ true) ↔ WellFormed 8 6 t
+  answer : (r : Bool) → r ≡ checkBy a k f e → (r ≡ true) ↔ WellFormed cubeKids deepest t
   answer r d = ((λ q. check-tells .0 (sym d ∙ q)), (λ v. d ∙ check-tells .1 v))
 
   module _ (s : Bool) (is : s ≡ soundBy a k f e) where
-    pub refused : not s ≡ true → (false ≡ true) ↔ WellFormed 8 6 t
+    pub refused : not s ≡ true → (false ≡ true) ↔ WellFormed cubeKids deepest t
     unfolding checkBy
     refused h = answer false (search (is, h, not-yes))
 
-    pub answered : (r : Bool) → not s ≡ false → r ≡ allIn 0 c (agreeAt (countTo k f c)) → (r ≡ true) ↔ WellFormed 8 6 t
+    pub answered : (r : Bool) → not s ≡ false → r ≡ allIn 0 c (agreeAt (countTo k f c)) → (r ≡ true) ↔ WellFormed cubeKids deepest t
     unfolding checkBy
     answered r h d = answer r (search (is, h, d, not-no))
 

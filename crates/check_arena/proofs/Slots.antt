@@ -108,7 +108,7 @@ module _ (k f : List ℕ) (s : ℕ) where
     unfolding tallAt wordOf
     tall-tells top =
         tells-map (λ r. let d = r .0 in cases (ℕ-discrete (U s height) 0) (λ z. absurd (d z)) (λ z. omega arith)) (λ r. ((λ z. omega arith), (r .1, omega arith)))
-        (tells-not (tells-eq (U s height) 0) (tells-and (tells-le (U s height) 6) (λ l. tells-eq (U s height - 1) top)))
+        (tells-not (tells-eq (U s height) 0) (tells-and (tells-le (U s height) deepest) (λ l. tells-eq (U s height - 1) top)))
 
     module _ (c : ℕ) (values : (i : ℕ) → i < 8 → Live c U (U s i) → U (slot (U s i)) value ≤ 65535) where
       abbrev Parts : Type 0

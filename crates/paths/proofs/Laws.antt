@@ -196,7 +196,7 @@ child-accepted p k d e =
     let x = past (inside d (p .x)) _ 3 (omega arith) (b .1) in
     let y = past (inside d (p .y)) _ 3 (omega arith) (x .1) in
     let z = past (inside d (p .z)) _ 3 (omega arith) (y .1) in
-    record { depth = leb-true d 6 (a .0); level = ltb-true k d (b .0); on-x = x .0; on-y = y .0; on-z = z .0 }
+    record { depth = leb-true d deepest (a .0); level = ltb-true k d (b .0); on-x = x .0; on-y = y .0; on-z = z .0 }
 
 eight : (n : ℕ) → 8 ^ n ≡ 2 ^ (3 * n)
 eight zero = refl

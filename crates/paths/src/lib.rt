@@ -3,6 +3,7 @@ use basics::DEEPEST;
 ghost use mathlib.Core.Path.{_≡_};
 ghost use Prim.Native.Nat.{_^_, _<_, _≤_};
 ghost use lib.Signed.{mag};
+ghost use Rattle.basics.specs.Limits.{deepest};
 ghost use Rattle.paths.specs.Paths.{low10, interleave, pathOf, gather as gatherOf, decodedOf, inside, whole as wholeOf, coordOf, toCell, octant as octantOf, childNo, childIndexOf};
 
 const MASK_10_BITS: u32 = 0x3FF;
@@ -153,7 +154,7 @@ pub fn to_cell(position: IVec3, depth: u32) -> Cell
 
 // A coordinate is neither below 0 nor at least 2^d.
 fn is_inside(d: u32, x: i32) -> bool
-    requires { ⌜ d ≤ 6 ⌝ }
+    requires { ⌜ d ≤ deepest ⌝ }
     ensures { λ r. ⌜ r ≡ inside d x ⌝ }
 {
     if x < 0 {

@@ -34,7 +34,7 @@ use Rattle.read_cell.proofs.Ends.{look-descent, end-kids, val-facts}
 
 -- ---- sides
 
-side-small : (d : ℕ) → d ≤ deepest → 2 ^ d ≤ 64
+side-small : (d : ℕ) → d ≤ deepest → 2 ^ d ≤ 2 ^ deepest
 side-small d h = pow-mono h
 
 pub inside-test : (d x : ℕ) → d ≤ deepest → ltb x (1 * 2 ^ d % 2 ^ 32) ≡ ltb x (2 ^ d)
