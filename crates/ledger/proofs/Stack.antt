@@ -3,21 +3,19 @@ use mathlib.Core.Path.{_≡_, refl, sym, ap, _∙_, subst}
 use mathlib.Core.Logic.{_≢_}
 use mathlib.Core.Bool.{true}
 use mathlib.Core.List.{List, [], _∷_, _++_}
-use Prim.Native.Nat.{ℕ, suc, _+_, _-_, _*_, _^_, _≤_, _<_}
+use Prim.Native.Nat.{ℕ, zero, suc, _+_, _-_, _*_, _^_, _≤_, _<_}
 use native.Mathlib.Decide.{ℕ-discrete}
 use native.Mathlib.Omega.{arith}
-use lib.Dec.{eqb}
-use lib.ListN.{length}
+use lib.ListN.{length, drop, length-drop}
 use borrow.Author.Tests.{eq-eqb, ne-eqb}
-use Rattle.basics.specs.Pick.{pick}
 use Rattle.ids.specs.Ids.{generationOf}
-use Rattle.nodes.specs.Tally.{Freed}
-use Rattle.nodes.specs.Words.{Nodes, Words, own, holds, places, link, spare, slot, floor, wordOf}
+use Rattle.nodes.specs.Tally.{Freed, liveCount}
+use Rattle.nodes.specs.Words.{own, holds, places, link, spare, slot, floor}
 use Rattle.nodes.proofs.Access.{written-fact}
 use Rattle.nodes.proofs.Counts.{Others}
 use Rattle.nodes.proofs.Freeing.{freed-same, freed-length, push, pop, bump}
 use Rattle.nodes.proofs.Sums.{cases, occ-here}
-use Rattle.arena.specs.Calls.{Out, empties, freshSlot, slotGiven, roomOf, recycled, deadFacts, lessOf, takes, releaseNo, releaseOf, heldAt, leafSlot, leafMade, internLeafOf, unheld, branchSlot, branchMade, internBranchOf, holdOf, fresh}
+use Rattle.arena.specs.Calls.{Out, said, did, refused, empties, freshSlot, slotGiven, roomOf, recycled, deadFacts, lessOf, takes, releaseNo, releaseOf, heldAt, leafSlot, leafMade, internLeafOf, unheld, placed, branchSlot, branchMade, internBranchOf, holdOf, fresh}
 use Rattle.arena.specs.Models.{settled}
 use Rattle.arena.specs.Node.{nextGeneration}
 use Rattle.arena.specs.Tables.{Tables, tablesOf, cap, W, WellFormed}
@@ -33,10 +31,10 @@ use Rattle.arena.proofs.Releasing.{less-word, takes-empty, u-word}
 use Rattle.arena.proofs.Rows.{dead-length, dead-link, empties-length}
 use Rattle.ledger.specs.Fates.{Lives, HasContent}
 use Rattle.ledger.specs.Refusals.{HasIds}
-use Rattle.ledger.specs.Stack.{Stack, pushed, popped, lastFreed, recycledBy}
+use Rattle.ledger.specs.Stack.{Stack, pushed, popped, lastFreed, leftOf, slotAfter, Draws, recycledBy}
 use Rattle.ledger.proofs.Balance.{leaf-one, branch-one, placings}
 use Rattle.ledger.proofs.Found.{leaf-found, leaf-missing, branch-found, branch-missing}
-use Rattle.ledger.proofs.Ladders.{Fine, leaf-ways, branch-ways, hold-ways}
+use Rattle.ledger.proofs.Ladders.{Fine, branchHeld, leaf-ways, branch-ways, hold-ways}
 use Rattle.ledger.proofs.Recycling.{goes-empty, release-goes}
 use Rattle.ledger.proofs.Writes.{held-word}
 
@@ -123,58 +121,49 @@ release-last n tallest t m w id ss s e =
     fresh-last (releaseOf tallest t id .after) (s ∷ pushed ss (w .freed)) k
 
 -- a node made in the slot given out
-made-stack : (t u : Tables) (p : Nodes) (n tallest : ℕ) → WellFormed n tallest t → t .arena .live + 1 < cap t → u .arena ≡ slotGiven (t .arena) (W t)
-    → ((b : ℕ) → wordOf p b own ≡ W t b own) → ((b : ℕ) → wordOf p b link ≡ W t b link) → Others (freshSlot (t .arena)) (wordOf p) (W u)
-    → floor ≤ W u (freshSlot (t .arena)) own → (fs : List ℕ) → Stack t fs → Stack u (popped fs)
+made-stack : {t u : Tables} {r : ℕ} {ks : List ℕ} {v h q : ℕ} → t .arena .live ≡ liveCount (cap t) (W t) → t .arena .live + 1 < cap t → Fresh t u r ks v h q
+    → (fs : List ℕ) → Stack t fs → Stack u (popped fs)
 unfolding slotGiven
-made-stack t u p n tallest w room a o l k h [] s =
+made-stack {t} {u} {r} c room f [] s =
     let z : t .arena .top ≡ 0 = s .chain in
-    let e = fresh-last t [] s in
+    let e : slot r ≡ t .arena .next = f .lies ∙ fresh-last t [] s in
     let q = freed-length s in
-    let c = w .lives in
-    let b = bump (W u) (freed-same (wordOf p) s o l) (subst (λ (x : ℕ). Others x (wordOf p) (W u)) e k) (omega arith) (subst (λ (x : ℕ). floor ≤ W u x own) e h) in
+    let i = f .live .is in
+    let h = f .live .high in
+    let b = bump (W u) s (subst (λ (x : ℕ). Others x (W t) (W u)) e (f .others)) (omega arith) (subst (λ (x : ℕ). floor ≤ W u x own) e (omega arith)) in
     let j : suc (t .arena .next) ≡ t .arena .next + 1 = omega arith in
-    subst (λ (x : Arena). Freed (x .capacity) (W u) (x .top) (x .next) []) (sym a)
+    subst (λ (x : Arena). Freed (x .capacity) (W u) (x .top) (x .next) []) (sym (f .given))
     (rw (eq-eqb (t .arena .top) 0 z) (subst (λ (x : ℕ). Freed (cap t) (W u) x (t .arena .next + 1) []) z (subst (λ (x : ℕ). Freed (cap t) (W u) (t .arena .top) x []) j b)))
-made-stack t u p n tallest w room a o l k h (f ∷ fs) s =
-    let z : t .arena .top ≡ f = s .chain .0 in
-    let g = s .only f (omega (arith, occ-here f fs)) .given in
-    let e = fresh-last t (f ∷ fs) s in
-    let b = pop (W u) f (freed-same (wordOf p) s o l) (subst (λ (x : ℕ). Others x (wordOf p) (W u)) e k) (subst (λ (x : ℕ). floor ≤ W u x own) e h) in
-    subst (λ (x : Arena). Freed (x .capacity) (W u) (x .top) (x .next) fs) (sym a)
-    (rw (ne-eqb (t .arena .top) 0 (λ y. omega arith)) (subst (λ (x : ℕ). Freed (cap t) (W u) x (t .arena .next) fs) (l f ∙ ap (λ (x : ℕ). W t x link) (sym z)) b))
+made-stack {t} {u} {r} c room f (y ∷ fs) s =
+    let z : t .arena .top ≡ y = s .chain .0 in
+    let g = s .only y (omega (arith, occ-here y fs)) .given in
+    let e : slot r ≡ y = f .lies ∙ fresh-last t (y ∷ fs) s in
+    let i = f .live .is in
+    let h = f .live .high in
+    let b = pop (W u) y s (subst (λ (x : ℕ). Others x (W t) (W u)) e (f .others)) (subst (λ (x : ℕ). floor ≤ W u x own) e (omega arith)) in
+    subst (λ (x : Arena). Freed (x .capacity) (W u) (x .top) (x .next) fs) (sym (f .given))
+    (rw (ne-eqb (t .arena .top) 0 (λ k. omega arith)) (subst (λ (x : ℕ). Freed (cap t) (W u) x (t .arena .next) fs) (ap (λ (x : ℕ). W t x link) (sym z)) b))
+
+-- A fresh node takes the last slot freed, else the lowest never used, and then the one freed before it is the last. On any tables that count their nodes.
+pub fresh-takes : {t u : Tables} {r : ℕ} {ks : List ℕ} {v h q : ℕ} → t .arena .live ≡ liveCount (cap t) (W t) → t .arena .live + 1 < cap t
+    → Fresh t u r ks v h q → (fs : List ℕ) → Stack t fs → (slot r ≡ lastFreed fs (t .arena .next)) × Stack u (popped fs)
+fresh-takes {t} c room f fs s = (f .lies ∙ fresh-last t fs s, made-stack c room f fs s)
 
 -- what a call that makes a node answers and leaves
 abbrev Takes : Tables → List ℕ → Out → Type 0
 Takes t fs o = (slot (o .id) ≡ lastFreed fs (t .arena .next)) × Stack (o .after) (popped fs)
 
-given-same : (a : Arena) (U U′ : Words) → U (a .top) link ≡ U′ (a .top) link → slotGiven a U ≡ slotGiven a U′
-unfolding slotGiven
-given-same a U U′ e =
-    ap (λ (x : ℕ). record { capacity = a .capacity; next = pick (eqb (a .top) 0) (a .next + 1) (a .next); top = pick (eqb (a .top) 0) 0 x; live = a .live + 1 }) e
-
 module _ (n tallest : ℕ) (t : Tables) (m : n ≤ 8) (w : WellFormed n tallest t) (fs : List ℕ) (s : Stack t fs) where
-  -- a fresh node over tables p with the state, the own words and the links of t
-  fresh-takes : {p u : Tables} {r : ℕ} {ks : List ℕ} {v h q : ℕ} → p .arena ≡ t .arena → ((b : ℕ) → W p b own ≡ W t b own) → ((b : ℕ) → W p b link ≡ W t b link)
-      → t .arena .live + 1 < cap t → Fresh p u r ks v h q → (slot r ≡ lastFreed fs (t .arena .next)) × Stack u (popped fs)
-  fresh-takes {p} {u} {r} a o l room f =
-      let x = freshSlot (t .arena) in
-      let e : slot r ≡ x = f .lies ∙ ap freshSlot a in
-      let i : W u x own ≡ r = ap (λ (b : ℕ). W u b own) (sym e) ∙ f .live .is in
-      let h = f .live .high in
-      let g : u .arena ≡ slotGiven (t .arena) (W t) = f .given ∙ ap (λ (y : Arena). slotGiven y (W p)) a ∙ given-same (t .arena) (W p) (W t) (l (t .arena .top)) in (
-        e ∙ fresh-last t fs s,
-        made-stack t u (p .nodes) n tallest w room g o l (λ b j d k. f .others b j (λ z. d (z ∙ e)) k) (omega arith) fs s,
-      )
-
   leaf-made-takes : (v : ℕ) → t .arena .live + 1 < cap t → Takes t fs (leafMade t v)
-  leaf-made-takes v room = fresh-takes refl (λ b. refl) (λ b. refl) room (leaf-one n tallest t m w room v)
+  leaf-made-takes v room = fresh-takes (w .lives) room (leaf-one n tallest t m w room v) fs s
 
   branch-made-takes : (ks : List ℕ) → length ks ≡ 8 → Fine n tallest t ks → t .arena .live + 1 < cap t → Takes t fs (branchMade n t ks)
   branch-made-takes ks e8 fine room =
-      let p = placings n tallest t m w ks e8 fine .eased .words in
-      fresh-takes refl (λ b. p b own (omega arith) (omega arith) (omega arith)) (λ b. p b link (omega arith) (omega arith) (omega arith)) room
-      (branch-one n tallest t m w ks e8 fine room)
+      let p = placings n tallest t m w ks e8 fine in
+      let put = tablesOf (t .arena) (placed (t .nodes) ks) (t .find) in
+      let same : (b f : ℕ) → f ≤ spare → f ≢ holds → f ≢ places → W put b f ≡ W t b f = p .eased .words in
+      fresh-takes (p .inv .lives) room (branch-one n tallest t m w ks e8 fine room) fs
+      (same-stack t put fs refl (λ b. same b own (omega arith) (omega arith) (omega arith)) (λ b. same b link (omega arith) (omega arith) (omega arith)) s)
 
   -- Interning a leaf of a value that is not there, accepted: its slot is the last one freed, else the lowest never used, and then the one freed before
   -- it is the last.
@@ -196,10 +185,11 @@ module _ (n tallest : ℕ) (t : Tables) (m : n ≤ 8) (w : WellFormed n tallest 
   leaf-spares v y h =
       leaf-ways (λ o. Stack (o .after) fs) t v (λ k d. s) (λ x r. absurd (leaf-missing n tallest t m w v x y h)) (λ x. held-stack t (leafSlot t v) fs s)
 
-  pub branch-spares : (ks : List ℕ) → length ks ≡ 8 → (y : ℕ) → HasIds t y ks → Stack (internBranchOf n tallest t ks .after) fs
-  branch-spares ks e8 y h =
-      branch-ways (λ o. Stack (o .after) fs) n tallest t ks (λ k d. s) (λ f x r. absurd (branch-missing n tallest t m w ks e8 x y (h .0) (h .1)))
-      (λ f x. held-stack eased (branchSlot t ks) fs (same-stack t eased fs refl (λ b. words b own (omega arith) (omega arith) (omega arith)) (λ b. words b link (omega arith) (omega arith) (omega arith)) s))
+  -- the branch that is there, held
+  branch-held-stack : (ks : List ℕ) → Stack (branchHeld t ks .after) fs
+  branch-held-stack ks =
+      held-stack eased (branchSlot t ks) fs
+      (same-stack t eased fs refl (λ b. words b own (omega arith) (omega arith) (omega arith)) (λ b. words b link (omega arith) (omega arith) (omega arith)) s)
     where
       eased : Tables
       eased = tablesOf (t .arena) (unheld (t .nodes) ks) (t .find)
@@ -207,6 +197,78 @@ module _ (n tallest : ℕ) (t : Tables) (m : n ≤ 8) (w : WellFormed n tallest 
       words : (b f : ℕ) → f ≤ spare → f ≢ holds → f ≢ places → W eased b f ≡ W t b f
       words = unheld-eased ks (t .nodes) .words
 
+  pub branch-spares : (ks : List ℕ) → length ks ≡ 8 → (y : ℕ) → HasIds t y ks → Stack (internBranchOf n tallest t ks .after) fs
+  branch-spares ks e8 y h =
+      branch-ways (λ o. Stack (o .after) fs) n tallest t ks (λ k d. s) (λ f x r. absurd (branch-missing n tallest t m w ks e8 x y (h .0) (h .1)))
+      (λ f x. branch-held-stack ks)
+
 -- Holding leaves them too. On any tables.
 pub hold-spares : (t : Tables) (id : ℕ) (fs : List ℕ) → Stack t fs → Stack (holdOf t id .after) fs
 hold-spares t id fs s = hold-ways (λ o. Stack (o .after) fs) t id (λ k d. s) (λ z. s) (λ z l. held-stack t (slot id) fs s)
+
+-- ---- each call that ends no node: one slot for each node that it makes
+
+pub popped-drop : (k : ℕ) (fs : List ℕ) → popped (drop k fs) ≡ drop (suc k) fs
+popped-drop zero [] = refl
+popped-drop zero (f ∷ fs) = refl
+popped-drop (suc k) [] = refl
+popped-drop (suc k) (f ∷ fs) = popped-drop k fs
+
+-- what was given out and is not freed lives, so that the lowest never used is told by the freed ones and the live
+pub next-after : (t u : Tables) (fs : List ℕ) (k : ℕ) → t .arena .live ≡ liveCount (cap t) (W t) → u .arena .live ≡ liveCount (cap u) (W u)
+    → u .arena .live ≡ t .arena .live + k → Stack t fs → Stack u (drop k fs) → u .arena .next ≡ t .arena .next + (k - length fs)
+next-after t u fs k a b e s r = omega (arith, freed-length s, freed-length r, length-drop k fs)
+
+-- no node is made
+pub draws-none : (t : Tables) (fs : List ℕ) (o : Out) → o .after .arena .live ≡ t .arena .live → Stack (o .after) fs → Draws t fs o
+draws-none t fs o e s =
+    let z : 0 ≡ o .after .arena .live - t .arena .live = omega arith in
+    record { left = subst (λ (k : ℕ). Stack (o .after) (drop k fs)) z s; given = λ k g. absurd (omega arith) }
+
+-- k and one more are made, the answer last
+pub draws-more : (t : Tables) (fs : List ℕ) (o : Out) (k : ℕ) → o .after .arena .live ≡ t .arena .live + suc k → slot (o .id) ≡ slotAfter k fs (t .arena .next)
+    → Stack (o .after) (drop (suc k) fs) → Draws t fs o
+draws-more t fs o k e a s =
+    let z : suc k ≡ o .after .arena .live - t .arena .live = omega arith in
+    record {
+      left = subst (λ (j : ℕ). Stack (o .after) (drop j fs)) z s;
+      given = λ j g. a ∙ (let same : k ≡ j = omega arith in ap (λ (i : ℕ). slotAfter i fs (t .arena .next)) same);
+    }
+
+draws-one : (t : Tables) (fs : List ℕ) (o : Out) → o .after .arena .live ≡ t .arena .live + 1 → Takes t fs o → Draws t fs o
+draws-one t fs o e r =
+    let z : t .arena .next ≡ t .arena .next + (0 - length fs) = omega arith in
+    draws-more t fs o 0 e (r .0 ∙ ap (lastFreed fs) z) (subst (λ (l : List ℕ). Stack (o .after) l) (popped-drop 0 fs) (r .1))
+
+fresh-live : {t u : Tables} {r : ℕ} {ks : List ℕ} {v h q : ℕ} → Fresh t u r ks v h q → u .arena .live ≡ t .arena .live + 1
+unfolding slotGiven
+fresh-live f = ap (λ (a : Arena). a .live) (f .given)
+
+held-live : (t : Tables) (s : ℕ) → heldAt t s .arena .live ≡ t .arena .live
+unfolding heldAt
+held-live t s = refl
+
+module _ (n tallest : ℕ) (t : Tables) (m : n ≤ 8) (w : WellFormed n tallest t) (fs : List ℕ) (s : Stack t fs) where
+  -- Interning a leaf, accepted or refused, made or there.
+  pub leaf-draws : (v : ℕ) → Draws t fs (internLeafOf t v)
+  leaf-draws v =
+      leaf-ways (Draws t fs) t v (λ k d. draws-none t fs (refused k t) refl s)
+      (λ x r.
+      let room = room-yes (t .arena) r in
+      draws-one t fs (leafMade t v) (fresh-live (leaf-one n tallest t m w room v)) (leaf-made-takes n tallest t m w fs s v room))
+      (λ x. draws-none t fs (said 0 (W t (leafSlot t v) own) (heldAt t (leafSlot t v))) (held-live t (leafSlot t v)) (held-stack t (leafSlot t v) fs s))
+
+  -- Interning a branch: the same.
+  pub branch-draws : (ks : List ℕ) → length ks ≡ 8 → Draws t fs (internBranchOf n tallest t ks)
+  branch-draws ks e8 =
+      branch-ways (Draws t fs) n tallest t ks (λ k d. draws-none t fs (refused k t) refl s)
+      (λ f x r.
+      let room = room-yes (t .arena) r in
+      draws-one t fs (branchMade n t ks) (fresh-live (branch-one n tallest t m w ks e8 f room)) (branch-made-takes n tallest t m w fs s ks e8 f room))
+      (λ f x. draws-none t fs (branchHeld t ks) (held-live (tablesOf (t .arena) (unheld (t .nodes) ks) (t .find)) (branchSlot t ks)) (branch-held-stack n tallest t m w fs s ks))
+
+-- Holding makes none. On any tables.
+pub hold-draws : (t : Tables) (id : ℕ) (fs : List ℕ) → Stack t fs → Draws t fs (holdOf t id)
+hold-draws t id fs s =
+    hold-ways (Draws t fs) t id (λ k d. draws-none t fs (did k t) refl s) (λ z. draws-none t fs (did 0 t) refl s)
+    (λ z l. draws-none t fs (did 0 (heldAt t (slot id))) (held-live t (slot id)) (held-stack t (slot id) fs s))

@@ -1,12 +1,14 @@
 -- The freed slots, the last one freed first; and which slots a release recycles, in order.
+use mathlib.Core.Path.{_≡_}
 use mathlib.Core.List.{List, [], _∷_, _++_}
-use Prim.Native.Nat.{ℕ, zero, suc}
+use Prim.Native.Nat.{ℕ, zero, suc, _+_, _-_}
 use lib.Dec.{eqb}
+use lib.ListN.{length, drop}
 use Rattle.basics.specs.Limits.{kidWords}
 use Rattle.basics.specs.Pick.{pick}
 use Rattle.nodes.specs.Tally.{Freed, kidsOf}
 use Rattle.nodes.specs.Words.{holds, places, slot}
-use Rattle.arena.specs.Calls.{recycled, lessOf, unusedOf, takes, releaseNo}
+use Rattle.arena.specs.Calls.{Out, recycled, lessOf, unusedOf, takes, releaseNo}
 use Rattle.arena.specs.Tables.{Tables, cap, W}
 
 -- fs are the slots that were given out and are not live, each once, the last one freed first: each is linked to the one freed before it
@@ -27,6 +29,20 @@ popped (s ∷ fs) = fs
 abbrev pub lastFreed : List ℕ → ℕ → ℕ
 lastFreed [] next = next
 lastFreed (s ∷ fs) next = s
+
+-- those left of fs once each node that was made from t to u has taken the top one
+abbrev pub leftOf : Tables → Tables → List ℕ → List ℕ
+leftOf t u fs = drop (u .arena .live - t .arena .live) fs
+
+-- the slot of a node that is made after k others: of those left the last one freed, else the lowest never used by then
+abbrev pub slotAfter : ℕ → List ℕ → ℕ → ℕ
+slotAfter k fs next = lastFreed (drop k fs) (next + (k - length fs))
+
+-- What a call that ends no node does to the freed slots fs: each node that it makes takes the last one freed, else the lowest never used. If it makes any,
+-- its answer is the last of them.
+pub record Draws (t : Tables) (fs : List ℕ) (o : Out) : Type 0 where
+  pub left : Stack (o .after) (leftOf t (o .after) fs)
+  pub given : (k : ℕ) → o .after .arena .live ≡ t .arena .live + suc k → slot (o .id) ≡ slotAfter k fs (t .arena .next)
 
 -- what h says of each, one after the other, where g is what becomes of the tables
 unfoldable pub eachGoes : (Tables → ℕ → Tables) → (Tables → ℕ → List ℕ) → Tables → List ℕ → List ℕ
