@@ -24,6 +24,7 @@ use Rattle.tree.proofs.Plan.{plan-have, plan-lack}
 use Rattle.tree.proofs.Room.{plan-some}
 use Rattle.arena.specs.Tables.{Tables, cap, W, WellFormed}
 use Rattle.arena.specs.Calls.{Out, refused, fullOf, heldAt, freshNode, leafAnew, branchAnew}
+use Rattle.arena.specs.declared.Arena.{Arena}
 use Rattle.arena.proofs.Inv.{inv-wf, sized-within}
 use Rattle.arena.proofs.Leaves.{held-kept}
 use Rattle.read_cell.specs.Calls.{lookNo}
@@ -33,7 +34,7 @@ use Rattle.edit.specs.Promises.{Posed, Effect, Right}
 use Rattle.edit.proofs.Growing.{grown-extends}
 use Rattle.edit.proofs.Planning.{plan-is}
 use Rattle.edit.proofs.Wholes.{content-made}
-use Rattle.edit.proofs.Upward.{Done, make-done}
+use Rattle.edit.proofs.Upward.{have-lack, Done, make-done}
 use Rattle.edit.proofs.Law.{deep, root-there}
 
 make-no : (n : ℕ) (t : Tables) (x : ℕ) (p : List ℕ) (a h q : ℕ) → makeOf n t x p a h q .no ≡ 0
@@ -66,13 +67,15 @@ granted-word t r s f d = cases (ℕ-discrete r 0)
     (λ (q : s ≡ slot r). rw q (put-field (t .nodes) (slot r) holds (W t (slot r) holds + 1) f d))
     (λ q. put-slot (t .nodes) (slot r) holds (W t (slot r) holds + 1) s f q))
 
-pub granted-cap : (t : Tables) (r : ℕ) → cap (granted t r) ≡ cap t
+pub granted-arena : (t : Tables) (r : ℕ) → granted t r .arena ≡ t .arena
 unfolding heldAt
-granted-cap t r = cases (ℕ-discrete r 0) (λ z. rw (granted-empty t r z)) (λ z. ap cap (granted-node t r z))
+granted-arena t r = cases (ℕ-discrete r 0) (λ z. rw (granted-empty t r z)) (λ z. ap (λ (u : Tables). u .arena) (granted-node t r z))
 
-granted-live : (t : Tables) (r : ℕ) → granted t r .arena .live ≡ t .arena .live
-unfolding heldAt
-granted-live t r = cases (ℕ-discrete r 0) (λ z. rw (granted-empty t r z)) (λ z. ap (λ (u : Tables). u .arena .live) (granted-node t r z))
+pub granted-cap : (t : Tables) (r : ℕ) → cap (granted t r) ≡ cap t
+granted-cap t r = ap (λ (a : Arena). a .capacity) (granted-arena t r)
+
+pub granted-live : (t : Tables) (r : ℕ) → granted t r .arena .live ≡ t .arena .live
+granted-live t r = ap (λ (a : Arena). a .live) (granted-arena t r)
 
 held-word : (t : Tables) (s : ℕ) → Within (t .nodes) s → W (heldAt t s) s holds ≡ W t s holds + 1
 unfolding heldAt
@@ -142,7 +145,14 @@ module _ (n : ℕ) (t : Tables) (root d : ℕ) (cell : List ℕ) (v : ℕ) where
       (λ l. (l, (rw (le-leb (heightAt (W t) root) d l) at e)))
       (λ l. absurd (let z : _≡_ {A = ℕ} 8 0 = (rw (lt-leb (heightAt (W t) root) d (omega arith)) at e) in omega arith))
 
-  cell-accepted : cellNo n t root d cell v ≡ 0 → editCell n t root d cell v ≡ answerOf t (resultOf n t v cell root) (makeOf n t v cell root 1 0)
+  -- a result that is not there is made as planned
+  pub result-plan : (k : ℕ) → resultOf n t v cell root ≡ lack k → planOf n t v cell root ≡ lack k
+  unfolding resultOf
+  result-plan k = cases (ℕ-discrete (look (W t) cell root) v)
+      (λ z. rw (eq-eqb (look (W t) cell root) v z) (λ e. absurd (have-lack e)))
+      (λ z. rw (ne-eqb (look (W t) cell root) v z) (λ e. e))
+
+  pub cell-accepted : cellNo n t root d cell v ≡ 0 → editCell n t root d cell v ≡ answerOf t (resultOf n t v cell root) (makeOf n t v cell root 1 0)
   unfolding editCell
   cell-accepted e = rw (eq-eqb (cellNo n t root d cell v) 0 e)
 

@@ -12,7 +12,7 @@ use Rattle.nodes.specs.Values.{heightAt}
 use Rattle.nodes.specs.Words.{own}
 use Rattle.nodes.proofs.Sums.{cases}
 use Rattle.paths.specs.declared.IVec3.{IVec3}
-use Rattle.tree.specs.Tree.{LiveOr0, WellMade, Cell, here, down, look}
+use Rattle.tree.specs.Tree.{LiveOr0, WellMade, Cell, here, down}
 use Rattle.tree.specs.Anew.{part, replace}
 use Rattle.tree.specs.Lacks.{Need, have, lack, Plan}
 use Rattle.tree.proofs.Making.{part-there, part-low}
@@ -24,10 +24,10 @@ use Rattle.arena.proofs.Inv.{wf-inv}
 use Rattle.read_cell.proofs.Meaning.{wf-made}
 use Rattle.edit.specs.Edit.{wordsOf, needOf, upNeed, planOf, resultOf, owed, lowOf, makeOf, grantNo, granted, answerOf, cellNo, editCell, editOf}
 use Rattle.edit.specs.Promises.{Posed}
-use Rattle.edit.proofs.Edits.{granted-word, grant-room, cell-past, by-cell}
+use Rattle.edit.proofs.Edits.{granted-word, grant-room, cell-past, result-plan, by-cell}
 use Rattle.edit.proofs.Growing.{owed-word, each-word}
 use Rattle.edit.proofs.Planning.{words-length, plan-is}
-use Rattle.edit.proofs.Upward.{Low, Done, low-have, low-lack, placed, some, lack-inj, have-lack, over, make-done}
+use Rattle.edit.proofs.Upward.{Low, Done, low-have, low-lack, placed, some, lack-inj, over, make-done}
 
 -- every slot has the generation that it had
 abbrev Gens-kept : Tables → Tables → Type 0
@@ -97,17 +97,11 @@ module _ {n tallest : ℕ} {t : Tables} {root d : ℕ} {cell : List ℕ} {v : �
   answer-gens (have r) h = granted-gens t r
   answer-gens (lack k) h = h k refl
 
-  result-plan : (k : ℕ) → resultOf n t v cell root ≡ lack k → planOf n t v cell root ≡ lack k
-  unfolding resultOf
-  result-plan k = cases (ℕ-discrete (look (W t) cell root) v)
-      (λ z. rw (eq-eqb (look (W t) cell root) v z) (λ e. absurd (have-lack e)))
-      (λ z. rw (ne-eqb (look (W t) cell root) v z) (λ e. e))
-
   accepted-gens : cellNo n t root d cell v ≡ 0 → Gens-kept t (answerOf t (resultOf n t v cell root) new .after)
   accepted-gens e =
       let past = cell-past n t root d cell v e in
       answer-gens (resultOf n t v cell root) (λ k z.
-      let pl = result-plan k z in
+      let pl = result-plan n t root d cell v k z in
       let one = plan-some (rw pl at (plan-is n tallest t (q .words) (omega arith) (q .well) v root (q .there) (past .0) (q .cell-is))) in
       let free = grant-room t k (subst (λ (r : Need). grantNo t r ≡ 0) z (past .1)) in
       make-gens n tallest t (q .words) (q .several) (q .well) v high root k 1 0 (q .there) (past .0) (q .deep) (q .cell-is) pl (omega arith) (omega arith) (omega arith))

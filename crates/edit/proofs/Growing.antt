@@ -16,6 +16,7 @@ use Rattle.nodes.proofs.Sums.{cases, occ-cons, occ-here, occ-there, occ-append}
 use Rattle.tree.specs.Tree.{LiveOr0, Extends}
 use Rattle.arena.specs.Calls.{each}
 use Rattle.arena.specs.Tables.{tablesOf, Tables, cap, W}
+use Rattle.arena.specs.declared.Arena.{Arena}
 use Rattle.arena.proofs.Dropping.{put-recounted}
 use Rattle.arena.proofs.Fresh.{Grown}
 use Rattle.arena.proofs.Inv.{sized-within, Inv, Content, Recounted, move-inv, inv-debt, content-recount}
@@ -113,12 +114,15 @@ pub each-word : (ks : List ℕ) (t : Tables) (b f : ℕ) → f ≢ places → W 
 each-word [] t b f d = ap (λ (u : Tables). W u b f) (each-nil t)
 each-word (k ∷ ks) t b f d = ap (λ (u : Tables). W u b f) (each-cons t k ks) ∙ each-word ks (owed t k) b f d ∙ owed-word t k b f d
 
-owed-cap : (t : Tables) (s : ℕ) → cap (owed t s) ≡ cap t
-owed-cap t s = cases (ℕ-discrete s 0) (λ z. rw (owed-empty t s z)) (λ z. rw (owed-node t s z))
+pub owed-arena : (t : Tables) (s : ℕ) → owed t s .arena ≡ t .arena
+owed-arena t s = cases (ℕ-discrete s 0) (λ z. rw (owed-empty t s z)) (λ z. rw (owed-node t s z))
+
+pub each-arena : (ks : List ℕ) (t : Tables) → each owed t ks .arena ≡ t .arena
+each-arena [] t = ap (λ (u : Tables). u .arena) (each-nil t)
+each-arena (k ∷ ks) t = ap (λ (u : Tables). u .arena) (each-cons t k ks) ∙ each-arena ks (owed t k) ∙ owed-arena t k
 
 pub each-cap : (ks : List ℕ) (t : Tables) → cap (each owed t ks) ≡ cap t
-each-cap [] t = ap cap (each-nil t)
-each-cap (k ∷ ks) t = ap cap (each-cons t k ks) ∙ each-cap ks (owed t k) ∙ owed-cap t k
+each-cap ks t = ap (λ (a : Arena). a .capacity) (each-arena ks t)
 
 module _ (n tallest : ℕ) (t : Tables) (k : ℕ) (ks d : List ℕ) where
   each-step : Grown n tallest t (owed t k) (k ∷ d) 0 → Grown n tallest (owed t k) (each owed (owed t k) ks) (ks ++ (k ∷ d)) 0

@@ -9,4 +9,5 @@ pub mod Theorems
 pub mod Lacking
 pub mod Holds
 pub mod Generations
+pub mod Slots
 pub mod Does

@@ -40,7 +40,8 @@ use Rattle.ledger.proofs.Writes.{held-word}
 
 -- ---- what leaves the stack
 
-same-stack : (t u : Tables) (fs : List ℕ) → u .arena ≡ t .arena → ((b : ℕ) → W u b own ≡ W t b own) → ((b : ℕ) → W u b link ≡ W t b link) → Stack t fs → Stack u fs
+-- state, own words and links as they were
+pub same-stack : (t u : Tables) (fs : List ℕ) → u .arena ≡ t .arena → ((b : ℕ) → W u b own ≡ W t b own) → ((b : ℕ) → W u b link ≡ W t b link) → Stack t fs → Stack u fs
 same-stack t u fs a o l s = subst (λ (x : Arena). Freed (x .capacity) (W u) (x .top) (x .next) fs) (sym a) (freed-same (W u) s o l)
 
 held-stack : (t : Tables) (s : ℕ) (fs : List ℕ) → Stack t fs → Stack (heldAt t s) fs
