@@ -346,7 +346,7 @@ counts-places n tallest t w y v =
 
 -- ---- a fresh arena has no node
 
-fresh-next : (c : ℕ) (k f e : List ℕ) → freshOf c k f e .after .arena .next ≡ 1
+pub fresh-next : (c : ℕ) (k f e : List ℕ) → freshOf c k f e .after .arena .next ≡ 1
 unfolding freshOf
 fresh-next c k f e = split (fitOf c (length k) (length f) (length e)) (λ r. rw r) (λ r. rw r)
 

@@ -4,21 +4,21 @@ use mathlib.Core.Logic.{_≢_}
 use mathlib.Core.Bool.{true}
 use mathlib.Core.List.{List, [], _∷_, _++_}
 use Prim.Native.Nat.{ℕ, zero, suc, _+_, _-_, _*_, _^_, _≤_, _<_}
-use native.Mathlib.Decide.{ℕ-discrete}
+use native.Mathlib.Decide.{ℕ-discrete, decLt}
 use native.Mathlib.Omega.{arith}
 use lib.ListN.{length, drop, length-drop}
 use borrow.Author.Tests.{eq-eqb, ne-eqb}
 use Rattle.ids.specs.Ids.{generationOf}
-use Rattle.nodes.specs.Tally.{Freed, liveCount}
+use Rattle.nodes.specs.Tally.{Freed, liveCount, occ}
 use Rattle.nodes.specs.Words.{own, holds, places, link, spare, slot, floor}
 use Rattle.nodes.proofs.Access.{written-fact}
-use Rattle.nodes.proofs.Counts.{Others}
+use Rattle.nodes.proofs.Counts.{Others, floor-pos}
 use Rattle.nodes.proofs.Freeing.{freed-same, freed-length, push, pop, bump}
-use Rattle.nodes.proofs.Sums.{cases, occ-here}
-use Rattle.arena.specs.Calls.{Out, said, did, refused, empties, freshSlot, slotGiven, roomOf, recycled, deadFacts, lessOf, takes, releaseNo, releaseOf, heldAt, leafSlot, leafMade, internLeafOf, unheld, placed, branchSlot, branchMade, internBranchOf, holdOf, fresh}
+use Rattle.nodes.proofs.Sums.{cases, occ-here, occ-cons}
+use Rattle.arena.specs.Calls.{Out, said, did, refused, empties, freshSlot, slotGiven, roomOf, recycled, deadFacts, lessOf, takes, releaseNo, releaseOf, heldAt, leafSlot, leafMade, internLeafOf, unheld, placed, branchSlot, branchMade, internBranchOf, holdOf, freshOf}
 use Rattle.arena.specs.Models.{settled}
 use Rattle.arena.specs.Node.{nextGeneration}
-use Rattle.arena.specs.Tables.{Tables, tablesOf, cap, W, WellFormed}
+use Rattle.arena.specs.Tables.{Tables, tablesOf, cap, W, LiveSlot, WellFormed}
 use Rattle.arena.specs.declared.Arena.{Arena}
 use Rattle.arena.proofs.Branches.{unheld-eased}
 use Rattle.arena.proofs.Dropping.{debtor, recycle-others, recycle-own}
@@ -31,10 +31,10 @@ use Rattle.arena.proofs.Releasing.{less-word, takes-empty, u-word}
 use Rattle.arena.proofs.Rows.{dead-length, dead-link, empties-length}
 use Rattle.ledger.specs.Fates.{Lives, HasContent}
 use Rattle.ledger.specs.Refusals.{HasIds}
-use Rattle.ledger.specs.Stack.{Stack, pushed, popped, lastFreed, leftOf, slotAfter, Draws, recycledBy}
-use Rattle.ledger.proofs.Balance.{leaf-one, branch-one, placings}
+use Rattle.ledger.specs.Stack.{Stack, pushed, popped, lastFreed, slotAfter, Draws, recycledBy}
+use Rattle.ledger.proofs.Balance.{fresh-next, leaf-one, branch-one, placings}
 use Rattle.ledger.proofs.Found.{leaf-found, leaf-missing, branch-found, branch-missing}
-use Rattle.ledger.proofs.Ladders.{Fine, branchHeld, leaf-ways, branch-ways, hold-ways}
+use Rattle.ledger.proofs.Ladders.{Fine, branchHeld, leaf-ways, branch-ways, hold-ways, release-ways}
 use Rattle.ledger.proofs.Recycling.{goes-empty, release-goes}
 use Rattle.ledger.proofs.Writes.{held-word}
 
@@ -64,7 +64,7 @@ recycled-stack t x debt v d fs s =
     (omega (arith, dead-low g (nextGen-le (generationOf (W t (slot x) own)))))
     (written-fact (t .nodes) (slot x) empties facts empties-length seven (sized-within t (slot x) (v .sized) (l .low)) 5 (omega arith) ∙ dead-link (W t (slot x) own) (t .arena .top))
 
-pushed-append : (ss rs fs : List ℕ) → pushed (ss ++ rs) fs ≡ pushed rs (pushed ss fs)
+pub pushed-append : (ss rs fs : List ℕ) → pushed (ss ++ rs) fs ≡ pushed rs (pushed ss fs)
 pushed-append [] rs fs = refl
 pushed-append (s ∷ ss) rs fs = pushed-append ss rs (s ∷ fs)
 
@@ -97,7 +97,41 @@ release-stack n tallest t m w id fs s = cases (ℕ-discrete (releaseNo t id) 0)
     less-pushes recycled-stack n tallest t m w id v (r .1) fs (settled-stack n tallest t m w id v (r .1) fs s))))
     (λ z. rw (ne-eqb (releaseNo t id) 0 z) s)
 
+-- a release gives none out
+abbrev Next-kept : Tables → Tables → List ℕ → Type 0
+Next-kept t u ss = u .arena .next ≡ t .arena .next
+
+recycled-next : (t : Tables) (x : ℕ) → recycled t x .arena .next ≡ t .arena .next
+unfolding recycled
+recycled-next t x = refl
+
+less-next : (t : Tables) (x : ℕ) → lessOf places t x .arena .next ≡ t .arena .next
+unfolding lessOf
+less-next t x = refl
+
+settled-next : (t : Tables) (s : ℕ) → settled t s .arena .next ≡ t .arena .next
+unfolding settled
+settled-next t s = refl
+
+pub release-gives-none : (n tallest : ℕ) (t : Tables) → n ≤ 8 → WellFormed n tallest t → (id : ℕ) → releaseOf tallest t id .after .arena .next ≡ t .arena .next
+release-gives-none n tallest t m w id =
+    release-ways tallest t id (λ f e. ends (did 1 t) e refl) (λ f z e. ends (did 0 t) e refl) (λ f z l e. ends (did 4 t) e refl) (λ f z l h e. ends (did 5 t) e refl)
+    (λ f z l h no e. ends (did 0 (takes (suc tallest) holds t id)) e
+    (release-goes Next-kept (λ t. refl) (λ t u v ss rs p q. q ∙ p) less-next (λ t x debt v d. recycled-next t (slot x)) n tallest t m w id (live-is t id l) (omega arith)
+    ∙ settled-next t (slot id)))
+  where
+    ends : (o : Out) → releaseOf tallest t id ≡ o → o .after .arena .next ≡ t .arena .next → releaseOf tallest t id .after .arena .next ≡ t .arena .next
+    ends o e k = ap (λ (r : Out). r .after .arena .next) e ∙ k
+
 -- ---- the slot given out
+
+-- A fresh arena has none freed.
+pub fresh-stack : (n tallest c : ℕ) (k f e : List ℕ) → WellFormed n tallest (freshOf c k f e .after) → Stack (freshOf c k f e .after) []
+fresh-stack n tallest c k f e w = go (w .freed) (w .chain)
+  where
+    go : (fs : List ℕ) → Stack (freshOf c k f e .after) fs → Stack (freshOf c k f e .after) []
+    go [] s = s
+    go (y ∷ fs) s = absurd (omega (arith, freed-length s, fresh-next c k f e))
 
 -- The fresh slot is the last one freed, else the lowest never used.
 pub fresh-last : (t : Tables) (fs : List ℕ) → Stack t fs → freshSlot (t .arena) ≡ lastFreed fs (t .arena .next)
@@ -224,7 +258,7 @@ next-after t u fs k a b e s r = omega (arith, freed-length s, freed-length r, le
 pub draws-none : (t : Tables) (fs : List ℕ) (o : Out) → o .after .arena .live ≡ t .arena .live → Stack (o .after) fs → Draws t fs o
 draws-none t fs o e s =
     let z : 0 ≡ o .after .arena .live - t .arena .live = omega arith in
-    record { left = subst (λ (k : ℕ). Stack (o .after) (drop k fs)) z s; given = λ k g. absurd (omega arith) }
+    record { grows = omega arith; left = subst (λ (k : ℕ). Stack (o .after) (drop k fs)) z s; given = λ k g. absurd (omega arith) }
 
 -- k and one more are made, the answer last
 pub draws-more : (t : Tables) (fs : List ℕ) (o : Out) (k : ℕ) → o .after .arena .live ≡ t .arena .live + suc k → slot (o .id) ≡ slotAfter k fs (t .arena .next)
@@ -232,6 +266,7 @@ pub draws-more : (t : Tables) (fs : List ℕ) (o : Out) (k : ℕ) → o .after .
 draws-more t fs o k e a s =
     let z : suc k ≡ o .after .arena .live - t .arena .live = omega arith in
     record {
+      grows = omega arith;
       left = subst (λ (j : ℕ). Stack (o .after) (drop j fs)) z s;
       given = λ j g. a ∙ (let same : k ≡ j = omega arith in ap (λ (i : ℕ). slotAfter i fs (t .arena .next)) same);
     }
@@ -273,3 +308,24 @@ pub hold-draws : (t : Tables) (id : ℕ) (fs : List ℕ) → Stack t fs → Draw
 hold-draws t id fs s =
     hold-ways (Draws t fs) t id (λ k d. draws-none t fs (did k t) refl s) (λ z. draws-none t fs (did 0 t) refl s)
     (λ z l. draws-none t fs (did 0 (heldAt t (slot id))) (held-live t (slot id)) (held-stack t (slot id) fs s))
+
+-- ---- never used
+
+-- What lives was given out.
+pub live-given : (t : Tables) (fs : List ℕ) → Stack t fs → (s : ℕ) → LiveSlot t s → s < t .arena .next
+live-given t fs k s l = cases (decLt s (t .arena .next)) (λ h. h)
+    (λ h. absurd (let e = k .unused s (omega arith) (l .0) in let f = l .1 in let p = floor-pos in omega arith))
+
+occ-drop : (y k : ℕ) (fs : List ℕ) → occ y (drop k fs) ≤ occ y fs
+occ-drop y zero fs = omega arith
+occ-drop y (suc k) [] = omega arith
+occ-drop y (suc k) (f ∷ fs) = omega (arith, occ-drop y k fs, occ-cons y f fs)
+
+-- A slot that nodes made from t to u were the first to get lives in u.
+pub newly-given : (t u : Tables) (fs : List ℕ) (k : ℕ) → Stack t fs → Stack u (drop k fs) → (s : ℕ) → t .arena .next ≤ s → s < u .arena .next → LiveSlot u s
+newly-given t u fs k a b s low high = cases (decLt (W u s own) floor)
+    (λ dead. absurd (
+    let one = b .once s (record { given = (let g = a .some in omega arith); below = high; dead = dead }) in
+    let in-t = a .only s (omega (arith, occ-drop s k fs)) .below in
+    omega arith))
+    (λ live. ((let f = b .fits in omega arith), omega arith))

@@ -1,7 +1,7 @@
 -- The freed slots, the last one freed first; and which slots a release recycles, in order.
 use mathlib.Core.Path.{_≡_}
 use mathlib.Core.List.{List, [], _∷_, _++_}
-use Prim.Native.Nat.{ℕ, zero, suc, _+_, _-_}
+use Prim.Native.Nat.{ℕ, zero, suc, _+_, _-_, _≤_}
 use lib.Dec.{eqb}
 use lib.ListN.{length, drop}
 use Rattle.basics.specs.Limits.{kidWords}
@@ -41,6 +41,7 @@ slotAfter k fs next = lastFreed (drop k fs) (next + (k - length fs))
 -- What a call that ends no node does to the freed slots fs: each node that it makes takes the last one freed, else the lowest never used. If it makes any,
 -- its answer is the last of them.
 pub record Draws (t : Tables) (fs : List ℕ) (o : Out) : Type 0 where
+  pub grows : t .arena .live ≤ o .after .arena .live
   pub left : Stack (o .after) (leftOf t (o .after) fs)
   pub given : (k : ℕ) → o .after .arena .live ≡ t .arena .live + suc k → slot (o .id) ≡ slotAfter k fs (t .arena .next)
 

@@ -6,3 +6,4 @@ pub mod Cubes
 pub mod Roots
 pub mod Between
 pub mod Orders
+pub mod Freed
