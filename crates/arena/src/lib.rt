@@ -18,7 +18,7 @@ ghost use mathlib.Core.Path.{_≡_};
 ghost use mathlib.Core.List.{List};
 ghost use Prim.Native.Nat.{ℕ, _-_};
 ghost use Rattle.nodes.specs.Words.{holds as holdsWord, places as placesWord, factOf, factPut, slot};
-ghost use Rattle.arena.specs.Calls.{madeOf, fitOf, liveOf, thereNo};
+ghost use Rattle.arena.specs.Calls.{madeOf, fitOf, liveOf, liveOrEmpty, thereNo};
 ghost use Rattle.arena.specs.Lent.{before};
 ghost use Rattle.arena.specs.Models.{moreOf, hitBy};
 ghost use Rattle.arena.specs.Tables.{tables};
@@ -105,15 +105,22 @@ pub fn is_live(capacity: usize, facts: &[u64], id: u64) -> bool
     false
 }
 
+// Not refusal 4: EMPTY, or in all 64 bits the id of a node now in the arena.
+pub fn is_live_or_empty(capacity: usize, facts: &[u64], id: u64) -> bool
+    ensures { λ r. ⌜ r ≡ liveOrEmpty capacity (factOf (now (facts .entry))) id ⌝ }
+{
+    if id == BlockId::EMPTY.0 {
+        return true;
+    }
+    is_live(capacity, facts, id)
+}
+
 // Refusals 1 and 4 of a call that is handed an id: the tables are not sized, or the id is neither EMPTY nor live.
 pub fn there_no(a: Arena, kids: &[u64], facts: &[u64], find: &[u16], id: u64) -> u32
     ensures { λ r. ⌜ r ≡ thereNo (before a kids facts find) id ⌝ }
 {
     if fit(a.capacity, kids.len(), facts.len(), find.len()) {
-        if id == BlockId::EMPTY.0 {
-            return 0;
-        }
-        if is_live(a.capacity, facts, id) {
+        if is_live_or_empty(a.capacity, facts, id) {
             return 0;
         }
         return 4;

@@ -4,7 +4,7 @@ use arena::Arena;
 use arena::Made;
 use arena::fit;
 use arena::hit;
-use arena::is_live;
+use arena::is_live_or_empty;
 use arena::less;
 use arena::settle;
 use arena::slot_of;
@@ -28,20 +28,10 @@ ghost use Rattle.basics.specs.Limits.{deepest, cubeKids};
 ghost use Rattle.basics.specs.Pick.{pick};
 ghost use Rattle.nodes.specs.Tally.{occ};
 ghost use Rattle.nodes.specs.Words.{nodes as nodesOf, factOf};
-ghost use Rattle.arena.specs.Calls.{madeOf, Fair, liveOrEmpty, enoughFor, allLive, enough, noneOf, unheldKid, unheld, internBranchOf, rawIds};
+ghost use Rattle.arena.specs.Calls.{madeOf, Fair, enoughFor, allLive, enough, noneOf, unheldKid, unheld, internBranchOf, rawIds};
 ghost use Rattle.arena.specs.Models.{settledKid, settles, branchMissBy, branchHitBy, branchAt, branchBy, branchLow, kidsNo, internBranchBy, valueBy};
 ghost use Rattle.arena.specs.Tables.{tables};
 ghost use Rattle.arena.specs.Lent.{before, made};
-
-// Is the id EMPTY or live?
-fn live_or_empty(capacity: usize, facts: &[u64], k: u64) -> bool
-    ensures { λ r. ⌜ r ≡ liveOrEmpty capacity (factOf (now (facts .entry))) k ⌝ }
-{
-    if k == 0 {
-        return true;
-    }
-    is_live(capacity, facts, k)
-}
 
 // How often y stands among the eight.
 fn occurs(ks: Kids, y: u64) -> u64
@@ -88,7 +78,7 @@ fn each_no(capacity: usize, facts: &[u64], ks: Kids) -> u32
     let mut i: usize = 0;
     while i < KID_WORDS {
         let k = ks[i];
-        if !live_or_empty(capacity, facts, k) {
+        if !is_live_or_empty(capacity, facts, k) {
             return 4;
         }
         held = both(held, enough_for(facts, ks, k));

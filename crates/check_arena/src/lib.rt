@@ -2,7 +2,7 @@
 // capacity, and the first that says no ends the check. See specs/Models.antt.
 use arena::Arena;
 use arena::fit;
-use arena::is_live;
+use arena::is_live_or_empty;
 use basics::KID_WORDS;
 use basics::Kids;
 use basics::LARGEST_VALUE;
@@ -35,7 +35,7 @@ ghost use lib.Dec.{leb};
 ghost use Rattle.basics.specs.Limits.{deepest, cubeKids, kidWords};
 ghost use Rattle.nodes.specs.Words.{kidOf, factOf, holds, places};
 ghost use Rattle.nodes.specs.Tally.{kidsOf};
-ghost use Rattle.arena.specs.Calls.{noneOf, liveOrEmpty, allLive};
+ghost use Rattle.arena.specs.Calls.{noneOf, allLive};
 ghost use Rattle.arena.specs.Tables.{WellFormed};
 ghost use Rattle.arena.specs.Lent.{before};
 ghost use Rattle.check_freed.specs.Models.{allIn};
@@ -146,23 +146,13 @@ fn branch_named(facts: &[u64], ks: Kids, s: usize) -> bool
     own == branch_id(ks, s, own)
 }
 
-// Is the id EMPTY or live?
-fn live_or_empty(capacity: usize, facts: &[u64], k: u64) -> bool
-    ensures { λ r. ⌜ r ≡ liveOrEmpty capacity (factOf (now (facts .entry))) k ⌝ }
-{
-    if k == 0 {
-        return true;
-    }
-    is_live(capacity, facts, k)
-}
-
 // Is each of the eight ids EMPTY or live?
 fn each_live(capacity: usize, facts: &[u64], ks: Kids) -> bool
     ensures { λ r. ⌜ r ≡ allLive capacity (factOf (now (facts .entry))) ks ⌝ }
 {
     let mut i: usize = 0;
     while i < KID_WORDS {
-        if !live_or_empty(capacity, facts, ks[i]) {
+        if !is_live_or_empty(capacity, facts, ks[i]) {
             return false;
         }
         i += 1;

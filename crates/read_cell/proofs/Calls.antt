@@ -13,8 +13,8 @@ use lib.IntN.{ℤ, pos, negsuc}
 use lib.Pow.{pow-mono}
 use Rattle.basics.specs.Limits.{deepest}
 use Rattle.basics.specs.Pick.{pick}
-use Rattle.basics.proofs.Rungs.{pick-yes, rung-yes, rung-no, via-yes, via-no, rungs, eq-via, ne-via, past-yes}
-use Rattle.nodes.specs.Words.{Words, nodes, own, kidOf, factOf, wordOf, slot, floor}
+use Rattle.basics.proofs.Rungs.{pick-yes, rung-yes, rung-no, via-yes, via-no, eq-via, ne-via, past-yes}
+use Rattle.nodes.specs.Words.{nodes, own, kidOf, factOf, wordOf, slot, floor}
 use Rattle.nodes.proofs.Access.{word-fact}
 use Rattle.nodes.proofs.Sums.{cases}
 use Rattle.paths.specs.declared.Cell.{Cell}
@@ -83,17 +83,6 @@ pub coord-is : (d : ℕ) (x : ℤ) → inside d x ≡ true → coordOf x ≡ who
 unfolding coordOf inside whole
 coord-is d (pos n) h = refl
 coord-is d (negsuc n) h = let q : _≡_ {A = ℕ} 0 1 = cc in absurd (omega arith)
-
--- ---- is the id there?
-
-module _ (c : ℕ) (F : Words) (id : ℕ) where
-  pub there-empty : id ≡ 0 → true ≡ liveOrEmpty c F id
-  unfolding liveOrEmpty
-  there-empty e = search rungs
-
-  pub there-live : (t : Bool) → (id ≡ 0 → ⊥) → t ≡ liveOf c F id → t ≡ liveOrEmpty c F id
-  unfolding liveOrEmpty
-  there-live t h e = rung-no _ _ _ _ (ne-eqb id 0 h) e
 
 ladder-deep : (b : Bool) (d x : ℕ) → pick b (pick (leb d deepest) x 2) 1 ≡ 0 → (d ≤ deepest) × (x ≡ 0)
 ladder-deep b d x e =

@@ -1,7 +1,7 @@
 // Reading: the end that a cell's path leads to, and lookup.
 use arena::Arena;
 use arena::fit;
-use arena::is_live;
+use arena::is_live_or_empty;
 use arena::slot_of;
 use basics::DEEPEST;
 use ids::BlockId;
@@ -16,7 +16,6 @@ ghost use Prim.Native.Nat.{_*_, _^_, _<_, _≤_};
 ghost use lib.Dec.{ltb};
 ghost use Rattle.basics.specs.Limits.{deepest};
 ghost use Rattle.nodes.specs.Words.{kidOf, factOf};
-ghost use Rattle.arena.specs.Calls.{liveOrEmpty};
 ghost use Rattle.arena.specs.Lent.{before};
 ghost use Rattle.read_cell.specs.Reading.{endOf};
 ghost use Rattle.read_cell.specs.Calls.{lookOf};
@@ -113,16 +112,6 @@ pub fn descend(kids: &[u64], id: BlockId, cell: Cell) -> End
 }
 
 // ---- refusals
-
-// Not refusal 4: EMPTY, or in all 64 bits the id of a node now in the arena.
-pub fn is_live_or_empty(c: usize, facts: &[u64], id: u64) -> bool
-    ensures { λ r. ⌜ r ≡ liveOrEmpty c (factOf (now (facts .entry))) id ⌝ }
-{
-    if id == BlockId::EMPTY.0 {
-        return true;
-    }
-    is_live(c, facts, id)
-}
 
 // Is x below 2^d?
 fn is_inside(d: u32, x: u32) -> bool

@@ -1,13 +1,13 @@
 // Expansion: the cells of a model into a lent cube.
 use arena::Arena;
 use arena::fit;
+use arena::is_live_or_empty;
 use arena::slot_of;
 use basics::DEEPEST_CUBE;
 use ids::BlockId;
 use nodes::VALUE;
 use nodes::fact;
 use nodes::kid;
-use read_cell::is_live_or_empty;
 ghost use mathlib.Core.Path.{_≡_};
 ghost use Prim.Native.Nat.{_+_, _*_, _^_, _<_, _≤_};
 ghost use lib.Dec.{eqb};
