@@ -8,6 +8,7 @@ use basics::MOST_HOLDS;
 use basics::MOST_SLOTS;
 use basics::SLOT_CELLS;
 use ids::BlockId;
+use nodes::FLOOR;
 use nodes::HOLDS;
 use nodes::OWN;
 use nodes::PLACES;
@@ -98,7 +99,7 @@ pub fn is_live(capacity: usize, facts: &[u64], id: u64) -> bool
 {
     let s = slot_of(id);
     if s < capacity {
-        if 0x8000_0000_0000 <= id {
+        if FLOOR <= id {
             return fact(facts, s, OWN) == id;
         }
     }

@@ -1,9 +1,9 @@
 // The finding table of any tables, whatever they hold, in one pass over its cells and one over the slots. See specs/Models.antt.
 use arena::Arena;
-use check_freed::FLOOR;
 use find::Found;
 use find::cell;
 use find::search;
+use nodes::FLOOR;
 use nodes::OWN;
 use nodes::VALUE;
 use nodes::children;

@@ -1,6 +1,7 @@
 // Of any tables, whatever they hold: how many nodes live, and the freed slots, in two passes over the slots. What they answer is in
 // specs/Models.antt. Each takes time linear in the capacity, and stops where it says no.
 use arena::Arena;
+use nodes::FLOOR;
 use nodes::LINK;
 use nodes::OWN;
 use nodes::fact;
@@ -9,9 +10,6 @@ ghost use Prim.Native.Nat.{_≤_};
 ghost use Rattle.nodes.specs.Words.{factOf};
 ghost use Rattle.nodes.specs.Tally.{liveBit, liveCount};
 ghost use Rattle.check_freed.specs.Models.{isGiven, isFree, walkBy, stateFine};
-
-// 2^47: an own word from here on is the id of a live node.
-pub const FLOOR: u64 = 0x8000_0000_0000;
 
 // Was slot s given out? Slot 0 never is.
 pub fn is_given(next: usize, s: usize) -> bool

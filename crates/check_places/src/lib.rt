@@ -4,7 +4,7 @@ use arena::more;
 use arena::slot_of;
 use basics::KID_WORDS;
 use basics::Kids;
-use check_freed::FLOOR;
+use nodes::FLOOR;
 use nodes::LINK;
 use nodes::OWN;
 use nodes::PLACES;

@@ -7,6 +7,7 @@ use basics::Kids;
 use find::search;
 use find::search_leaf;
 use ids::BlockId;
+use ids::LOWEST_LEAF;
 use new_value::value_at;
 use new_value::value_of;
 use nodes::OWN;
@@ -26,9 +27,6 @@ ghost use Rattle.arena.specs.Calls.{allOf};
 ghost use Rattle.arena.specs.Lent.{before};
 ghost use Rattle.edit_plan.specs.Models.{eightParts, leafKids, slotPlan, cellPlan, needPlan, upPlan, planBy, resultBy};
 
-// The lowest id of a leaf: bit 63 is the leaf flag.
-const LEAF: u64 = 0x8000_0000_0000_0000;
-
 // What a dry run found: how many nodes are to be made, and the part below them that is there.
 pub struct Plan {
     pub new: u64,
@@ -42,7 +40,7 @@ pub fn parts(kids: &[u64], id: u64) -> Kids
     if id == BlockId::EMPTY.0 {
         return [id; KID_WORDS];
     }
-    if LEAF <= id {
+    if LOWEST_LEAF <= id {
         return [id; KID_WORDS];
     }
     children(kids, slot_of(id))

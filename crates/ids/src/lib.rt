@@ -4,6 +4,9 @@ ghost use mathlib.Core.Bool.{not};
 ghost use lib.Dec.{eqb};
 ghost use Rattle.ids.specs.Ids.{empty, invalid, indexOf, generationOf, typesOf, maskOf, hasChild, isLeaf, isBranch, packingNo, newLeaf, newBranch};
 
+// The lowest id of a leaf: bit 63 is the leaf flag.
+pub const LOWEST_LEAF: u64 = 0x8000_0000_0000_0000;
+
 // An id. Its 64 bits, from the highest: leaf (1), types (8), mask (8), generation (15), index (32).
 #[repr(C)]
 pub struct BlockId(pub u64);
@@ -50,7 +53,7 @@ impl BlockId {
         if BlockId::packing_no(generation) != 0 {
             return BlockId::INVALID;
         }
-        BlockId(0x8000_0000_0000_0000 + (generation as u64) * 0x1_0000_0000 + (index as u64))
+        BlockId(LOWEST_LEAF + (generation as u64) * 0x1_0000_0000 + (index as u64))
     }
 
     // The id of a branch, or INVALID where packing refuses.

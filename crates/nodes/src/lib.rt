@@ -23,6 +23,9 @@ pub const LINK: usize = 13;
 
 pub const SPARE: usize = 14;
 
+// 2^47: an own word from here on is the id of a live node.
+pub const FLOOR: u64 = 0x8000_0000_0000;
+
 // Child i of slot s; 0 above 7.
 pub fn kid(kids: &[u64], s: usize, i: usize) -> u64
     ensures { λ r. ⌜ r ≡ kidOf (now (kids .entry)) s i ⌝ }

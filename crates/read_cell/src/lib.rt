@@ -5,6 +5,7 @@ use arena::is_live_or_empty;
 use arena::slot_of;
 use basics::DEEPEST;
 use ids::BlockId;
+use ids::LOWEST_LEAF;
 use nodes::VALUE;
 use nodes::fact;
 use nodes::kid;
@@ -20,9 +21,6 @@ ghost use Rattle.arena.specs.Lent.{before};
 ghost use Rattle.read_cell.specs.Reading.{endOf};
 ghost use Rattle.read_cell.specs.Calls.{lookOf};
 ghost use Rattle.read_cell.specs.Models.{endsAt, val, spaced, pathWord, lookNoAt, lookAt};
-
-// The lowest id of a leaf: bit 63 is the leaf flag.
-const LEAF: u64 = 0x8000_0000_0000_0000;
 
 // Where a path ended: the id reached, and its level.
 pub struct End {
@@ -43,14 +41,14 @@ pub struct Looked {
 fn is_end(id: u64) -> bool
     ensures { λ r. ⌜ r ≡ endsAt id ⌝ }
 {
-    if id < LEAF {
+    if id < LOWEST_LEAF {
         return id == BlockId::EMPTY.0;
     }
     true
 }
 
 // The stored value, in 16 bits; EMPTY has 0.
-fn value(facts: &[u64], id: u64) -> u16
+pub fn value(facts: &[u64], id: u64) -> u16
     ensures { λ r. ⌜ r ≡ val (factOf (now (facts .entry))) id ⌝ }
 {
     let stored = (fact(facts, slot_of(id), VALUE) % 0x1_0000) as u16;

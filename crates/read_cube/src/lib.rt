@@ -5,33 +5,17 @@ use arena::is_live_or_empty;
 use arena::slot_of;
 use basics::DEEPEST_CUBE;
 use ids::BlockId;
-use nodes::VALUE;
-use nodes::fact;
+use ids::LOWEST_LEAF;
 use nodes::kid;
+use read_cell::value;
 ghost use mathlib.Core.Path.{_≡_};
 ghost use Prim.Native.Nat.{_+_, _*_, _^_, _<_, _≤_};
 ghost use lib.Dec.{eqb};
 ghost use Rattle.basics.specs.Limits.{deepestCube, cubeKids};
-ghost use Rattle.nodes.specs.Words.{factOf};
 ghost use Rattle.nodes.specs.Lent.{wordsIn};
 ghost use Rattle.arena.specs.Lent.{before};
 ghost use Rattle.read_cell.specs.Calls.{expanded, expandNo, expandOf};
-ghost use Rattle.read_cell.specs.Models.{val};
 ghost use Rattle.read_cube.specs.Models.{fillRow, fillPlane, fillBlock, offset as offsetOf, grow, partsTo, partVal, pairOf, cubeFrom};
-
-// The lowest id of a leaf: bit 63 is the leaf flag.
-const LEAF: u64 = 0x8000_0000_0000_0000;
-
-// The stored value, in 16 bits; EMPTY has 0.
-fn value(facts: &[u64], id: u64) -> u16
-    ensures { λ r. ⌜ r ≡ val (factOf (now (facts .entry))) id ⌝ }
-{
-    let stored = (fact(facts, slot_of(id), VALUE) % 0x1_0000) as u16;
-    if id == BlockId::EMPTY.0 {
-        return 0;
-    }
-    stored
-}
 
 // ---- one value into part of a cube
 
@@ -158,7 +142,7 @@ fn fill_octant(
     if id == BlockId::EMPTY.0 {
         return;
     }
-    if LEAF <= id {
+    if LOWEST_LEAF <= id {
         fill_block(cube, at, side, row, plane, value(facts, id));
         return;
     }
@@ -201,7 +185,7 @@ fn fill_cube(kids: &[u64], facts: &[u64], cube: &mut [u16], id: u64, depth: u32,
     ensures { λ _. ⌜ now (cube .exit) ≡ cubeFrom (wordsIn kids facts) s depth id (now (cube .entry)) ⌝ }
 {
     let n = cube.len();
-    if LEAF <= id {
+    if LOWEST_LEAF <= id {
         fill_row(cube, 0, n, value(facts, id));
         return;
     }

@@ -18,7 +18,7 @@ use Rattle.read_cube.proofs.+fill_octant+fill_octants.Lts-fill_octants 
 use Rattle.read_cube.proofs.fill_block.Reads as fill-block-reads
 use Rattle.read_cube.proofs.fill_cells.Reads as fill-cells-reads
 use Rattle.read_cube.proofs.offset.Reads as offset-reads
-use Rattle.read_cube.proofs.value.Reads as value-reads
+use Rattle.read_cell.proofs.value.Reads as value-reads
 use Rattle.read_cube.proofs.+fill_octant+fill_octants.{statement}
 use Rattle.read_cube.proofs.+fill_octant+fill_octants.Tie.{close}
 
