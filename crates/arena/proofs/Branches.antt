@@ -11,19 +11,20 @@ use lib.ListN.{length, getD}
 use borrow.Author.Tests.{eq-eqb, ne-eqb, leb-true, le-leb}
 use Rattle.nodes.specs.Tally.{Live, occ, same}
 use Rattle.nodes.specs.Words.{own, holds, places, spare, Nodes, slot, floor, Words, wordOf, putOf}
-use Rattle.nodes.proofs.Access.{SameSize, put-size, size-refl, size-trans, within-size, put-same, put-slot, put-field, put-less}
-use Rattle.nodes.proofs.Counts.{live-same, live-inj, total-bound}
+use Rattle.nodes.proofs.Access.{SameSize, size-refl, size-trans, put-keeps, put-less}
+use Rattle.nodes.proofs.Counts.{live-same, total-append}
 use Rattle.nodes.proofs.Sums.{cases, occ-nil, occ-cons, occ-here, occ-there, occ-append}
 use Rattle.find.specs.Content.{agree}
 use Rattle.find.proofs.Contents.{agree-true, agree-words}
 use Rattle.arena.specs.Calls.{each, unheldKid, placedKid, liveOrEmpty, enoughFor, liveOf, allLive, enough, noneOf, unheld, placed, allOf, branchIn, branchSlot}
-use Rattle.arena.specs.Models.{settledKid, moreOf, settledN, settles}
+use Rattle.arena.specs.Models.{placedBy}
 use Rattle.arena.specs.Tables.{tablesOf, Tables, cap, W, LiveSlot}
 use Rattle.arena.specs.declared.Arena.{Arena}
 use Rattle.arena.proofs.Dropping.{put-recounted}
 use Rattle.arena.proofs.Eight.{all-at}
 use Rattle.arena.proofs.Fits.{both}
-use Rattle.arena.proofs.Inv.{sized-within, Inv, Recounted, recounted-word, move-inv, inv-debt}
+use Rattle.arena.proofs.Inv.{Inv, recounted-word, move-inv}
+use Rattle.arena.proofs.Places.{owing}
 use Rattle.arena.proofs.Scan.{find-miss}
 
 -- ---- what the refusals leave
@@ -89,7 +90,7 @@ eased-trans p q = record {
   fewer = λ b. let x = p .fewer b in let y = q .fewer b in omega arith;
 }
 
-abbrev lessN : Nodes → ℕ → Nodes
+abbrev pub lessN : Nodes → ℕ → Nodes
 lessN l s = putOf l s holds (wordOf l s holds - 1)
 
 less-eased : (l : Nodes) (s : ℕ) → Eased l (lessN l s)
@@ -103,39 +104,34 @@ less-eased l s =
           (λ q. let e = r .others b holds q (omega arith) in omega arith);
     }
 
-unheld-empty : (l : Nodes) (ks : List ℕ) (k : ℕ) → k ≡ 0 → unheld l (k ∷ ks) ≡ unheld l ks
+pub unheld-empty : (l : Nodes) (ks : List ℕ) (k : ℕ) → k ≡ 0 → unheld l (k ∷ ks) ≡ unheld l ks
 unfolding each unheldKid
 unheld-empty l ks k e = rw (eq-eqb k 0 e)
 
-unheld-node : (l : Nodes) (ks : List ℕ) (k : ℕ) → k ≢ 0 → unheld l (k ∷ ks) ≡ unheld (lessN l (slot k)) ks
+pub unheld-node : (l : Nodes) (ks : List ℕ) (k : ℕ) → k ≢ 0 → unheld l (k ∷ ks) ≡ unheld (lessN l (slot k)) ks
 unfolding each unheldKid
 unheld-node l ks k e = rw (ne-eqb k 0 e)
 
-unheld-nil : (l : Nodes) → unheld l [] ≡ l
+pub unheld-nil : (l : Nodes) → unheld l [] ≡ l
 unfolding each
 unheld-nil l = refl
 
 abbrev Named : ℕ → Nodes → List ℕ → Type 0
 Named c l ks = (y : ℕ) → y ≢ 0 → 1 ≤ occ y ks → Live c (wordOf l) y × (1 ≤ wordOf l (slot y) places)
 
-less-inv : (a : Arena) (l : Nodes) (f : List ℕ) (y : ℕ) → Inv (tablesOf a l f) [] → Live (a .capacity) (wordOf l) y → 1 ≤ wordOf l (slot y) places → Inv (tablesOf a (lessN l (slot y)) f) []
-less-inv a l f y v live one =
+less-inv : (a : Arena) (l : Nodes) (f d : List ℕ) (y : ℕ) → Inv (tablesOf a l f) d → Live (a .capacity) (wordOf l) y → 1 ≤ wordOf l (slot y) places → Inv (tablesOf a (lessN l (slot y)) f) d
+less-inv a l f d y v live one =
     let r = put-recounted l (slot y) holds (wordOf l (slot y) holds - 1) (inl refl) in
-    let e : wordOf (lessN l (slot y)) (slot y) places ≡ wordOf l (slot y) places = put-field l (slot y) holds (wordOf l (slot y) holds - 1) places (omega arith) in
-    move-inv a l (lessN l (slot y)) f [] [] y v live r (λ z p q. refl) (omega arith) (omega arith)
+    let e = put-keeps l (slot y) holds (wordOf l (slot y) holds - 1) (slot y) places (omega arith) in
+    move-inv a l (lessN l (slot y)) f d d y v live r (λ z p q. refl) (omega arith) (omega arith)
 
 less-named : (c : ℕ) (l : Nodes) (ks : List ℕ) (s : ℕ) → Named c l ks → Named c (lessN l s) ks
 less-named c l ks s h y d o =
     let p = h y d o in
     let e = less-eased l s in (
       live-same c (wordOf l) (wordOf (lessN l s)) y (e .words (slot y) own (omega arith) (omega arith) (omega arith)) (p .0),
-      (let q = p .1 in let z : wordOf (lessN l s) (slot y) places ≡ wordOf l (slot y) places = word-places l s (slot y) in omega arith),
+      (let q = p .1 in let z = put-keeps l s holds (wordOf l s holds - 1) (slot y) places (omega arith) in omega arith),
     )
-  where
-    word-places : (l : Nodes) (s b : ℕ) → wordOf (lessN l s) b places ≡ wordOf l b places
-    word-places l s b = cases (ℕ-discrete b s)
-        (λ (q : b ≡ s). rw q (put-field l s holds (wordOf l s holds - 1) places (omega arith)))
-        (λ q. put-slot l s holds (wordOf l s holds - 1) b places q)
 
 pub unheld-eased : (ks : List ℕ) (l : Nodes) → Eased l (unheld l ks)
 unheld-eased [] l = rw (unheld-nil l) (eased-refl l)
@@ -143,140 +139,35 @@ unheld-eased (k ∷ ks) l = cases (ℕ-discrete k 0)
     (λ z. rw (unheld-empty l ks k z) (unheld-eased ks l))
     (λ z. rw (unheld-node l ks k z) (eased-trans (less-eased l (slot k)) (unheld-eased ks (lessN l (slot k)))))
 
-pub unheld-inv : (a : Arena) (f ks : List ℕ) (l : Nodes) → Inv (tablesOf a l f) [] → Named (a .capacity) l ks → Inv (tablesOf a (unheld l ks) f) []
-unheld-inv a f [] l v h = rw (unheld-nil l) v
-unheld-inv a f (k ∷ ks) l v h = cases (ℕ-discrete k 0)
-    (λ z. rw (unheld-empty l ks k z) (unheld-inv a f ks l v (λ y d o. h y d (omega (arith, occ-cons y k ks)))))
+pub unheld-inv : (a : Arena) (f d ks : List ℕ) (l : Nodes) → Inv (tablesOf a l f) d → Named (a .capacity) l ks → Inv (tablesOf a (unheld l ks) f) d
+unheld-inv a f d [] l v h = rw (unheld-nil l) v
+unheld-inv a f d (k ∷ ks) l v h = cases (ℕ-discrete k 0)
+    (λ z. rw (unheld-empty l ks k z) (unheld-inv a f d ks l v (λ y d o. h y d (omega (arith, occ-cons y k ks)))))
     (λ z.
     let p = h k z (omega (arith, occ-here k ks)) in
     rw (unheld-node l ks k z)
-    (unheld-inv a f ks (lessN l (slot k)) (less-inv a l f k v (p .0) (p .1)) (less-named (a .capacity) l ks (slot k) (λ y d o. h y d (omega (arith, occ-cons y k ks))))))
+    (unheld-inv a f d ks (lessN l (slot k)) (less-inv a l f d k v (p .0) (p .1)) (less-named (a .capacity) l ks (slot k) (λ y d o. h y d (omega (arith, occ-cons y k ks))))))
 
 -- ---- the holds become places
 
-abbrev placeN : Nodes → ℕ → Nodes
-placeN l s = putOf (lessN l s) s places (wordOf l s places + 1)
-
-settled-is : (l : Nodes) (s : ℕ) → wordOf l s places < (2 ^ 64 - 1) → settledN l s ≡ placeN l s
-unfolding settledN moreOf
-settled-is l s h = let e : (wordOf l s places + 1) % 2 ^ 64 ≡ wordOf l s places + 1 = omega arith in ap (λ (x : ℕ). putOf (lessN l s) s places x) e
-
-place-recounted : (l : Nodes) (s : ℕ) → Recounted s l (placeN l s)
-place-recounted l s = record {
-  size = size-trans (put-size l s holds (wordOf l s holds - 1)) (put-size (lessN l s) s places (wordOf l s places + 1));
-  others = λ b f q m. put-slot (lessN l s) s places (wordOf l s places + 1) b f q ∙ put-slot l s holds (wordOf l s holds - 1) b f q;
-  same = λ f m a b. put-field (lessN l s) s places (wordOf l s places + 1) f b ∙ put-field l s holds (wordOf l s holds - 1) f a;
-}
-
-place-holds : (l : Nodes) (s : ℕ) → wordOf (placeN l s) s holds ≡ wordOf l s holds - 1
-place-holds l s = put-field (lessN l s) s places (wordOf l s places + 1) holds (omega arith) ∙ put-less l s holds (omega arith) (omega arith)
-
-place-eased : (l : Nodes) (s : ℕ) → Eased l (placeN l s)
-place-eased l s =
-    let r = place-recounted l s in
-    record {
-      size = r .size;
-      words = recounted-word r;
-      fewer = λ b. cases (ℕ-discrete b s)
-          (λ (q : b ≡ s). subst (λ (z : ℕ). wordOf (placeN l s) z holds ≤ wordOf l z holds) (sym q) (let e = place-holds l s in omega arith))
-          (λ q. let e = r .others b holds q (omega arith) in omega arith);
-    }
-
-module _ (l : Nodes) (ks : List ℕ) (k : ℕ) where
-  placed-empty : k ≡ 0 → placed l (k ∷ ks) ≡ placed l ks
-  unfolding each placedKid
-  placed-empty e = rw (eq-eqb k 0 e)
-
-  placed-node : k ≢ 0 → placed l (k ∷ ks) ≡ placed (placeN l (slot k)) ks
-  unfolding each placedKid
-  placed-node e = rw (ne-eqb k 0 e)
-
-  settles-empty : k ≡ 0 → settles l (k ∷ ks) ≡ settles l ks
-  unfolding each settledKid
-  settles-empty e = rw (eq-eqb k 0 e)
-
-  settles-node : k ≢ 0 → settles l (k ∷ ks) ≡ settles (settledN l (slot k)) ks
-  unfolding each settledKid
-  settles-node e = rw (ne-eqb k 0 e)
-
-placed-nil : (l : Nodes) → placed l [] ≡ l
-unfolding each
-placed-nil l = refl
-
-settles-nil : (l : Nodes) → settles l [] ≡ l
-unfolding each
-settles-nil l = refl
-
-abbrev Afford : ℕ → Nodes → List ℕ → Type 0
-Afford c l ks = (y : ℕ) → y ≢ 0 → 1 ≤ occ y ks → Live c (wordOf l) y × (occ y ks ≤ wordOf l (slot y) holds)
-
-place-inv : (a : Arena) (l : Nodes) (f d : List ℕ) (y : ℕ) → Inv (tablesOf a l f) d → Live (a .capacity) (wordOf l) y → Inv (tablesOf a (placeN l (slot y)) f) (y ∷ d)
-place-inv a l f d y v live =
-    let r = place-recounted l (slot y) in
-    let e : wordOf (placeN l (slot y)) (slot y) places ≡ wordOf l (slot y) places + 1 =
-    put-same (lessN l (slot y)) (slot y) places (wordOf l (slot y) places + 1)
-    (within-size l (lessN l (slot y)) (slot y) (put-size l (slot y) holds (wordOf l (slot y) holds - 1)) (sized-within (tablesOf a l f) (slot y) (v .sized) (live .low)))
-    (omega arith) (omega arith) in
-    move-inv a l (placeN l (slot y)) f d (y ∷ d) y v live r (λ z p q. occ-there z y d q) (omega (arith, occ-here y d)) (omega arith)
-
-place-afford : (a : Arena) (l : Nodes) (f d ks : List ℕ) (k : ℕ) → Inv (tablesOf a l f) d → Live (a .capacity) (wordOf l) k → k ≢ 0 → Afford (a .capacity) l (k ∷ ks) → Afford (a .capacity) (placeN l (slot k)) ks
-place-afford a l f d ks k v live z h y e o =
-    let p = h y e (omega (arith, occ-cons y k ks)) in
-    let r = place-recounted l (slot k) in
-    let q = p .1 in (
-      live-same (a .capacity) (wordOf l) (wordOf (placeN l (slot k))) y (recounted-word r (slot y) own (omega arith) (omega arith) (omega arith)) (p .0),
-      cases (ℕ-discrete (slot y) (slot k))
-          (λ g.
-          let yk : y ≡ k = live-inj (p .0) live g in
-          let c : occ y (k ∷ ks) ≡ suc (occ y ks) = ap (λ (x : ℕ). occ y (x ∷ ks)) (sym yk) ∙ occ-here y ks in
-          let u : wordOf (placeN l (slot k)) (slot y) holds ≡ wordOf l (slot y) holds - 1 = (rw g (place-holds l (slot k))) in
-          omega arith)
-          (λ g. let u = r .others (slot y) holds g (omega arith) in omega (arith, occ-cons y k ks)),
-    )
-
-pub record Placing (a : Arena) (l : Nodes) (f ks d : List ℕ) : Type 0 where
-  pub inv : Inv (tablesOf a (placed l ks) f) (ks ++ d)
-  pub same : settles l ks ≡ placed l ks
+pub record Placing (a : Arena) (l : Nodes) (f ks : List ℕ) : Type 0 where
+  pub inv : Inv (tablesOf a (placed l ks) f) (ks ++ [])
+  pub same : unheld (placedBy l ks) ks ≡ placed l ks
   pub eased : Eased l (placed l ks)
+  pub held : (b : ℕ) → wordOf (each placedKid l ks) b holds ≡ wordOf l b holds
 
-turn : (u : Tables) (k : ℕ) (ks d : List ℕ) → Inv u (ks ++ (k ∷ d)) → Inv u (k ∷ (ks ++ d))
-turn u k ks d v =
-    inv-debt u (ks ++ (k ∷ d)) (k ∷ (ks ++ d))
-    (λ z e. omega (arith, occ-append z ks (k ∷ d), occ-append z ks d, occ-cons z k d, occ-cons z k (ks ++ d))) v
-
-few-places : (a : Arena) (l : Nodes) (f d : List ℕ) (k : ℕ) → length d ≤ 1000 → Inv (tablesOf a l f) d → Live (a .capacity) (wordOf l) k → wordOf l (slot k) places < (2 ^ 64 - 1)
-few-places a l f d k n v live =
-    let c = v .counts .placed k live in
-    let m = v .sized .most in
-    omega (arith, total-bound 8 (a .capacity) (wordOf l) d k)
-
-skip-afford : (c : ℕ) (l : Nodes) (ks : List ℕ) (k : ℕ) → Afford c l (k ∷ ks) → k ≡ 0 → Afford c l ks
-skip-afford c l ks k h z y e o =
-    let p = h y e (omega (arith, occ-cons y k ks)) in (p .0, (let q = p .1 in omega (arith, occ-cons y k ks)))
-
-placing-empty : (a : Arena) (f ks : List ℕ) (l : Nodes) (d : List ℕ) (k : ℕ) → k ≡ 0 → Placing a l f ks (k ∷ d) → Placing a l f (k ∷ ks) d
-placing-empty a f ks l d k z r = record {
-  inv = rw (placed-empty l ks k z) (turn (tablesOf a (placed l ks) f) k ks d (r .inv));
-  same = settles-empty l ks k z ∙ r .same ∙ sym (placed-empty l ks k z);
-  eased = rw (placed-empty l ks k z) (r .eased);
-}
-
-placing-node : (a : Arena) (f ks : List ℕ) (l : Nodes) (d : List ℕ) (k : ℕ) → k ≢ 0 → wordOf l (slot k) places < (2 ^ 64 - 1) → Placing a (placeN l (slot k)) f ks (k ∷ d) → Placing a l f (k ∷ ks) d
-placing-node a f ks l d k z few r = record {
-  inv = rw (placed-node l ks k z) (turn (tablesOf a (placed (placeN l (slot k)) ks) f) k ks d (r .inv));
-  same = settles-node l ks k z ∙ ap (λ (x : Nodes). settles x ks) (settled-is l (slot k) few) ∙ r .same ∙ sym (placed-node l ks k z);
-  eased = rw (placed-node l ks k z) (eased-trans (place-eased l (slot k)) (r .eased));
-}
-
-owed-empty : (u : Tables) (k : ℕ) (d : List ℕ) → k ≡ 0 → Inv u d → Inv u (k ∷ d)
-owed-empty u k d z v = inv-debt u d (k ∷ d) (λ y e. sym (occ-there y k d (λ q. e (q ∙ z)))) v
-
-pub placing : (a : Arena) (f ks : List ℕ) (l : Nodes) (d : List ℕ) → length d + length ks ≤ 1000 → Inv (tablesOf a l f) d → Afford (a .capacity) l ks → Placing a l f ks d
-placing a f [] l d n v h =
-    record { inv = rw (placed-nil l) v; same = settles-nil l ∙ sym (placed-nil l); eased = rw (placed-nil l) (eased-refl l) }
-placing a f (k ∷ ks) l d n v h = cases (ℕ-discrete k 0)
-    (λ z. placing-empty a f ks l d k z (placing a f ks l (k ∷ d) (omega arith) (owed-empty (tablesOf a l f) k d z v) (skip-afford (a .capacity) l ks k h z)))
-    (λ z.
-    let p = h k z (omega (arith, occ-here k ks)) in
-    placing-node a f ks l d k z (few-places a l f d k (omega arith) v (p .0))
-    (placing a f ks (placeN l (slot k)) (k ∷ d) (omega arith) (place-inv a l f d k v (p .0)) (place-afford a l f d ks k v (p .0) z h)))
+pub placing : (a : Arena) (f ks : List ℕ) (l : Nodes) → length ks ≤ 1000 → Inv (tablesOf a l f) [] → ((y : ℕ) → y ≢ 0 → 1 ≤ occ y ks → Live (a .capacity) (wordOf l) y) → Placing a l f ks
+placing a f ks l n v h =
+    let o = owing a f ks l [] (omega arith) v h in
+    record {
+      inv = unheld-inv a f (ks ++ []) ks (each placedKid l ks) (o .inv)
+          (λ y z p.
+          let live = live-same (a .capacity) (wordOf l) (wordOf (each placedKid l ks)) y (o .words (slot y) own (omega arith)) (h y z p) in
+          let c = o .inv .counts .placed y live in
+          (live, omega (arith, total-append 8 (a .capacity) (wordOf (each placedKid l ks)) y ks [])));
+      same = ap (λ (x : Nodes). unheld x ks) (o .same);
+      eased = eased-trans
+          (record { size = o .size; words = λ b g m p q. o .words b g q; fewer = λ b. (let e = o .words b holds (omega arith) in omega arith) })
+          (unheld-eased ks (each placedKid l ks));
+      held = λ b. o .words b holds (omega arith);
+    }

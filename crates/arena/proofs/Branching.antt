@@ -23,7 +23,7 @@ use Rattle.arena.specs.Calls.{rawIds, Out, said, refused, fits, Fair, fu
 use Rattle.arena.specs.Models.{branchLow, branchAt, topFor, cellFor, valueBy, branchMissBy, branchHitBy, branchBy, kidsNo, internBranchBy}
 use Rattle.arena.specs.Node.{valueFor, heightFor}
 use Rattle.arena.specs.Tables.{tablesOf, Tables, cap, W, LiveSlot, WellFormed}
-use Rattle.arena.proofs.Branches.{alive, affords, some-kid, branch-words, slot-lone, unheld-eased, unheld-inv, Placing, placing}
+use Rattle.arena.proofs.Branches.{alive, some-kid, branch-words, slot-lone, unheld-eased, unheld-inv, Placing, placing}
 use Rattle.arena.proofs.Eight.{raw-length}
 use Rattle.arena.proofs.Fits.{live-is, kids-fine, kids-fits, room-yes}
 use Rattle.arena.proofs.Fresh.{value-same, height-same, value-by, branch-makes, search-ends, branch-fresh}
@@ -113,7 +113,7 @@ module _ (n tallest : ℕ) (t : Tables) (m : n ≤ 8) (pos : 1 ≤ n) (w : WellF
       let c = content-words (W t) ks v (branchSlot t ks) e (q .1) in
       let k : kidsOf 8 (W t) (branchSlot t ks) ≡ ks = kids-are (W t) (branchSlot t ks) ks e (c .0) in
       let eased = unheld-eased ks (t .nodes) in
-      let u : Inv (tablesOf (t .arena) (unheld (t .nodes) ks) (t .find)) [] = unheld-inv (t .arena) (t .find) ks (t .nodes) inv
+      let u : Inv (tablesOf (t .arena) (unheld (t .nodes) ks) (t .find)) [] = unheld-inv (t .arena) (t .find) [] ks (t .nodes) inv
       (λ y z o. (kid-live y z o, kid-placed (inv .counts) (branchSlot t ks) y (q .0 .0) z (subst (λ (l : List ℕ). 1 ≤ occ y l) (sym k) o))) in
       let well : WellFormed n tallest (tablesOf (t .arena) (unheld (t .nodes) ks) (t .find)) = inv-wf n tallest (tablesOf (t .arena) (unheld (t .nodes) ks) (t .find)) u
       (content-recount n tallest (cap t) (W t) (wordOf (unheld (t .nodes) ks)) m (λ b g j. eased .words b g (omega arith) (omega arith) (omega arith))
@@ -126,9 +126,8 @@ module _ (n tallest : ℕ) (t : Tables) (m : n ≤ 8) (pos : 1 ≤ n) (w : WellF
   abbrev u : Tables
   u = tablesOf (t .arena) (placed (t .nodes) ks) (t .find)
 
-  place : Placing (t .arena) (t .nodes) (t .find) ks []
-  place = placing (t .arena) (t .find) ks (t .nodes) [] (omega arith) inv
-      (λ y z o. (kid-live y z o, affords (W t) ks (kids-fine t ks fine .1) y z o))
+  place : Placing (t .arena) (t .nodes) (t .find) ks
+  place = placing (t .arena) (t .find) ks (t .nodes) (omega arith) inv kid-live
 
   u-word : (b f : ℕ) → f ≤ spare → f ≢ holds → f ≢ places → W u b f ≡ W t b f
   u-word = place .eased .words

@@ -23,13 +23,14 @@ use Rattle.find_hash.specs.Hash.{homeFor}
 use Rattle.find.specs.Cells.{insertAt, probe, cell}
 use Rattle.find.proofs.Contents.{kids-are, probe-as}
 use Rattle.arena.specs.Calls.{Out, empties, noneOf, freshSlot, freshFacts, slotGiven, named, freshNode, leafAnew, branchAnew}
-use Rattle.arena.specs.Models.{moreOf, givenOut, freshAt, leafFresh, branchFresh, wrapSum, valueBy}
+use Rattle.arena.specs.Models.{givenOut, freshAt, leafFresh, branchFresh, wrapSum, valueBy}
 use Rattle.arena.specs.Node.{leafId, branchId, valueFor, heightFor, Node}
 use Rattle.arena.specs.Tables.{Tables, cap, W, LiveSlot}
 use Rattle.arena.proofs.Branches.{some-kid, occ-at, occ-in}
 use Rattle.arena.proofs.Ids.{new-leaf, new-branch, value-node, value-zero, height-node, height-zero, max-le, max-ext}
 use Rattle.arena.proofs.Inv.{Inv, Content, inv-debt}
 use Rattle.arena.proofs.Make.{fresh-free, fresh-small, fresh-bumps, Called, spot, leafOwn, branchOwn, leaf-called, branch-called, Row, Alone, made-row, made-old, made-inv, made-content}
+use Rattle.arena.proofs.Places.{more-few}
 use Rattle.arena.proofs.Outs.{said-path, tables-path, arena-path}
 use Rattle.arena.proofs.Rows.{empties-none, empties-length, empties-at}
 
@@ -286,10 +287,6 @@ module _ (n tallest : ℕ) (m : n ≤ 8) (pos : 1 ≤ n) (t : Tables) (ks : List
   branch-makes = record { grown = branch-grown; fresh = branch-new n t ks e some i room h q }
 
 -- ---- the code's way
-
-pub more-few : (x : ℕ) → x < 1000000 → moreOf x ≡ x + 1
-unfolding moreOf
-more-few x h = omega arith
 
 module _ (t : Tables) (d : List ℕ) (i : Inv t d) (room : t .arena .live + 1 < cap t) where
   given-is : givenOut (t .arena) (W t) ≡ slotGiven (t .arena) (W t)

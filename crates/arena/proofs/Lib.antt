@@ -8,6 +8,7 @@ pub mod Outs
 pub mod Fits
 pub mod Scan
 pub mod Make
+pub mod Places
 pub mod Branches
 pub mod Fresh
 pub mod Leaves

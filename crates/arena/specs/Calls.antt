@@ -307,14 +307,13 @@ unheldKid x k = pick (eqb k 0) x (putOf x (slot k) holds (wordOf x (slot k) hold
 abbrev pub unheld : Nodes → List ℕ → Nodes
 unheld x ks = each unheldKid x ks
 
--- a hold on the node of k becomes a place; EMPTY: nothing
+-- one place more for the node of k; EMPTY: nothing
 unfoldable pub placedKid : Nodes → ℕ → Nodes
-placedKid x k =
-    pick (eqb k 0) x (putOf (putOf x (slot k) holds (wordOf x (slot k) holds - 1)) (slot k) places (wordOf x (slot k) places + 1))
+placedKid x k = pick (eqb k 0) x (putOf x (slot k) places (wordOf x (slot k) places + 1))
 
--- the holds become places
+-- the holds become places: each child has its place, and the holds end
 abbrev pub placed : Nodes → List ℕ → Nodes
-placed x ks = each placedKid x ks
+placed x ks = unheld (each placedKid x ks) ks
 
 -- a fresh branch, with one hold
 unfoldable pub branchMade : ℕ → Tables → List ℕ → Out

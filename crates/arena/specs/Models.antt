@@ -9,7 +9,7 @@ use Rattle.basics.specs.Pick.{pick}
 use Rattle.basics.specs.Sums.{sumTo}
 use Rattle.ids.specs.Ids.{generationOf, newLeaf, newBranch}
 use Rattle.nodes.specs.Tally.{kidsOf}
-use Rattle.nodes.specs.Words.{Nodes, Words, wordOf, putOf, written, own, holds, places, link, slot}
+use Rattle.nodes.specs.Words.{Nodes, nodes, Words, wordOf, factOf, putOf, factPut, written, own, holds, places, link, slot}
 use Rattle.find.specs.Cells.{cellOf}
 use Rattle.arena.specs.Calls.{Out, said, refused, did, fits, fullOf, roomOf, heldAt, freshSlot, freshFacts, empties, recycled, each, releaseNo, noneOf, unheld, allLive, enough}
 use Rattle.arena.specs.Node.{kidTypes, kidMask}
@@ -47,6 +47,14 @@ dropPlace (suc k) t x = dropOne (dropPlace k) t x
 -- one more, running over at 2^64
 unfoldable pub moreOf : ℕ → ℕ
 moreOf x = (x + 1) % 2 ^ 64
+
+-- one more in the fact w of the node of id; EMPTY: nothing
+unfoldable pub bumped : ℕ → List ℕ → ℕ → List ℕ
+bumped w f id = pick (eqb id 0) f (factPut f (slot id) w (moreOf (factOf f (slot id) w)))
+
+-- one place more for each of the nodes
+abbrev pub placedBy : Nodes → List ℕ → Nodes
+placedBy x ks = nodes (x .kids) (each (bumped places) (x .facts) ks)
 
 -- the state once a slot is given out
 unfoldable pub givenOut : Arena → Words → Arena
@@ -112,13 +120,6 @@ releaseAny tallest t id = pick (eqb (releaseNo t id) 0) (did 0 (pick (eqb id 0) 
 
 -- ## Intern branch
 
--- each hold a place
-unfoldable pub settledKid : Nodes → ℕ → Nodes
-settledKid x k = pick (eqb k 0) x (settledN x (slot k))
-
-abbrev pub settles : Nodes → List ℕ → Nodes
-settles x ks = each settledKid x ks
-
 -- the sum of the stored values, as the code adds them
 unfoldable pub wrapSum : Words → List ℕ → ℕ → ℕ
 wrapSum W ks n = sumTo n (λ i. valueAt W (getD ks i 0) % 65536)
@@ -133,7 +134,7 @@ valueBy n W ks = wrapSum W ks n / n
 
 unfoldable pub branchMissBy : Tables → List ℕ → ℕ → ℕ → ℕ → Out
 branchMissBy t ks v up at =
-    pick (roomOf (t .arena)) (branchFresh (tablesOf (t .arena) (settles (t .nodes) ks) (t .find)) ks v up 1 0 at) (refused 11 t)
+    pick (roomOf (t .arena)) (branchFresh (tablesOf (t .arena) (unheld (placedBy (t .nodes) ks) ks) (t .find)) ks v up 1 0 at) (refused 11 t)
 
 unfoldable pub branchHitBy : Tables → List ℕ → ℕ → Out
 branchHitBy t ks s = pick (fullOf (W t) s) (refused 10 t) (hitBy (tablesOf (t .arena) (unheld (t .nodes) ks) (t .find)) s)

@@ -3,6 +3,7 @@
 // and counts are in the crate arena_hold, intern leaf in arena_leaf, intern branch in arena_branch, release in arena_release.
 use basics::FACT_WORDS;
 use basics::KID_WORDS;
+use basics::Kids;
 use basics::LEAST_SLOTS;
 use basics::MOST_HOLDS;
 use basics::MOST_SLOTS;
@@ -19,9 +20,9 @@ ghost use mathlib.Core.Path.{_≡_};
 ghost use mathlib.Core.List.{List};
 ghost use Prim.Native.Nat.{ℕ, _-_};
 ghost use Rattle.nodes.specs.Words.{holds as holdsWord, places as placesWord, factOf, factPut, slot};
-ghost use Rattle.arena.specs.Calls.{madeOf, fitOf, liveOf, liveOrEmpty, thereNo};
+ghost use Rattle.arena.specs.Calls.{madeOf, each, fitOf, liveOf, liveOrEmpty, thereNo};
 ghost use Rattle.arena.specs.Lent.{before};
-ghost use Rattle.arena.specs.Models.{moreOf, hitBy};
+ghost use Rattle.arena.specs.Models.{moreOf, bumped, hitBy};
 ghost use Rattle.arena.specs.Tables.{tables};
 
 // An arena's state: how many slots its tables have, the lowest never given out, the last one freed (0: none), how many live.
@@ -139,12 +140,26 @@ pub fn settle(facts: &mut [u64], s: usize)
     put_fact(facts, s, PLACES, more(p));
 }
 
-// One hold more on the node in slot s.
-pub fn grant(facts: &mut [u64], s: usize)
-    ensures { λ _. ⌜ now (facts .exit) ≡ factPut (now (facts .entry)) s holdsWord (moreOf (factOf (now (facts .entry)) s holdsWord)) ⌝ }
+// One more in the fact f of the node of id; EMPTY: nothing.
+pub fn bump(facts: &mut [u64], f: usize, id: u64)
+    ensures { λ _. ⌜ now (facts .exit) ≡ bumped f (now (facts .entry)) id ⌝ }
 {
-    let held = fact(facts, s, HOLDS);
-    put_fact(facts, s, HOLDS, more(held));
+    if id == BlockId::EMPTY.0 {
+        return;
+    }
+    let s = slot_of(id);
+    put_fact(facts, s, f, more(fact(facts, s, f)));
+}
+
+// One more in the fact f of the nodes of the eight ids, once for each.
+pub fn bump_all(facts: &mut [u64], f: usize, ids: Kids)
+    ensures { λ _. ⌜ now (facts .exit) ≡ each (bumped f) (now (facts .entry)) ids ⌝ }
+{
+    let mut i: usize = 0;
+    while i < KID_WORDS {
+        bump(facts, f, ids[i]);
+        i += 1;
+    }
 }
 
 // One hold more on the node in slot s, which is there already.

@@ -2,11 +2,11 @@
 // specs/Calls.antt.
 use arena::Arena;
 use arena::Made;
+use arena::bump_all;
 use arena::fit;
 use arena::hit;
 use arena::is_live_or_empty;
 use arena::less;
-use arena::settle;
 use arena::slot_of;
 use basics::KID_WORDS;
 use basics::Kids;
@@ -18,6 +18,7 @@ use new_node::free_slots;
 use new_node::fresh_branch;
 use new_value::sums_of;
 use nodes::HOLDS;
+use nodes::PLACES;
 use nodes::fact;
 use nodes_write::put_fact;
 ghost use mathlib.Core.Path.{_≡_};
@@ -29,7 +30,7 @@ ghost use Rattle.basics.specs.Pick.{pick};
 ghost use Rattle.nodes.specs.Tally.{occ};
 ghost use Rattle.nodes.specs.Words.{nodes as nodesOf, factOf};
 ghost use Rattle.arena.specs.Calls.{madeOf, Fair, enoughFor, allLive, enough, noneOf, unheldKid, unheld, internBranchOf, rawIds};
-ghost use Rattle.arena.specs.Models.{settledKid, settles, branchMissBy, branchHitBy, branchAt, branchBy, branchLow, kidsNo, internBranchBy, valueBy};
+ghost use Rattle.arena.specs.Models.{branchMissBy, branchHitBy, branchAt, branchBy, branchLow, kidsNo, internBranchBy, valueBy};
 ghost use Rattle.arena.specs.Tables.{tables};
 ghost use Rattle.arena.specs.Lent.{before, made};
 
@@ -104,27 +105,6 @@ fn kids_no(a: Arena, kids: &[u64], facts: &[u64], find: &[u16], ks: Kids) -> u32
     1
 }
 
-// A hold on the node of k becomes a place; EMPTY: nothing.
-fn settle_kid(facts: &mut [u64], k: u64)
-    ensures { λ _. ⌜ ((j : List ℕ) → nodesOf j (now (facts .exit)) ≡ settledKid (nodesOf j (now (facts .entry))) k) ⌝ }
-{
-    if k == 0 {
-        return;
-    }
-    settle(facts, slot_of(k));
-}
-
-// The holds become places.
-fn settle_all(facts: &mut [u64], ks: Kids)
-    ensures { λ _. ⌜ ((j : List ℕ) → nodesOf j (now (facts .exit)) ≡ settles (nodesOf j (now (facts .entry))) ks) ⌝ }
-{
-    let mut i: usize = 0;
-    while i < KID_WORDS {
-        settle_kid(facts, ks[i]);
-        i += 1;
-    }
-}
-
 // A hold on the node of k ends; EMPTY: nothing.
 fn unhold_kid(facts: &mut [u64], k: u64)
     ensures { λ _. ⌜ ((j : List ℕ) → nodesOf j (now (facts .exit)) ≡ unheldKid (nodesOf j (now (facts .entry))) k) ⌝ }
@@ -176,7 +156,8 @@ fn branch_miss(
     ensures { λ r. ⌜ made r kids facts find ≡ branchMissBy (before a kids facts find) ks v up at ⌝ }
 {
     if 0 < free_slots(a) {
-        settle_all(facts, ks);
+        bump_all(facts, PLACES, ks);
+        unhold_all(facts, ks);
         return fresh_branch(a, kids, facts, find, at, ks, v, up, 1, 0);
     }
     Made {

@@ -2,8 +2,8 @@
 use arena::Answer;
 use arena::Arena;
 use arena::Counted;
+use arena::bump;
 use arena::fit;
-use arena::grant;
 use arena::slot_of;
 use arena::there_no;
 use basics::MOST_HOLDS;
@@ -45,7 +45,7 @@ pub fn hold(arena: Arena, kids: &[u64], facts: &mut [u64], find: &[u16], id: Blo
             arena: same,
         };
     }
-    grant(facts, s);
+    bump(facts, HOLDS, raw);
     Answer { no: 0, arena: same }
 }
 

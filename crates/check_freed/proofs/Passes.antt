@@ -1,4 +1,4 @@
--- A pass: a loop that stops at the first number of which its test is false; and one that changes something at each number, or at each of eight ids.
+-- A pass: a loop that stops at the first number of which its test is false; and one that changes something at each number.
 use mathlib.Core.Path.{_≡_, refl, sym, ap, _∙_}
 use mathlib.Core.Bool.{Bool, true, false, not}
 use mathlib.Core.List.{List, [], _∷_}
@@ -6,13 +6,11 @@ use Prim.Native.Nat.{ℕ, zero, suc, _+_, _-_, _≤_, _<_}
 use native.Mathlib.Decide.{ℕ-discrete}
 use native.Mathlib.Numerals.{add-one}
 use native.Mathlib.Omega.{arith}
-use lib.ListN.{length, getD, drop}
 use borrow.Author.Tests.{not-true, not-false}
 use Rattle.basics.specs.Pick.{pick}
 use Rattle.nodes.specs.Tally.{tabFrom, occ}
 use Rattle.nodes.proofs.Sums.{cases, occ-cons, occ-here}
 use Rattle.arena.specs.Calls.{allOf, each}
-use Rattle.arena.proofs.Eight.{drop-at, drop-none}
 use Rattle.check_freed.specs.Models.{allIn, upTo}
 use Rattle.check_freed.proofs.Ladders.{Tells, tells-and, tells-map}
 
@@ -53,15 +51,6 @@ module _ {A : Type 0} (g : A → ℕ → A) (x : A) where
 
   pub turn-last : (y : A) (i m : ℕ) → y ≡ upTo g x i → i ≤ m → m ≤ i → y ≡ upTo g x m
   turn-last y i m e a b = let q : i ≡ m = omega arith in rw q at e
-
-module _ {A : Type 0} (g : A → ℕ → A) (x y : A) (ks : List ℕ) (i : ℕ) (eight : length ks ≡ 8) (e : each g x ks ≡ each g y (drop i ks)) where
-  pub each-next : (z : A) → i < 8 → z ≡ g y (getD ks i 0) → each g x ks ≡ each g z (drop (i + 1) ks)
-  unfolding each
-  each-next z l d = e ∙ ap (each g y) (drop-at ks i eight l) ∙ ap (λ (w : A). each g w (drop (i + 1) ks)) (sym d)
-
-  pub each-end : 8 ≤ i → y ≡ each g x ks
-  unfolding each
-  each-end l = sym (e ∙ ap (each g y) (drop-none ks i eight l))
 
 -- ---- what each turn keeps, all of them keep
 

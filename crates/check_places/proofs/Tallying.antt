@@ -11,25 +11,22 @@ use borrow.Author.Tests.{eq-eqb, ne-eqb, le-leb, lt-leb}
 use Rattle.basics.specs.Sums.{sumTo}
 use Rattle.nodes.specs.Words.{Words, own, places, link, spare, nodes, kidOf, factOf, factPut, wordOf, putOf, slot, floor}
 use Rattle.nodes.specs.Tally.{same, occ, kidsOf, tally, Live}
-use Rattle.nodes.proofs.Access.{Within, word-fact, kids-word, fact-at, put-size, put-same, put-slot, put-field}
+use Rattle.nodes.proofs.Access.{Within, word-fact, kids-word, fact-at, put-size, put-same, put-slot, put-keeps}
 use Rattle.nodes.proofs.Counts.{live-inj, live-nonzero}
 use Rattle.nodes.proofs.Sums.{cases, same-refl, same-diff, occ-nil, occ-cons, occ-here, occ-length, sumTo-ext, tabFrom-length}
-use Rattle.find_hash.specs.Hash.{wrap}
 use Rattle.arena.specs.Calls.{each}
+use Rattle.arena.specs.Models.{bumped, moreOf}
+use Rattle.arena.proofs.Places.{more-few}
 use Rattle.check_freed.specs.Models.{allIn, upTo}
 use Rattle.check_freed.proofs.Ladders.{Tells, tells-eq, tells-le, tells-map, tells-then}
 use Rattle.check_freed.proofs.Passes.{tells-all, each-keep, turns-keep}
-use Rattle.check_places.specs.Models.{bumped, kidsBumped, countTo, unlinked, clearTo, agreeAt}
+use Rattle.check_places.specs.Models.{kidsBumped, countTo, unlinked, clearTo, agreeAt}
 
-wrap-less : (x : ℕ) → x < 2 ^ 64 - 1 → wrap (x + 1) ≡ x + 1
-unfolding wrap
-wrap-less x h = omega arith
-
-bumped-empty : (f : List ℕ) (y : ℕ) → y ≡ 0 → bumped f y ≡ f
+bumped-empty : (f : List ℕ) (y : ℕ) → y ≡ 0 → bumped link f y ≡ f
 unfolding bumped
 bumped-empty f y e = rw (eq-eqb y 0 e)
 
-bumped-node : (f : List ℕ) (y : ℕ) → y ≢ 0 → bumped f y ≡ factPut f (slot y) link (wrap (factOf f (slot y) link + 1))
+bumped-node : (f : List ℕ) (y : ℕ) → y ≢ 0 → bumped link f y ≡ factPut f (slot y) link (moreOf (factOf f (slot y) link))
 unfolding bumped
 bumped-node f y e = rw (ne-eqb y 0 e)
 
@@ -55,10 +52,10 @@ module _ (k : List ℕ) where
   unfolding putOf
   put-there f s x b d = put-slot (nodes k f) s link x b link d
 
-  bumped-there : (f : List ℕ) (y b : ℕ) → (y ≢ 0 → b ≢ slot y) → U (bumped f y) b link ≡ U f b link
+  bumped-there : (f : List ℕ) (y b : ℕ) → (y ≢ 0 → b ≢ slot y) → U (bumped link f y) b link ≡ U f b link
   bumped-there f y b d = cases (ℕ-discrete y 0)
       (λ z. rw (bumped-empty f y z) refl)
-      (λ z. rw (bumped-node f y z) (put-there f (slot y) (wrap (factOf f (slot y) link + 1)) b (d z)))
+      (λ z. rw (bumped-node f y z) (put-there f (slot y) (moreOf (factOf f (slot y) link)) b (d z)))
 
   unlinked-there : (f : List ℕ) (s b : ℕ) → b ≢ s → U (unlinked f s) b link ≡ U f b link
   unlinked-there f s b d = cases (decLt (U f s own) floor)
@@ -79,13 +76,12 @@ module _ (k : List ℕ) where
     unfolding putOf
     put-scratched g s x r = record {
       size = put-size (nodes k g) s link x .facts ∙ r .size;
-      words = λ b w d.
-          cases (ℕ-discrete b s) (λ (q : b ≡ s). rw q (put-field (nodes k g) s link x w d)) (λ q. put-slot (nodes k g) s link x b w q) ∙ r .words b w d;
+      words = λ b w d. put-keeps (nodes k g) s link x b w d ∙ r .words b w d;
     }
 
-    bumped-scratched : (g : List ℕ) (y : ℕ) → Scratched f g → Scratched f (bumped g y)
+    bumped-scratched : (g : List ℕ) (y : ℕ) → Scratched f g → Scratched f (bumped link g y)
     bumped-scratched g y r = cases (ℕ-discrete y 0)
-        (λ z. rw (bumped-empty g y z) r) (λ z. rw (bumped-node g y z) (put-scratched g (slot y) (wrap (factOf g (slot y) link + 1)) r))
+        (λ z. rw (bumped-empty g y z) r) (λ z. rw (bumped-node g y z) (put-scratched g (slot y) (moreOf (factOf g (slot y) link)) r))
 
     unlinked-scratched : (g : List ℕ) (s : ℕ) → Scratched f g → Scratched f (unlinked g s)
     unlinked-scratched g s r = cases (decLt (U g s own) floor)
@@ -95,7 +91,7 @@ module _ (k : List ℕ) where
     unfolding kidsBumped
     count-scratched b =
         turns-keep (Scratched f) (kidsBumped k) b
-        (λ g s l. each-keep (Scratched f) bumped (λ y. y ≡ y) (λ x y q r. bumped-scratched x y r) (kidsOf 8 (kidOf k) s) g (λ y o. refl)) f none b (omega arith)
+        (λ g s l. each-keep (Scratched f) (bumped link) (λ y. y ≡ y) (λ x y q r. bumped-scratched x y r) (kidsOf 8 (kidOf k) s) g (λ y o. refl)) f none b (omega arith)
 
     clear-scratched : (g : List ℕ) → Scratched f g → (b : ℕ) → Scratched f (clearTo g b)
     clear-scratched g r b = turns-keep (Scratched f) unlinked b (λ x s l q. unlinked-scratched x s q) g r b (omega arith)
@@ -108,12 +104,12 @@ module _ (k : List ℕ) where
 
     module _ (x : ℕ) (lx : Live c (U f) x) where
       bumped-count : (g : List ℕ) (y : ℕ) → Scratched f g → (y ≢ 0 → Live c (U f) y) → U g (slot x) link < 2 ^ 64 - 1
-          → U (bumped g y) (slot x) link ≡ U g (slot x) link + same x y
+          → U (bumped link g y) (slot x) link ≡ U g (slot x) link + same x y
       bumped-count g y r ly few = cases (ℕ-discrete y x)
           (λ (q : y ≡ x).
           let w : U g (slot x) link ≡ factOf g (slot x) link = word-fact (nodes k g) (slot x) link (omega arith) in
-          let m = wrap-less (factOf g (slot x) link) (omega arith) in
-          let p = put-here g (slot x) (wrap (factOf g (slot x) link + 1)) (inside g (slot x) r (lx .low)) in
+          let m = more-few (factOf g (slot x) link) (omega arith) in
+          let p = put-here g (slot x) (moreOf (factOf g (slot x) link)) (inside g (slot x) r (lx .low)) in
           let o = same-refl x in
           rw (q, bumped-node g x (live-nonzero lx)) (omega arith))
           (λ q.
@@ -122,13 +118,13 @@ module _ (k : List ℕ) where
           omega arith)
 
       bumps-count : (ys g : List ℕ) → Scratched f g → ((y : ℕ) → y ≢ 0 → 1 ≤ occ y ys → Live c (U f) y) → U g (slot x) link + length ys < 2 ^ 64 - 1
-          → U (each bumped g ys) (slot x) link ≡ U g (slot x) link + occ x ys
+          → U (each (bumped link) g ys) (slot x) link ≡ U g (slot x) link + occ x ys
       unfolding each
       bumps-count [] g r h few = omega (arith, occ-nil x)
       bumps-count (y ∷ ys) g r h few =
           let p = bumped-count g y r (λ d. h y d (omega (arith, occ-here y ys))) (omega arith) in
           let o = occ-length x (y ∷ []) in
-          let ih = bumps-count ys (bumped g y) (bumped-scratched f g y r) (λ z d q. h z d (omega (arith, occ-cons z y ys)))
+          let ih = bumps-count ys (bumped link g y) (bumped-scratched f g y r) (λ z d q. h z d (omega (arith, occ-cons z y ys)))
           (omega (arith, occ-cons x y [], occ-nil x)) in
           omega (arith, occ-cons x y ys)
 
@@ -164,7 +160,7 @@ module _ (k : List ℕ) where
       unfolding kidsBumped
       count-dead s dead =
           turns-keep (λ g. U g s link ≡ U f s link) (kidsBumped k) c
-          (λ g b l. each-keep (λ g. U g s link ≡ U f s link) bumped (λ y. y ≢ 0 → Live c (U f) y)
+          (λ g b l. each-keep (λ g. U g s link ≡ U f s link) (bumped link) (λ y. y ≢ 0 → Live c (U f) y)
           (λ x y v e. bumped-there x y s (λ d q. apart y (v d) q) ∙ e) (kidsOf 8 (kidOf k) b) g (λ y o d. h b l y d o)) f refl c (omega arith)
         where
           apart : (y : ℕ) → Live c (U f) y → s ≢ slot y

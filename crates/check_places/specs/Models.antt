@@ -2,25 +2,21 @@
 -- `WellFormed`. `k` and `f` are the lists of the tables kids and facts.
 use mathlib.Core.Bool.{Bool, true}
 use mathlib.Core.List.{List}
-use Prim.Native.Nat.{ℕ, _+_}
+use Prim.Native.Nat.{ℕ}
 use lib.Dec.{eqb, leb}
 use Rattle.basics.specs.Limits.{kidWords}
 use Rattle.basics.specs.Pick.{pick}
-use Rattle.nodes.specs.Words.{own, places, link, kidOf, factOf, factPut, slot, floor}
+use Rattle.nodes.specs.Words.{own, places, link, kidOf, factOf, factPut, floor}
 use Rattle.nodes.specs.Tally.{kidsOf}
-use Rattle.find_hash.specs.Hash.{wrap}
 use Rattle.arena.specs.Calls.{each}
+use Rattle.arena.specs.Models.{bumped}
 use Rattle.check_freed.specs.Models.{upTo}
 
 -- ## The tally of all nodes in one pass: a counter in the link word of live slots
 
--- y named once more
-unfoldable pub bumped : List ℕ → ℕ → List ℕ
-bumped f y = pick (eqb y 0) f (factPut f (slot y) link (wrap (factOf f (slot y) link + 1)))
-
 -- the children of slot b counted
 unfoldable pub kidsBumped : List ℕ → List ℕ → ℕ → List ℕ
-kidsBumped k f b = each bumped f (kidsOf kidWords (kidOf k) b)
+kidsBumped k f b = each (bumped link) f (kidsOf kidWords (kidOf k) b)
 
 -- those of the slots below b
 abbrev pub countTo : List ℕ → List ℕ → ℕ → List ℕ

@@ -1,9 +1,6 @@
 // The tally of all nodes of any tables, whatever they hold, in three passes over the slots: a counter in the link word of live slots, 0 before and 0
 // again after. See specs/Models.antt.
-use arena::more;
-use arena::slot_of;
-use basics::KID_WORDS;
-use basics::Kids;
+use arena::bump_all;
 use nodes::FLOOR;
 use nodes::LINK;
 use nodes::OWN;
@@ -12,31 +9,8 @@ use nodes::children;
 use nodes::fact;
 use nodes_write::put_fact;
 ghost use mathlib.Core.Path.{_≡_};
-ghost use Rattle.arena.specs.Calls.{each};
 ghost use Rattle.check_freed.specs.Models.{allIn};
-ghost use Rattle.check_places.specs.Models.{bumped, countTo, unlinked, clearTo, agreeAt};
-
-// A child place that names y, or EMPTY.
-fn bump(facts: &mut [u64], y: u64)
-    ensures { λ _. ⌜ now (facts .exit) ≡ bumped (now (facts .entry)) y ⌝ }
-{
-    if y == 0 {
-        return;
-    }
-    let s = slot_of(y);
-    put_fact(facts, s, LINK, more(fact(facts, s, LINK)));
-}
-
-// The eight child places of a slot.
-fn bump_all(facts: &mut [u64], ks: Kids)
-    ensures { λ _. ⌜ now (facts .exit) ≡ each bumped (now (facts .entry)) ks ⌝ }
-{
-    let mut i: usize = 0;
-    while i < KID_WORDS {
-        bump(facts, ks[i]);
-        i += 1;
-    }
-}
+ghost use Rattle.check_places.specs.Models.{countTo, unlinked, clearTo, agreeAt};
 
 // Counts the child places of the slots below c.
 fn count_all(kids: &[u64], facts: &mut [u64], c: usize)
@@ -44,7 +18,7 @@ fn count_all(kids: &[u64], facts: &mut [u64], c: usize)
 {
     let mut s: usize = 0;
     while s < c {
-        bump_all(facts, children(kids, s));
+        bump_all(facts, LINK, children(kids, s));
         s += 1;
     }
 }

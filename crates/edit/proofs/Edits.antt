@@ -10,7 +10,7 @@ use borrow.Author.Tests.{eq-eqb, ne-eqb, le-leb, lt-leb}
 use Rattle.basics.specs.Limits.{deepest, cubeKids, kidWords, largestValue}
 use Rattle.nodes.specs.Values.{heightAt, valueAt}
 use Rattle.nodes.specs.Words.{own, value, height, holds, slot}
-use Rattle.nodes.proofs.Access.{Within, put-same, put-slot, put-field}
+use Rattle.nodes.proofs.Access.{Within}
 use Rattle.nodes.proofs.Counts.{live-nonzero, live-same}
 use Rattle.nodes.proofs.Sums.{cases, split}
 use Rattle.paths.specs.declared.IVec3.{IVec3}
@@ -27,6 +27,7 @@ use Rattle.arena.specs.Calls.{Out, refused, fullOf, heldAt, freshNode, leafAnew
 use Rattle.arena.specs.declared.Arena.{Arena}
 use Rattle.arena.proofs.Inv.{inv-wf, sized-within}
 use Rattle.arena.proofs.Leaves.{held-kept}
+use Rattle.ledger.proofs.Writes.{held-word, held-here, held-there}
 use Rattle.read_cell.specs.Calls.{lookNo}
 use Rattle.read_cell.proofs.Meaning.{wf-made}
 use Rattle.edit.specs.Edit.{planOf, resultOf, makeOf, grantNo, granted, answerOf, cellNo, editCell, cellAt, editNo, editOf}
@@ -59,13 +60,9 @@ granted-node t r e = rw (ne-eqb r 0 e)
 
 -- only that count is written
 pub granted-word : (t : Tables) (r s f : ℕ) → f ≢ holds → W (granted t r) s f ≡ W t s f
-unfolding heldAt
 granted-word t r s f d = cases (ℕ-discrete r 0)
     (λ z. rw (granted-empty t r z))
-    (λ z. ap (λ (u : Tables). W u s f) (granted-node t r z)
-    ∙ cases (ℕ-discrete s (slot r))
-    (λ (q : s ≡ slot r). rw q (put-field (t .nodes) (slot r) holds (W t (slot r) holds + 1) f d))
-    (λ q. put-slot (t .nodes) (slot r) holds (W t (slot r) holds + 1) s f q))
+    (λ z. ap (λ (u : Tables). W u s f) (granted-node t r z) ∙ held-word t (slot r) s f d)
 
 pub granted-arena : (t : Tables) (r : ℕ) → granted t r .arena ≡ t .arena
 unfolding heldAt
@@ -77,17 +74,9 @@ granted-cap t r = ap (λ (a : Arena). a .capacity) (granted-arena t r)
 pub granted-live : (t : Tables) (r : ℕ) → granted t r .arena .live ≡ t .arena .live
 granted-live t r = ap (λ (a : Arena). a .live) (granted-arena t r)
 
-held-word : (t : Tables) (s : ℕ) → Within (t .nodes) s → W (heldAt t s) s holds ≡ W t s holds + 1
-unfolding heldAt
-held-word t s h = put-same (t .nodes) s holds (W t s holds + 1) h (omega arith) (omega arith)
-
-held-other : (t : Tables) (s b : ℕ) → b ≢ s → W (heldAt t s) b holds ≡ W t b holds
-unfolding heldAt
-held-other t s b d = put-slot (t .nodes) s holds (W t s holds + 1) b holds d
-
 granted-effect : {n tallest : ℕ} (t : Tables) (r : ℕ) → WellFormed n tallest t → LiveOr0 (cap t) (W t) r → Effect n t (granted t r) r
 granted-effect t r w there = record {
-  granted-one = λ d. rw (granted-node t r d) (held-word t (slot r) (within there d));
+  granted-one = λ d. rw (granted-node t r d) (held-here t (slot r) (within there d));
   no-other = λ s l o. other s o;
   only = λ y l. inl (live-same (cap t) (W (granted t r)) (W t) y (sym (granted-word t r (slot y) own (omega arith))) l);
   new = 0;
@@ -101,7 +90,7 @@ granted-effect t r w there = record {
 
     other : (s : ℕ) → (r ≡ 0) ⊎ (s ≢ slot r) → W (granted t r) s holds ≡ W t s holds
     other s (inl z) = rw (granted-empty t r z)
-    other s (inr q) = cases (ℕ-discrete r 0) (λ z. rw (granted-empty t r z)) (λ z. rw (granted-node t r z) (held-other t (slot r) s q))
+    other s (inr q) = cases (ℕ-discrete r 0) (λ z. rw (granted-empty t r z)) (λ z. rw (granted-node t r z) (held-there t (slot r) s q))
 
 pub granted-extends : (n : ℕ) (t : Tables) (r : ℕ) → n ≤ kidWords → Extends n (cap t) (W t) (W (granted t r))
 unfolding valueAt heightAt

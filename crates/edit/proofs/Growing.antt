@@ -1,25 +1,24 @@
 -- What the making leaves, step by step: places that are owed.
 use mathlib.Core.Path.{_≡_, refl, sym, ap, _∙_, subst}
-use mathlib.Core.Logic.{_≢_, inl, inr}
+use mathlib.Core.Logic.{_≢_, inl, inr, ⊎-elim}
 use mathlib.Core.List.{List, [], _∷_, _++_}
 use Prim.Native.Nat.{ℕ, _+_, _≤_}
 use native.Mathlib.Decide.{ℕ-discrete}
 use native.Mathlib.Omega.{arith}
-use borrow.Author.Tests.{eq-eqb, ne-eqb}
+use borrow.Author.Tests.{ne-eqb}
 use Rattle.basics.specs.Limits.{kidWords}
 use Rattle.nodes.specs.Tally.{Live, occ}
 use Rattle.nodes.specs.Values.{heightAt, valueAt}
-use Rattle.nodes.specs.Words.{own, value, height, holds, places, slot, wordOf, putOf}
-use Rattle.nodes.proofs.Access.{put-same, put-slot, put-field}
+use Rattle.nodes.specs.Words.{own, value, height, holds, places, slot, wordOf}
 use Rattle.nodes.proofs.Counts.{live-nonzero}
-use Rattle.nodes.proofs.Sums.{cases, occ-cons, occ-here, occ-there, occ-append}
+use Rattle.nodes.proofs.Sums.{cases, occ-cons, occ-here, occ-append}
 use Rattle.tree.specs.Tree.{LiveOr0, Extends}
-use Rattle.arena.specs.Calls.{each}
-use Rattle.arena.specs.Tables.{tablesOf, Tables, cap, W}
+use Rattle.arena.specs.Calls.{each, placedKid}
+use Rattle.arena.specs.Tables.{Tables, cap, W}
 use Rattle.arena.specs.declared.Arena.{Arena}
-use Rattle.arena.proofs.Dropping.{put-recounted}
 use Rattle.arena.proofs.Fresh.{Grown}
-use Rattle.arena.proofs.Inv.{sized-within, Inv, Content, Recounted, move-inv, inv-debt, content-recount}
+use Rattle.arena.proofs.Inv.{Inv, Content, inv-debt, content-recount}
+use Rattle.arena.proofs.Places.{placed-inv, placed-word}
 use Rattle.edit.specs.Edit.{owed}
 
 module _ {n tallest : ℕ} {t u : Tables} {d : List ℕ} {k : ℕ} (g : Grown n tallest t u d k) where
@@ -61,46 +60,23 @@ grown-none {t = t} i c =
 
 -- ---- places that are owed
 
-pub owed-empty : (t : Tables) (s : ℕ) → s ≡ 0 → owed t s ≡ t
-unfolding owed
-owed-empty t s e = rw (eq-eqb s 0 e)
-
-pub owed-node : (t : Tables) (s : ℕ) → s ≢ 0 → owed t s ≡ tablesOf (t .arena) (putOf (t .nodes) (slot s) places (W t (slot s) places + 1)) (t .find)
-unfolding owed
-owed-node t s e = rw (ne-eqb s 0 e)
-
 module _ (n tallest : ℕ) (m : n ≤ kidWords) (t : Tables) (d : List ℕ) (i : Inv t d) (c : Content n tallest (cap t) (W t)) where
-  placed-grown : (s : ℕ) → Live (cap t) (W t) s
-      → Grown n tallest t (tablesOf (t .arena) (putOf (t .nodes) (slot s) places (W t (slot s) places + 1)) (t .find)) (s ∷ d) 0
-  placed-grown s l =
-      let p = W t (slot s) places + 1 in
-      let r : Recounted (slot s) (t .nodes) (putOf (t .nodes) (slot s) places p) = put-recounted (t .nodes) (slot s) places p (inr refl) in
-      let now : wordOf (putOf (t .nodes) (slot s) places p) (slot s) places ≡ p =
-      put-same (t .nodes) (slot s) places p (sized-within t (slot s) (i .sized) (l .low)) (omega arith) (omega arith) in
-      let still : (b f : ℕ) → f ≢ places → wordOf (putOf (t .nodes) (slot s) places p) b f ≡ W t b f =
-      (λ b f q. cases (ℕ-discrete b (slot s)) (λ (z : b ≡ slot s). rw z (put-field (t .nodes) (slot s) places p f q)) (λ z. put-slot (t .nodes) (slot s) places p b f z)) in
-      record {
-        inv = move-inv (t .arena) (t .nodes) (putOf (t .nodes) (slot s) places p) (t .find) d (s ∷ d) s i l r (λ y a b. occ-there y s d b) (omega (arith, occ-here s d)) (omega arith);
-        content =
-            content-recount n tallest (cap t) (W t) (wordOf (putOf (t .nodes) (slot s) places p)) m (λ b f q. still b f (omega arith))
-            (λ b q h. let z = still b holds (omega arith) in let few = c .nodes b q h .few in omega arith) c;
-        caps = refl;
-        lives = omega arith;
-        old = λ y f q a b. still (slot y) f b;
-      }
-
   pub owed-grown : (s : ℕ) → LiveOr0 (cap t) (W t) s → Grown n tallest t (owed t s) (s ∷ d) 0
-  owed-grown s (inl e) = rw (owed-empty t s e) (grown-debt (grown-none i c) (s ∷ d) (λ y z. sym (occ-there y s d (λ q. z (q ∙ e)))))
-  owed-grown s (inr l) = rw (owed-node t s (live-nonzero l)) (placed-grown s l)
+  unfolding owed
+  owed-grown s l = record {
+    inv = placed-inv (t .nodes) s (t .arena) (t .find) d i (λ z. ⊎-elim (λ e. absurd (z e)) (λ v. v) l);
+    content =
+        content-recount n tallest (cap t) (W t) (wordOf (placedKid (t .nodes) s)) m (λ b f q. placed-word (t .nodes) s b f (omega arith))
+        (λ b q h. let z = placed-word (t .nodes) s b holds (omega arith) in let few = c .nodes b q h .few in omega arith) c;
+    caps = refl;
+    lives = omega arith;
+    old = λ y f q a b. placed-word (t .nodes) s (slot y) f b;
+  }
 
 -- only places are written
 pub owed-word : (t : Tables) (s b f : ℕ) → f ≢ places → W (owed t s) b f ≡ W t b f
-owed-word t s b f d = cases (ℕ-discrete s 0)
-    (λ z. rw (owed-empty t s z))
-    (λ z. rw (owed-node t s z)
-    (cases (ℕ-discrete b (slot s))
-    (λ (q : b ≡ slot s). rw q (put-field (t .nodes) (slot s) places (W t (slot s) places + 1) f d))
-    (λ q. put-slot (t .nodes) (slot s) places (W t (slot s) places + 1) b f q)))
+unfolding owed
+owed-word t s b f d = placed-word (t .nodes) s b f d
 
 pub each-nil : (t : Tables) → each owed t [] ≡ t
 unfolding each
@@ -115,7 +91,8 @@ each-word [] t b f d = ap (λ (u : Tables). W u b f) (each-nil t)
 each-word (k ∷ ks) t b f d = ap (λ (u : Tables). W u b f) (each-cons t k ks) ∙ each-word ks (owed t k) b f d ∙ owed-word t k b f d
 
 pub owed-arena : (t : Tables) (s : ℕ) → owed t s .arena ≡ t .arena
-owed-arena t s = cases (ℕ-discrete s 0) (λ z. rw (owed-empty t s z)) (λ z. rw (owed-node t s z))
+unfolding owed
+owed-arena t s = refl
 
 pub each-arena : (ks : List ℕ) (t : Tables) → each owed t ks .arena ≡ t .arena
 each-arena [] t = ap (λ (u : Tables). u .arena) (each-nil t)

@@ -11,7 +11,7 @@ use Rattle.nodes.specs.Values.{heightAt}
 use Rattle.basics.specs.Limits.{deepest, cubeKids, largestValue}
 use Rattle.basics.specs.Pick.{pick}
 use Rattle.basics.proofs.Rungs.{past-yes}
-use Rattle.nodes.specs.Words.{wordOf, factOf, putOf, holds, slot}
+use Rattle.nodes.specs.Words.{Nodes, holds, slot}
 use Rattle.nodes.proofs.Sums.{cases, split}
 use Rattle.paths.specs.declared.Cell.{Cell}
 use Rattle.paths.specs.declared.IVec3.{IVec3}
@@ -19,10 +19,11 @@ use Rattle.paths.specs.Paths.{inside, whole, cellFrom, toCell}
 use Rattle.tree.specs.Tree.{LiveOr0, look}
 use Rattle.tree.specs.Lacks.{Need, have, lack}
 use Rattle.tree.proofs.CellLaws.{cube-cell}
-use Rattle.arena.specs.Tables.{Tables, tables, cap, W, WellFormed}
+use Rattle.arena.specs.Tables.{Tables, tables, tablesOf, cap, W, WellFormed}
+use Rattle.arena.specs.Models.{bumped}
 use Rattle.arena.specs.Calls.{liveOrEmpty, Out, said, refused, fits, Fair, fullOf, heldAt}
 use Rattle.arena.proofs.Branching.{full-few}
-use Rattle.arena.proofs.Fresh.{more-few}
+use Rattle.arena.proofs.Places.{bumped-is}
 use Rattle.read_cell.specs.Calls.{lookNo}
 use Rattle.read_cell.specs.Models.{lookNoAt}
 use Rattle.read_cell.proofs.Calls.{look-no-same, cell-same}
@@ -33,7 +34,7 @@ use Rattle.edit_plan.specs.Models.{planned, planBy, rootPlan, resultBy}
 use Rattle.edit_plan.specs.declared.Plan as planning
 use Rattle.edit_make.specs.Models.{makeBy, makeAt}
 use Rattle.edit_make.proofs.Steps.{make-path}
-use Rattle.edit.specs.Models.{grantBy, grantOf, answerBy, editPast, editNoAt, editBy}
+use Rattle.edit.specs.Models.{grantBy, answerBy, editPast, editNoAt, editBy}
 use Rattle.edit.proofs.Mirror.{Agree, agree-have, agree-lack, plan-agree, make-same}
 
 -- ---- what a number 0 of lookup says
@@ -92,11 +93,11 @@ low-of t root d v p n h = rw (eq-eqb (lookNo t root d p) 0 n, h)
 
 -- ---- the ends
 
-grant-same : (t : Tables) (r : ℕ) → (r ≢ 0 → W t (slot r) holds < 1000000) → tables (t .arena) (t .nodes .kids) (grantOf (t .nodes .facts) r) (t .find) ≡ granted t r
-unfolding grantOf granted heldAt putOf wordOf
-grant-same t r h = cases (ℕ-discrete r 0)
-    (λ z. rw (eq-eqb r 0 z) refl)
-    (λ z. let e = more-few (factOf (t .nodes .facts) (slot r) holds) (h z) in rw (ne-eqb r 0 z, e) refl)
+grant-same : (t : Tables) (r : ℕ) → (r ≢ 0 → W t (slot r) holds < 1000000) → tables (t .arena) (t .nodes .kids) (bumped holds (t .nodes .facts) r) (t .find) ≡ granted t r
+unfolding granted heldAt
+grant-same t r h =
+    ap (λ (x : Nodes). tablesOf (t .arena) x (t .find)) (bumped-is holds (t .nodes) r (omega arith) (λ z. let b = h z in omega arith))
+    ∙ split (eqb r 0) (λ z. rw z) (λ z. rw z)
 
 grant-few : (t : Tables) (r : ℕ) → grantNo t (have r) ≡ 0 → r ≢ 0 → W t (slot r) holds < 1000000
 unfolding grantNo

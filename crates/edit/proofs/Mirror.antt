@@ -3,7 +3,7 @@ use mathlib.Core.Path.{_≡_, refl, sym, ap, ap₂, _∙_, subst}
 use mathlib.Core.Logic.{_≢_, _⊎_, inl, inr, ⊎-elim}
 use mathlib.Core.Bool.{false, true≢false}
 use mathlib.Core.List.{List, [], _∷_, _++_}
-use Prim.Native.Nat.{ℕ, zero, suc, _+_, _-_, _/_, _%_, _^_, _≤_, _<_}
+use Prim.Native.Nat.{ℕ, zero, suc, _+_, _-_, _/_, _≤_, _<_}
 use native.Mathlib.Decide.{ℕ-discrete}
 use native.Mathlib.Omega.{arith}
 use lib.Dec.{eqb, ltb}
@@ -12,10 +12,10 @@ use borrow.Author.Tests.{eq-eqb, ne-eqb, lt-ltb}
 use Rattle.basics.specs.Limits.{cubeKids, kidWords, largestValue, mostHolds}
 use Rattle.basics.specs.Pick.{pick}
 use Rattle.ids.specs.Ids.{isLeaf}
-use Rattle.nodes.specs.Words.{Words, own, value, places, slot, wordOf, factOf, putOf}
+use Rattle.nodes.specs.Words.{Nodes, Words, own, value, slot}
 use Rattle.nodes.specs.Tally.{tabFrom, occ, Live}
-use Rattle.nodes.proofs.Counts.{total-append, total-bound}
-use Rattle.nodes.proofs.Sums.{cases, split, sumTo-ext, tabFrom-ext, tabFrom-length, tab-list, occ-nil, occ-cons, occ-here, occ-there}
+use Rattle.nodes.proofs.Counts.{total-append}
+use Rattle.nodes.proofs.Sums.{cases, split, sumTo-ext, tabFrom-ext, tabFrom-length, tab-list, occ-nil, occ-there}
 use Rattle.find.specs.Content.{contentIs}
 use Rattle.find.proofs.Contents.{content-true, content-words}
 use Rattle.tree.specs.Tree.{LiveOr0, WellMade, Cell, here, down}
@@ -25,11 +25,12 @@ use Rattle.tree.proofs.Making.{part-there, part-low, replace-same, replace-othe
 use Rattle.arena.specs.Node.{valueFor, heightFor}
 use Rattle.nodes.specs.Values.{heightAt, valueAt}
 use Rattle.arena.specs.Tables.{Tables, tablesOf, cap, W, LiveSlot, WellFormed}
-use Rattle.arena.specs.Calls.{Out, said, allOf, each, empties, leafAnew, branchAnew, leafSlot, branchSlot}
+use Rattle.arena.specs.Calls.{Out, said, allOf, each, placedKid, empties, leafAnew, branchAnew, leafSlot, branchSlot}
 use Rattle.arena.specs.Models.{moreOf, cellFor, topFor, valueBy}
 use Rattle.arena.proofs.Branches.{branch-words, slot-lone}
-use Rattle.arena.proofs.Fresh.{sum-wraps, value-by as kids-value, more-few, number-ends, leaf-fresh, branch-fresh}
-use Rattle.arena.proofs.Inv.{Inv, Content, wf-inv, wf-content}
+use Rattle.arena.proofs.Fresh.{sum-wraps, value-by as kids-value, number-ends, leaf-fresh, branch-fresh}
+use Rattle.arena.proofs.Inv.{Inv, wf-inv}
+use Rattle.arena.proofs.Places.{more-few, owing}
 use Rattle.arena.proofs.Leaves.{search-hit, search-miss, no-leaf, leaf-in, leaf-slot, leaf-content}
 use Rattle.arena.proofs.Branching.{found-slot, height-top}
 use Rattle.arena.proofs.Rows.{empties-length}
@@ -39,8 +40,8 @@ use Rattle.edit.specs.Edit.{wordsOf, oneLeaf, needOf, cellNeed, upNeed, 
 use Rattle.edit_plan.specs.Models.{planned, eightParts, foundBy, leafKids, slotPlan, cellPlan, needPlan, upPlan, planBy}
 use Rattle.edit_plan.specs.declared.Plan as planning
 use Rattle.edit_plan.proofs.Plans.{tab-get}
-use Rattle.edit_make.specs.Models.{owe, oweAll, owedBy, leafAnewBy, branchAnewBy, upBy, makeBy}
-use Rattle.edit.proofs.Growing.{owed-grown, each-nil, each-cons, grown-live}
+use Rattle.edit_make.specs.Models.{owedBy, leafAnewBy, branchAnewBy, upBy, makeBy}
+use Rattle.edit.proofs.Growing.{each-nil, each-cons}
 use Rattle.edit.proofs.Planning.{all-yes, words-length, words-at, Cell-came, cell-none, cell-leaf, cell-lack, cell-came, plan-is, parts-there}
 use Rattle.edit.proofs.Upward.{Low, Done, low-have, low-lack, placed, lowers, eight, others-live, set-at, set-other, lack-inj, have-lack, over, make-done}
 
@@ -191,40 +192,13 @@ module _ (tallest : ℕ) (t : Tables) (w : WellFormed cubeKids tallest t) where
 
 -- ---- places that are owed
 
-few-places : (t : Tables) (d : List ℕ) (s : ℕ) → length d ≤ 1000 → Inv t d → Live (cap t) (W t) s → W t (slot s) places < 2 ^ 64 - 1
-few-places t d s n v live =
-    let c = v .counts .placed s live in
-    let most = v .sized .most in
-    omega (arith, total-bound kidWords (cap t) (W t) d s)
+owed-all : (ks : List ℕ) (t : Tables) → tablesOf (t .arena) (each placedKid (t .nodes) ks) (t .find) ≡ each owed t ks
+unfolding each owed
+owed-all [] t = refl
+owed-all (k ∷ ks) t = owed-all ks (owed t k)
 
-owe-same : (t : Tables) (s : ℕ) → ((s ≡ 0 → ⊥) → W t (slot s) places < 2 ^ 64 - 1) → tablesOf (t .arena) (record { kids = t .nodes .kids; facts = owe (t .nodes .facts) s }) (t .find) ≡ owed t s
-unfolding owe owed moreOf putOf wordOf
-owe-same t s h = cases (ℕ-discrete s 0)
-    (λ z. rw (eq-eqb s 0 z) refl)
-    (λ z. let b = h z in
-    let e : (factOf (t .nodes .facts) (slot s) places + 1) % 2 ^ 64 ≡ factOf (t .nodes .facts) (slot s) places + 1 = omega arith in
-    rw (ne-eqb s 0 z, e) refl)
-
-owed-nil : (t : Tables) → owedBy t [] ≡ t
-unfolding oweAll
-owed-nil t = refl
-
-owed-cons : (t : Tables) (k : ℕ) (ks : List ℕ) → tablesOf (t .arena) (record { kids = t .nodes .kids; facts = owe (t .nodes .facts) k }) (t .find) ≡ owed t k
-    → owedBy (owed t k) ks ≡ each owed (owed t k) ks → owedBy t (k ∷ ks) ≡ each owed t (k ∷ ks)
-unfolding oweAll
-owed-cons t k ks e r = ap (λ (u : Tables). owedBy u ks) e ∙ r ∙ sym (each-cons t k ks)
-
-module _ (tallest : ℕ) where
-  pub each-same : (ks : List ℕ) (t : Tables) (d : List ℕ) → length d + length ks ≤ 1000 → Inv t d → Content cubeKids tallest (cap t) (W t)
-      → ((y : ℕ) → y ≢ 0 → 1 ≤ occ y ks → Live (cap t) (W t) y) → owedBy t ks ≡ each owed t ks
-  each-same [] t d n i c h = owed-nil t ∙ sym (each-nil t)
-  each-same (k ∷ ks) t d n i c h =
-      let g = owed-grown cubeKids tallest (omega arith) t d i c k (first k ks t h) in
-      owed-cons t k ks (owe-same t k (λ z. few-places t d k (omega arith) i (h k z (omega (arith, occ-here k ks)))))
-      (each-same ks (owed t k) (k ∷ d) (omega arith) (g .inv) (g .content) (λ y a b. grown-live g y (h y a (omega (arith, occ-cons y k ks)))))
-    where
-      first : (k : ℕ) (ks : List ℕ) (t : Tables) → ((y : ℕ) → y ≢ 0 → 1 ≤ occ y (k ∷ ks) → Live (cap t) (W t) y) → LiveOr0 (cap t) (W t) k
-      first k ks t h = cases (ℕ-discrete k 0) (λ o. inl o) (λ o. inr (h k o (omega (arith, occ-here k ks))))
+pub each-same : (ks : List ℕ) (t : Tables) (d : List ℕ) → length d + length ks ≤ 1000 → Inv t d → ((y : ℕ) → y ≢ 0 → 1 ≤ occ y ks → Live (cap t) (W t) y) → owedBy t ks ≡ each owed t ks
+each-same ks t d n i h = ap (λ (x : Nodes). tablesOf (t .arena) x (t .find)) (owing (t .arena) (t .find) ks (t .nodes) d n i h .same) ∙ owed-all ks t
 
 -- ---- a fresh node
 
@@ -289,7 +263,7 @@ module _ (tallest : ℕ) (high : tallest ≤ 900) (t : Tables) (w : WellFormed c
       let live = others-live cubeKids tallest t kids-fit two w x small d c a j h q p o l low b cell tall room few held r in
       let g = placed cubeKids tallest t kids-fit two w x small d c a j h q p o l low b cell tall room few held r in
       let same : owedBy (o .after) (set ks c 0) ≡ each owed (o .after) (set ks c 0) =
-      each-same tallest (set ks c 0) (o .after) (o .id ∷ []) (omega (arith, length-set ks c 0)) (r .grown .inv) (r .grown .content) live in
+      each-same (set ks c 0) (o .after) (o .id ∷ []) (omega (arith, length-set ks c 0)) (r .grown .inv) live in
       let v = each owed (o .after) (set ks c 0) in
       let ev : valueBy cubeKids (W v) ks ≡ valueFor cubeKids (W v) ks =
       kids-value cubeKids tallest kids-fit kids-some v ks n (g .content) (λ y a b. g .inv .counts .named y a (omega (arith, total-append kidWords (cap v) (W v) y ks []))) in
@@ -319,7 +293,7 @@ module _ (tallest : ℕ) (high : tallest ≤ 900) (t : Tables) (w : WellFormed c
         let z : upPlan t (eightParts (W t) a) c (planned 0 s) ≡ planned 1 s = up-have tallest t w x small a c s b ∙ ⊎-elim (λ y. absurd (have-lack (sym (y .1) ∙ e))) (λ y. y .1) (need-by tallest t w f s) in
         let o : makeBy t x p (part (W t) a c) (planned 0 s) 0 1 ≡ said 0 s (owed t s) =
         make-zero t x p (part (W t) a c) s 0 1
-        ∙ ap (said 0 s) (each-same tallest (s ∷ []) t [] (omega arith) inv (wf-content cubeKids tallest t w) (owed-live s (part-s s u)) ∙ each-cons t s [] ∙ each-nil (owed t s)) in
+        ∙ ap (said 0 s) (each-same (s ∷ []) t [] (omega arith) inv (owed-live s (part-s s u)) ∙ each-cons t s [] ∙ each-nil (owed t s)) in
         rw z (make-more t x c p a 0 s h q ∙ ap (λ (y : Out). upBy y (eightParts (W t) a) c h q) o
         ∙ over-same d c a 0 h q p (said 0 s (owed t s)) l low b cell tall (omega arith) few held (r .0))
 

@@ -10,7 +10,7 @@ use Rattle.basics.specs.Pick.{pick}
 use Rattle.ids.specs.Ids.{empty, isLeaf}
 use Rattle.paths.specs.declared.IVec3.{IVec3}
 use Rattle.paths.specs.Paths.{whole}
-use Rattle.nodes.specs.Words.{putOf, own, places, slot}
+use Rattle.nodes.specs.Words.{own, slot}
 use Rattle.nodes.specs.Tally.{tabFrom}
 use Rattle.tree.specs.Tree.{look}
 use Rattle.nodes.specs.Values.{heightAt}
@@ -18,7 +18,7 @@ use Rattle.tree.specs.Cells.{cubePath}
 use Rattle.tree.specs.Anew.{part, replace}
 use Rattle.tree.specs.Lacks.{Need, have, lack}
 use Rattle.arena.specs.Tables.{Tables, tablesOf, W}
-use Rattle.arena.specs.Calls.{Out, said, refused, fullOf, freeSlots, heldAt, leafAnew, branchAnew, leafSlot, branchSlot, allOf, each}
+use Rattle.arena.specs.Calls.{Out, said, refused, fullOf, freeSlots, heldAt, leafAnew, branchAnew, leafSlot, branchSlot, allOf, each, placedKid}
 use Rattle.read_cell.specs.Calls.{lookNo}
 
 -- ## The dry run: what is there already, and how many nodes are not
@@ -62,7 +62,7 @@ resultOf n t x p root = pick (eqb (look (W t) p root) x) (have root) (planOf n t
 
 -- one place more for the node s, which the branch that is made next will have; EMPTY: nothing
 unfoldable pub owed : Tables → ℕ → Tables
-owed t s = pick (eqb s empty) t (tablesOf (t .arena) (putOf (t .nodes) (slot s) places (W t (slot s) places + 1)) (t .find))
+owed t s = tablesOf (t .arena) (placedKid (t .nodes) s) (t .find)
 
 -- the part below: it is there already, or it was made for this place
 unfoldable pub lowOf : Tables → Need → Out → Out

@@ -1,14 +1,13 @@
 -- What the private functions answer and leave, of any tables: mirrors of the code. No reader has to believe them.
-use mathlib.Core.List.{List}
 use Prim.Native.Nat.{ℕ}
 use lib.Dec.{eqb, leb}
 use Rattle.basics.specs.Pick.{pick}
-use Rattle.nodes.specs.Words.{factOf, factPut, holds, slot}
+use Rattle.nodes.specs.Words.{holds, slot}
 use Rattle.nodes.specs.Values.{heightAt}
 use Rattle.paths.specs.declared.Cell.{Cell}
 use Rattle.arena.specs.Tables.{Tables, tables, W}
 use Rattle.arena.specs.Calls.{Out, said, refused, fullOf, freeSlots}
-use Rattle.arena.specs.Models.{moreOf}
+use Rattle.arena.specs.Models.{bumped}
 use Rattle.read_cell.specs.Models.{lookNoAt}
 use Rattle.edit_plan.specs.Models.{resultBy}
 use Rattle.edit_plan.specs.declared.Plan.{Plan}
@@ -25,14 +24,10 @@ unfoldable pub editNoAt : Tables → ℕ → Cell → ℕ
 editNoAt t root c =
     pick (eqb (lookNoAt t root c) 0) (pick (leb (heightAt (W t) root) (c .depth)) 0 8) (lookNoAt t root c)
 
--- one hold more; EMPTY: nothing
-unfoldable pub grantOf : List ℕ → ℕ → List ℕ
-grantOf f s = pick (eqb s 0) f (factPut f (slot s) holds (moreOf (factOf f (slot s) holds)))
-
 -- a result that is there gets a hold; else it is made
 unfoldable pub answerBy : Tables → ℕ → Cell → ℕ → Plan → Out
 answerBy t v c root b =
-    pick (eqb (b .new) 0) (said 0 (b .id) (tables (t .arena) (t .nodes .kids) (grantOf (t .nodes .facts) (b .id)) (t .find)))
+    pick (eqb (b .new) 0) (said 0 (b .id) (tables (t .arena) (t .nodes .kids) (bumped holds (t .nodes .facts) (b .id)) (t .find)))
     (makeAt t v c root b 1 0)
 
 -- once the refusals before 10 are past

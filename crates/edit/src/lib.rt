@@ -2,7 +2,7 @@
 // first and upward (crate `edit_make`). What the call answers and leaves: specs/Edit.antt.
 use arena::Arena;
 use arena::Made;
-use arena::more;
+use arena::bump;
 use arena::slot_of;
 use basics::MOST_HOLDS;
 use edit_make::make;
@@ -13,7 +13,6 @@ use new_node::free_slots;
 use new_value::height_at;
 use nodes::HOLDS;
 use nodes::fact;
-use nodes_write::put_fact;
 use paths::Cell;
 use paths::IVec3;
 use paths::to_cell;
@@ -23,7 +22,7 @@ ghost use Rattle.basics.specs.Limits.{deepest, cubeKids};
 ghost use Rattle.arena.specs.Calls.{Fair};
 ghost use Rattle.arena.specs.Lent.{before, made};
 ghost use Rattle.edit.specs.Edit.{editOf};
-ghost use Rattle.edit.specs.Models.{grantBy, grantOf, editNoAt, answerBy, editPast, editBy};
+ghost use Rattle.edit.specs.Models.{grantBy, editNoAt, answerBy, editPast, editBy};
 
 // Refusals 10 and 11.
 fn grant_no(a: Arena, kids: &[u64], facts: &[u64], find: &[u16], p: Plan) -> u32
@@ -58,17 +57,6 @@ fn early_no(a: Arena, kids: &[u64], facts: &[u64], find: &[u16], root: u64, cell
     8
 }
 
-// One hold more on the node of id; EMPTY: nothing.
-fn grant(facts: &mut [u64], id: u64)
-    ensures { λ _. ⌜ now (facts .exit) ≡ grantOf (now (facts .entry)) id ⌝ }
-{
-    if id != BlockId::EMPTY.0 {
-        let s = slot_of(id);
-        let n = fact(facts, s, HOLDS);
-        put_fact(facts, s, HOLDS, more(n));
-    }
-}
-
 // The answer: a result that is there gets a hold; else it is made.
 fn hold_or_make(
     a: Arena,
@@ -83,7 +71,7 @@ fn hold_or_make(
     ensures { λ r. ⌜ made r kids facts find ≡ answerBy (before a kids facts find) v cell root p ⌝ }
 {
     if p.new == 0 {
-        grant(facts, p.id);
+        bump(facts, HOLDS, p.id);
         return Made {
             no: 0,
             id: BlockId(p.id),

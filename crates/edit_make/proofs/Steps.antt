@@ -6,18 +6,19 @@ use native.Mathlib.Omega.{arith}
 use lib.ListN.{getD}
 use borrow.Author.Tests.{eq-eqb, ne-eqb, le-leb, lt-leb}
 use Rattle.basics.specs.Limits.{deepest}
-use Rattle.nodes.specs.Words.{wordOf, nodes, kidOf}
+use Rattle.nodes.specs.Words.{wordOf, nodes, kidOf, places}
 use Rattle.tree.specs.Cells.{pathBy, cubePath, pathTo}
 use Rattle.tree.specs.Anew.{part}
 use Rattle.paths.specs.declared.Cell.{Cell}
 use Rattle.paths.specs.Paths.{octant, cellFrom}
-use Rattle.arena.specs.Calls.{Out, said, refused}
+use Rattle.arena.specs.Calls.{Out, each, said, refused}
+use Rattle.arena.specs.Models.{bumped}
 use Rattle.arena.specs.Tables.{Tables, tables}
 use Rattle.arena.specs.declared.Arena.{Arena}
 use Rattle.edit_plan.specs.Models.{planned, eightParts}
 use Rattle.edit_plan.specs.declared.Plan.{Plan}
 use Rattle.edit_plan.proofs.Plans.{parts-kids, part-at}
-use Rattle.edit_make.specs.Models.{owe, oweAll, leafAnewBy, upBy, makeBy, makeAt}
+use Rattle.edit_make.specs.Models.{leafAnewBy, upBy, makeBy, makeAt}
 
 -- at a depth of at most 6 the nodes over the cell's path
 pub make-path : (t : Tables) (v : ℕ) (c : Cell) (id : ℕ) (b : Plan) (h q : ℕ) → c .depth ≤ deepest → makeAt t v c id b h q ≡ makeBy t v (pathTo c) id b h q
@@ -29,15 +30,15 @@ module _ (a : Arena) (k f e : List ℕ) (v id : ℕ) (c : Cell) (b : Plan) (h q 
   unfolding makeAt
   make-deep l = rw (lt-leb (c .depth) deepest l)
 
-  none : (p g : List ℕ) → b .new ≡ 0 → g ≡ owe f (b .id) → said 0 (b .id) (tables a k g e) ≡ makeBy (tables a k f e) v p id b h q
-  unfolding makeBy oweAll
+  none : (p g : List ℕ) → b .new ≡ 0 → g ≡ bumped places f (b .id) → said 0 (b .id) (tables a k g e) ≡ makeBy (tables a k f e) v p id b h q
+  unfolding makeBy each
   none [] g n eg = rw (eq-eqb (b .new) 0 n) (ap (λ (m : List ℕ). said 0 (b .id) (tables a k m e)) eg)
   none (o ∷ p) g n eg = rw (eq-eqb (b .new) 0 n) (ap (λ (m : List ℕ). said 0 (b .id) (tables a k m e)) eg)
 
   pub make-up : (r : Out) → c .depth ≤ deepest → r ≡ makeBy (tables a k f e) v (pathTo c) id b h q → r ≡ makeAt (tables a k f e) v c id b h q
   make-up r l er = er ∙ sym (make-path (tables a k f e) v c id b h q l)
 
-  pub make-none : (g : List ℕ) → c .depth ≤ deepest → b .new ≡ 0 → g ≡ owe f (b .id) → said 0 (b .id) (tables a k g e) ≡ makeAt (tables a k f e) v c id b h q
+  pub make-none : (g : List ℕ) → c .depth ≤ deepest → b .new ≡ 0 → g ≡ bumped places f (b .id) → said 0 (b .id) (tables a k g e) ≡ makeAt (tables a k f e) v c id b h q
   make-none g l n eg = make-up _ l (none (pathTo c) g n eg)
 
   pub make-end : (r : Out) → c .depth ≡ 0 → (b .new ≡ 0 → ⊥) → r ≡ leafAnewBy (tables a k f e) v h q → r ≡ makeAt (tables a k f e) v c id b h q

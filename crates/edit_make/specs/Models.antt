@@ -5,28 +5,20 @@ use lib.Dec.{eqb, leb}
 use lib.ListN.{set}
 use Rattle.basics.specs.Limits.{deepest, cubeKids}
 use Rattle.basics.specs.Pick.{pick}
-use Rattle.nodes.specs.Words.{factOf, factPut, places, slot}
 use Rattle.find_hash.specs.Hash.{homeFor}
 use Rattle.find.specs.Cells.{probe}
 use Rattle.paths.specs.declared.Cell.{Cell}
 use Rattle.tree.specs.Cells.{pathTo}
 use Rattle.tree.specs.Anew.{part}
-use Rattle.arena.specs.Tables.{Tables, tables, cap, W}
+use Rattle.arena.specs.Tables.{Tables, tablesOf, cap, W}
 use Rattle.arena.specs.Calls.{Out, said, refused, freshSlot, empties}
-use Rattle.arena.specs.Models.{moreOf, leafFresh, branchFresh, topFor, valueBy}
+use Rattle.arena.specs.Models.{moreOf, placedBy, leafFresh, branchFresh, topFor, valueBy}
 use Rattle.edit_plan.specs.Models.{planned, eightParts}
 use Rattle.edit_plan.specs.declared.Plan.{Plan}
 
--- one place more for the node s; EMPTY: nothing
-unfoldable pub owe : List ℕ → ℕ → List ℕ
-owe f s = pick (eqb s 0) f (factPut f (slot s) places (moreOf (factOf f (slot s) places)))
-
-unfoldable pub oweAll : List ℕ → List ℕ → List ℕ
-oweAll f [] = f
-oweAll f (k ∷ ks) = oweAll (owe f k) ks
-
+-- one place more for each of the nodes
 abbrev pub owedBy : Tables → List ℕ → Tables
-owedBy t ks = tables (t .arena) (t .nodes .kids) (oweAll (t .nodes .facts) ks) (t .find)
+owedBy t ks = tablesOf (t .arena) (placedBy (t .nodes) ks) (t .find)
 
 -- the first empty cell from the home of the content on: no cell names the fresh slot
 abbrev pub placeFor : Tables → List ℕ → ℕ → ℕ

@@ -1,10 +1,10 @@
 // The making of an edit: the nodes of the result that are not there, made anew, leaf first and upward.
 use arena::Arena;
 use arena::Made;
+use arena::bump;
+use arena::bump_all;
 use arena::more;
-use arena::slot_of;
 use basics::DEEPEST;
-use basics::KID_WORDS;
 use basics::Kids;
 use basics::NO_KIDS;
 use edit_plan::Plan;
@@ -17,8 +17,6 @@ use new_node::fresh_leaf;
 use new_node::fresh_slot;
 use new_value::sums_of;
 use nodes::PLACES;
-use nodes::fact;
-use nodes_write::put_fact;
 use paths::Cell;
 use paths::octant;
 ghost use mathlib.Core.Path.{_≡_};
@@ -28,31 +26,9 @@ ghost use Rattle.basics.specs.Limits.{deepest};
 ghost use Rattle.find_hash.specs.Hash.{homeFor};
 ghost use Rattle.find.specs.Cells.{probe};
 ghost use Rattle.tree.specs.Cells.{pathTo};
-ghost use Rattle.edit_make.specs.Models.{owe as oweOf, oweAll, leafAnewBy, branchAnewBy, upBy, makeBy, makeAt};
+ghost use Rattle.edit_make.specs.Models.{leafAnewBy, branchAnewBy, upBy, makeBy, makeAt};
 ghost use Rattle.arena.specs.Calls.{madeOf, freshSlot};
 ghost use Rattle.arena.specs.Lent.{before, made};
-
-// One place more for the node of id; EMPTY: nothing.
-fn owe(facts: &mut [u64], id: u64)
-    ensures { λ _. ⌜ now (facts .exit) ≡ oweOf (now (facts .entry)) id ⌝ }
-{
-    if id != BlockId::EMPTY.0 {
-        let s = slot_of(id);
-        let p = fact(facts, s, PLACES);
-        put_fact(facts, s, PLACES, more(p));
-    }
-}
-
-// One place more for each of the eight.
-fn owe_all(facts: &mut [u64], ks: Kids)
-    ensures { λ _. ⌜ now (facts .exit) ≡ oweAll (now (facts .entry)) ks ⌝ }
-{
-    let mut i: usize = 0;
-    while i < KID_WORDS {
-        owe(facts, ks[i]);
-        i += 1;
-    }
-}
 
 // Where a fresh node of this content is named. Its slot is not named yet, so the search for it ends at the first empty cell from its home on.
 fn place_for(a: Arena, find: &[u16], ks: Kids, v: u64) -> usize
@@ -109,7 +85,7 @@ fn branch_over(
 {
     let mut others = ks;
     others[c] = BlockId::EMPTY.0;
-    owe_all(facts, others);
+    bump_all(facts, PLACES, others);
     let mut all = ks;
     all[c] = low.id.0;
     branch_anew(low.arena, kids, facts, find, all, h, q)
@@ -139,7 +115,7 @@ pub fn make(
         };
     }
     if plan.new == 0 {
-        owe(facts, plan.id);
+        bump(facts, PLACES, plan.id);
         return Made {
             no: 0,
             id: BlockId(plan.id),

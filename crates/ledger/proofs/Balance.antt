@@ -16,7 +16,7 @@ use Rattle.nodes.specs.Words.{own, value, holds, places, spare, slot, wordOf}
 use Rattle.nodes.proofs.Access.{put-keeps, put-less, put-slot}
 use Rattle.nodes.proofs.Counts.{live-same, live-inj, live-nonzero, floor-pos}
 use Rattle.nodes.proofs.Sums.{cases, split}
-use Rattle.arena.specs.Calls.{Out, said, heldAt, empties, leafMade, internLeafOf, leafSlot, lessOf, takes, releaseOf, holdOf, freshOf, unheld, placed, branchAnew, branchMade, branchSlot, internBranchOf, fitOf, liveOf, countsOf}
+use Rattle.arena.specs.Calls.{Out, said, heldAt, empties, leafMade, internLeafOf, leafSlot, lessOf, takes, releaseOf, holdOf, freshOf, unheld, each, placedKid, placed, branchAnew, branchMade, branchSlot, internBranchOf, fitOf, liveOf, countsOf}
 use Rattle.arena.specs.Node.{valueFor}
 use Rattle.arena.specs.Tables.{Tables, tablesOf, cap, W, WellFormed, Sized}
 use Rattle.arena.proofs.Branches.{alive, affords, Placing, placing, unheld-eased}
@@ -30,7 +30,7 @@ use Rattle.ledger.specs.Fates.{Lives, SameNode, Grew, HasContent}
 use Rattle.ledger.proofs.Effects.{live-true, by-life, holds-live, holds-dead, on-zero, on-same, on-diff, accepted, unaccepted, counted-holds, was-live}
 use Rattle.ledger.proofs.Found.{leaf-found, branch-found, slot-own}
 use Rattle.ledger.proofs.Ladders.{Fine, branchHeld, leaf-made-no, branch-made-no, leaf-ways, branch-ways, hold-ways, release-ways}
-use Rattle.ledger.proofs.Writes.{held-cap, held-grew, held-balance, unheld-holds, placed-holds, new-grew, new-only, new-has, new-gens, new-balance}
+use Rattle.ledger.proofs.Writes.{held-cap, held-grew, held-balance, unheld-holds, new-grew, new-only, new-has, new-gens, new-balance}
 
 -- ---- what each call grants and takes
 
@@ -137,7 +137,7 @@ module _ (n tallest : ℕ) (t : Tables) (m : n ≤ 8) (w : WellFormed n tallest 
   eased-balance : (y : ℕ) → holdsOn (tablesOf (t .arena) (unheld (t .nodes) ks) (t .find)) y + used y ≡ holdsOn t y + 0
   eased-balance y =
       counted-holds t (tablesOf (t .arena) (unheld (t .nodes) ks) (t .find)) refl y 0 (used y) (eased-word (slot y) own (omega arith))
-      (λ v. let h = kid-held y v in omega (arith, used-live y v, unheld-holds ks (t .nodes) y (live-nonzero v) (apart y v)))
+      (λ v. let h = kid-held y v in omega (arith, used-live y v, unheld-holds y (live-nonzero v) ks (t .nodes) (apart y v)))
       (used-dead y)
 
   pub eased-grew : Grew t (tablesOf (t .arena) (unheld (t .nodes) ks) (t .find))
@@ -181,9 +181,8 @@ module _ (n tallest : ℕ) (t : Tables) (m : n ≤ 8) (w : WellFormed n tallest 
       )
 
   -- on a fresh node they become places
-  pub placings : Placing (t .arena) (t .nodes) (t .find) ks []
-  placings = placing (t .arena) (t .find) ks (t .nodes) [] (omega arith) (wf-inv n tallest t m w)
-      (λ y z o. (kid-lives y z o, affords (W t) ks (fine .held) y z o))
+  pub placings : Placing (t .arena) (t .nodes) (t .find) ks
+  placings = placing (t .arena) (t .find) ks (t .nodes) (omega arith) (wf-inv n tallest t m w) kid-lives
 
   abbrev put : Tables
   put = tablesOf (t .arena) (placed (t .nodes) ks) (t .find)
@@ -204,7 +203,7 @@ module _ (n tallest : ℕ) (t : Tables) (m : n ≤ 8) (w : WellFormed n tallest 
     branch-balance : (y : ℕ) → holdsOn (branchMade n t ks .after) y + used y ≡ holdsOn t y + on y (branchMade n t ks .id)
     branch-balance y =
         new-balance t put (branchMade n t ks .after) (branchMade n t ks .id) ks (valueFor n (W t) ks) e refl placed-word branch-one y (used y)
-        (λ v. let h = kid-held y v in omega (arith, used-live y v, placed-holds ks (t .nodes) y (live-nonzero v) (apart y v)))
+        (λ v. let h = kid-held y v in omega (arith, used-live y v, placings .held (slot y), unheld-holds y (live-nonzero v) ks (each placedKid (t .nodes) ks) (apart y v)))
         (used-dead y)
 
     pub branch-adds : (y : ℕ) → Lives (branchMade n t ks .after) y → (y ≡ branchMade n t ks .id) ⊎ Lives t y

@@ -10,12 +10,13 @@ use borrow.Author.Tests.{eq-eqb, ne-eqb}
 use Rattle.ids.specs.Ids.{generationOf}
 use Rattle.nodes.specs.Tally.{occ, Live}
 use Rattle.nodes.specs.Words.{Nodes, own, holds, places, slot, floor, wordOf, putOf}
-use Rattle.nodes.proofs.Access.{Within, put-same, put-slot, put-field, put-keeps, put-less}
+use Rattle.nodes.proofs.Access.{Within, put-same, put-slot, put-keeps, put-less}
 use Rattle.nodes.proofs.Counts.{live-inj, live-nonzero}
 use Rattle.nodes.proofs.Sums.{cases, occ-nil, occ-cons, occ-here, occ-there}
 use Rattle.find.proofs.Contents.{kids-are}
-use Rattle.arena.specs.Calls.{heldAt, each, unheldKid, placedKid, unheld, placed}
+use Rattle.arena.specs.Calls.{heldAt, unheld}
 use Rattle.arena.specs.Tables.{Tables, cap, W, Sized}
+use Rattle.arena.proofs.Branches.{lessN, unheld-nil, unheld-empty, unheld-node}
 use Rattle.arena.proofs.Fresh.{Fresh, fresh-gens}
 use Rattle.arena.proofs.Inv.{sized-within}
 use Rattle.ledger.specs.Ledger.{on, holdsOn}
@@ -65,64 +66,21 @@ held-balance t s x z v e y =
 
 -- ---- one hold less for each child place that isn't EMPTY
 
-module _ (run : Nodes → List ℕ → Nodes) (one : Nodes → ℕ → Nodes) (nil : (l : Nodes) → run l [] ≡ l)
-    (empty : (l : Nodes) (ks : List ℕ) (k : ℕ) → k ≡ 0 → run l (k ∷ ks) ≡ run l ks) (node : (l : Nodes) (ks : List ℕ) (k : ℕ) → k ≢ 0 → run l (k ∷ ks) ≡ run (one l (slot k)) ks)
-    (less : (l : Nodes) (s : ℕ) → wordOf (one l s) s holds ≡ wordOf l s holds - 1) (other : (l : Nodes) (s b : ℕ) → b ≢ s → wordOf (one l s) b holds ≡ wordOf l b holds) where
-  run-holds : (ks : List ℕ) (l : Nodes) (y : ℕ) → y ≢ 0 → ((k : ℕ) → k ≢ 0 → 1 ≤ occ k ks → slot y ≡ slot k → y ≡ k) → wordOf (run l ks) (slot y) holds ≡ wordOf l (slot y) holds - occ y ks
-  run-holds [] l y d apart = ap (λ (x : Nodes). wordOf x (slot y) holds) (nil l) ∙ omega (arith, occ-nil y)
-  run-holds (k ∷ ks) l y d apart =
-      let later : (x : Nodes) → wordOf (run x ks) (slot y) holds ≡ wordOf x (slot y) holds - occ y ks = (λ x. run-holds ks x y d (λ j z o q. apart j z (omega (arith, occ-cons j k ks)) q)) in
+module _ (y : ℕ) (d : y ≢ 0) where
+  pub unheld-holds : (ks : List ℕ) (l : Nodes) → ((k : ℕ) → k ≢ 0 → 1 ≤ occ k ks → slot y ≡ slot k → y ≡ k) → wordOf (unheld l ks) (slot y) holds ≡ wordOf l (slot y) holds - occ y ks
+  unheld-holds [] l apart = ap (λ (x : Nodes). wordOf x (slot y) holds) (unheld-nil l) ∙ omega (arith, occ-nil y)
+  unheld-holds (k ∷ ks) l apart =
+      let later : (x : Nodes) → wordOf (unheld x ks) (slot y) holds ≡ wordOf x (slot y) holds - occ y ks = (λ x. unheld-holds ks x (λ j z o q. apart j z (omega (arith, occ-cons j k ks)) q)) in
       cases (ℕ-discrete k 0)
-      (λ z. ap (λ (x : Nodes). wordOf x (slot y) holds) (empty l ks k z) ∙ later l ∙ omega (arith, occ-there y k ks (λ q. d (q ∙ z))))
-      (λ z. ap (λ (x : Nodes). wordOf x (slot y) holds) (node l ks k z) ∙ later (one l (slot k)) ∙ cases (ℕ-discrete (slot y) (slot k))
+      (λ z. ap (λ (x : Nodes). wordOf x (slot y) holds) (unheld-empty l ks k z) ∙ later l ∙ omega (arith, occ-there y k ks (λ q. d (q ∙ z))))
+      (λ z. ap (λ (x : Nodes). wordOf x (slot y) holds) (unheld-node l ks k z) ∙ later (lessN l (slot k)) ∙ cases (ℕ-discrete (slot y) (slot k))
       (λ q.
       let e : y ≡ k = apart k z (omega (arith, occ-here k ks)) q in
       let o : occ y (k ∷ ks) ≡ suc (occ y ks) = ap (λ (x : ℕ). occ y (x ∷ ks)) (sym e) ∙ occ-here y ks in
-      let h : wordOf (one l (slot k)) (slot y) holds ≡ wordOf l (slot y) holds - 1 = subst (λ (x : ℕ). wordOf (one l (slot k)) x holds ≡ wordOf l x holds - 1) (sym q) (less l (slot k)) in
+      let h : wordOf (lessN l (slot k)) (slot y) holds ≡ wordOf l (slot y) holds - 1 =
+      subst (λ (x : ℕ). wordOf (lessN l (slot k)) x holds ≡ wordOf l x holds - 1) (sym q) (put-less l (slot k) holds (omega arith) (omega arith)) in
       omega arith)
-      (λ q. let h = other l (slot k) (slot y) q in omega (arith, occ-there y k ks (λ r. q (ap slot r)))))
-
-abbrev lessN : Nodes → ℕ → Nodes
-lessN l s = putOf l s holds (wordOf l s holds - 1)
-
-abbrev placeN : Nodes → ℕ → Nodes
-placeN l s = putOf (lessN l s) s places (wordOf l s places + 1)
-
-unheld-nil : (l : Nodes) → unheld l [] ≡ l
-unfolding each unheldKid
-unheld-nil l = refl
-
-unheld-empty : (l : Nodes) (ks : List ℕ) (k : ℕ) → k ≡ 0 → unheld l (k ∷ ks) ≡ unheld l ks
-unfolding each unheldKid
-unheld-empty l ks k e = rw (eq-eqb k 0 e)
-
-unheld-node : (l : Nodes) (ks : List ℕ) (k : ℕ) → k ≢ 0 → unheld l (k ∷ ks) ≡ unheld (lessN l (slot k)) ks
-unfolding each unheldKid
-unheld-node l ks k e = rw (ne-eqb k 0 e)
-
-placed-nil : (l : Nodes) → placed l [] ≡ l
-unfolding each placedKid
-placed-nil l = refl
-
-placed-empty : (l : Nodes) (ks : List ℕ) (k : ℕ) → k ≡ 0 → placed l (k ∷ ks) ≡ placed l ks
-unfolding each placedKid
-placed-empty l ks k e = rw (eq-eqb k 0 e)
-
-placed-node : (l : Nodes) (ks : List ℕ) (k : ℕ) → k ≢ 0 → placed l (k ∷ ks) ≡ placed (placeN l (slot k)) ks
-unfolding each placedKid
-placed-node l ks k e = rw (ne-eqb k 0 e)
-
-module _ (ks : List ℕ) (l : Nodes) (y : ℕ) (d : y ≢ 0) (apart : (k : ℕ) → k ≢ 0 → 1 ≤ occ k ks → slot y ≡ slot k → y ≡ k) where
-  pub unheld-holds : wordOf (unheld l ks) (slot y) holds ≡ wordOf l (slot y) holds - occ y ks
-  unheld-holds =
-      run-holds unheld lessN unheld-nil unheld-empty unheld-node
-      (λ x s. put-less x s holds (omega arith) (omega arith)) (λ x s b q. put-slot x s holds (wordOf x s holds - 1) b holds q) ks l y d apart
-
-  pub placed-holds : wordOf (placed l ks) (slot y) holds ≡ wordOf l (slot y) holds - occ y ks
-  placed-holds =
-      run-holds placed placeN placed-nil placed-empty placed-node
-      (λ x s. put-field (lessN x s) s places (wordOf x s places + 1) holds (omega arith) ∙ put-less x s holds (omega arith) (omega arith))
-      (λ x s b q. put-slot (lessN x s) s places (wordOf x s places + 1) b holds q ∙ put-slot x s holds (wordOf x s holds - 1) b holds q) ks l y d apart
+      (λ q. let h = put-slot l (slot k) holds (wordOf l (slot k) holds - 1) (slot y) holds q in omega (arith, occ-there y k ks (λ r. q (ap slot r)))))
 
 -- ---- a fresh node with one hold
 

@@ -2,17 +2,18 @@ use borrow.Author.Needs.{needs}
 use mathlib.Core.Path.{_≡_, sym, ap, _∙_}
 use mathlib.Core.Bool.{Bool, true, false}
 use mathlib.Core.List.{List}
-use Prim.Native.Nat.{ℕ, _+_, _%_, _^_, _≤_, _<_}
+use Prim.Native.Nat.{ℕ, _≤_, _<_}
 use native.Mathlib.Omega.{arith}
 use lib.Dec.{eqb}
 use borrow.Author.Tests.{eq-eqb, le-leb, lt-leb, ne-eqb}
 use Rattle.basics.specs.Pick.{pick}
-use Rattle.nodes.specs.Words.{factOf, factPut, holds, putOf, slot, wordOf}
+use Rattle.nodes.specs.Words.{Nodes, nodes, factOf, holds, slot, wordOf}
 use Rattle.arena.specs.Calls.{did, fullOf, heldAt, holdNo, holdOf, thereNo}
-use Rattle.arena.specs.Models.{moreOf}
-use Rattle.arena.specs.Tables.{Tables, W, tables}
+use Rattle.arena.specs.Models.{bumped}
+use Rattle.arena.specs.Tables.{Tables, W, tables, tablesOf}
 use Rattle.arena.specs.declared.Arena.{Arena}
 use Rattle.arena.proofs.Fits.{there-law}
+use Rattle.arena.proofs.Places.{bumped-is}
 use Rattle.arena_hold.proofs.hold.Statement.{statement}
 use Rattle.arena_hold.proofs.hold.Tie as tie
 
@@ -47,13 +48,12 @@ module _ (a : Arena) (k f e : List ℕ) (id x : ℕ) (ex : x ≡ thereNo (tables
       full l = let q = here in rw (held-as true (le-leb 1000000 (factOf f (slot id) holds) (omega arith)))
 
       -- the code's sum, which runs over at 2^64, is the definition's: a node that takes one more hold has fewer than 1,000,000
-      held : (m : List ℕ) → h < 1000000 → m ≡ factPut f s holds (moreOf (factOf f s holds)) → did 0 (tables a k m e) ≡ holdOf t id
-      unfolding fullOf heldAt holdOf moreOf putOf wordOf
+      held : (m : List ℕ) → h < 1000000 → m ≡ bumped holds f id → did 0 (tables a k m e) ≡ holdOf t id
+      unfolding fullOf heldAt holdOf wordOf
       held m l em =
           let o = here in
-          let q : (factOf f (slot id) holds + 1) % 2 ^ 64 ≡ factOf f (slot id) holds + 1 = omega arith in
-          let w : m ≡ factPut f (slot id) holds (factOf f (slot id) holds + 1) = em ∙ ap (λ (y : ℕ). factPut f y holds (moreOf (factOf f y holds))) es ∙ ap (factPut f (slot id) holds) q in
-          rw (held-as false (lt-leb 1000000 (factOf f (slot id) holds) (omega arith)), ne-eqb id 0 d) (ap (λ (y : List ℕ). did 0 (tables a k y e)) w)
+          let w = ap (nodes k) em ∙ (rw (ne-eqb id 0 d) at (bumped-is holds (nodes k f) id (omega arith) (λ z. omega arith))) in
+          rw (held-as false (lt-leb 1000000 (factOf f (slot id) holds) (omega arith)), ne-eqb id 0 d) (ap (λ (y : Nodes). did 0 (tablesOf a y e)) w)
 
 ruleset mine = (refusal, nothing, full, held)
 

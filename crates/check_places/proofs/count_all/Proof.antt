@@ -3,15 +3,16 @@ use Prim.Native.Nat.{ℕ, _-_, _≤_}
 use mathlib.Core.Path.{_≡_}
 use mathlib.Core.List.{List}
 use lib.ListN.{length}
-use Rattle.nodes.specs.Words.{kidOf}
+use Rattle.nodes.specs.Words.{kidOf, link}
 use Rattle.nodes.specs.Tally.{kidsOf}
 use Rattle.arena.specs.Calls.{each}
-use Rattle.check_places.specs.Models.{bumped, kidsBumped, countTo}
+use Rattle.arena.specs.Models.{bumped}
+use Rattle.check_places.specs.Models.{kidsBumped, countTo}
 use Rattle.check_freed.proofs.Passes.{turn-first, turn-next, turn-last}
 use Rattle.check_places.proofs.count_all.Statement.{statement}
 use Rattle.check_places.proofs.count_all.Tie as tie
 
-turn : (k l m ks : List ℕ) (s : ℕ) → ks ≡ kidsOf 8 (kidOf k) s → m ≡ each bumped l ks → m ≡ kidsBumped k l s
+turn : (k l m ks : List ℕ) (s : ℕ) → ks ≡ kidsOf 8 (kidOf k) s → m ≡ each (bumped link) l ks → m ≡ kidsBumped k l s
 unfolding kidsBumped
 turn k l m ks s q d = rw (d, q)
 

@@ -3,6 +3,7 @@ use borrow.Author.Needs.{needs}
 use borrow.Fn.Kinds.{In}
 use borrow.Fn.PlainCycle.{Measures, is, falls, and}
 use Rattle.paths.proofs.octant.Reads as octant-reads
+use Rattle.arena.proofs.bump.Reads as bump-reads
 use Rattle.edit_plan.proofs.parts.Reads as parts-reads
 use Rattle.edit_make.proofs.Steps.{make-deep, make-none, make-end, make-step, make-up}
 use Rattle.edit_make.proofs.branch_over.Reads as branch-over-reads
@@ -11,7 +12,6 @@ use Rattle.edit_make.proofs.make.Reads as make
 use Rattle.edit_make.proofs.make.Kinds as make-kinds
 use Rattle.edit_make.proofs.make_over.Reads as make-over
 use Rattle.edit_make.proofs.make_over.Kinds as make-over-kinds
-use Rattle.edit_make.proofs.owe.Reads as owe-reads
 use Rattle.edit_make.proofs.+make+make_over.{statement}
 use Rattle.edit_make.proofs.+make+make_over.Lts-make as make-lts
 use Rattle.edit_make.proofs.+make+make_over.Lts-make_over as make-over-lts
@@ -38,8 +38,8 @@ make-over-below t =
 
 pub +make+make-over-spec : {M : Type 1} → statement M
 +make+make-over-spec = close μ-make μ-make-over (λ t. make-lts.spec (
-  owe-reads.Asked,
-  owe-reads.Learnt,
+  bump-reads.Asked,
+  bump-reads.Learnt,
   leaf-anew-reads.Asked,
   leaf-anew-reads.Learnt,
   make-over-below t,
