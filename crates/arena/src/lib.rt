@@ -20,7 +20,7 @@ ghost use mathlib.Core.Path.{_≡_};
 ghost use mathlib.Core.List.{List};
 ghost use Prim.Native.Nat.{ℕ, _-_};
 ghost use Rattle.nodes.specs.Words.{holds as holdsWord, places as placesWord, factOf, factPut, slot};
-ghost use Rattle.arena.specs.Calls.{madeOf, each, fitOf, liveOf, liveOrEmpty, thereNo};
+ghost use Rattle.arena.specs.Calls.{madeOf, each, fitOf, liveOf, liveOrEmpty, noneOf, thereNo};
 ghost use Rattle.arena.specs.Lent.{before};
 ghost use Rattle.arena.specs.Models.{moreOf, bumped, hitBy};
 ghost use Rattle.arena.specs.Tables.{tables};
@@ -115,6 +115,20 @@ pub fn is_live_or_empty(capacity: usize, facts: &[u64], id: u64) -> bool
         return true;
     }
     is_live(capacity, facts, id)
+}
+
+// Are the eight ids EMPTY, as a leaf's children are?
+pub fn all_empty(ids: Kids) -> bool
+    ensures { λ r. ⌜ r ≡ noneOf ids ⌝ }
+{
+    let mut i: usize = 0;
+    while i < KID_WORDS {
+        if !BlockId(ids[i]).is_empty() {
+            return false;
+        }
+        i += 1;
+    }
+    true
 }
 
 // Refusals 1 and 4 of a call that is handed an id: the tables are not sized, or the id is neither EMPTY nor live.

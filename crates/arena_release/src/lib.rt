@@ -1,6 +1,7 @@
 // Release: takes one hold, and recycles what has neither hold nor place. What it answers and leaves is in the crate arena's specs/Calls.antt.
 use arena::Answer;
 use arena::Arena;
+use arena::all_empty;
 use arena::less;
 use arena::settle;
 use arena::slot_of;
@@ -27,7 +28,7 @@ ghost use Rattle.basics.specs.Limits.{deepest, kidWords};
 ghost use Rattle.ids.specs.Ids.{generationOf};
 ghost use Rattle.nodes.specs.Tally.{kidsOf};
 ghost use Rattle.nodes.specs.Words.{own as ownWord, nodes as nodesOf, factOf, kidOf, written};
-ghost use Rattle.arena.specs.Calls.{Fair, empties, deadFacts, recycled, each, releaseOf, noneOf};
+ghost use Rattle.arena.specs.Calls.{Fair, empties, deadFacts, recycled, each, releaseOf};
 ghost use Rattle.arena.specs.Models.{dropPlace, releaseBy, releaseAny};
 ghost use Rattle.arena.specs.Node.{nextGeneration};
 ghost use Rattle.arena.specs.Lent.{before, after, answered};
@@ -102,20 +103,6 @@ fn take_place_unless_last(facts: &mut [u64], id: u64) -> bool
     false
 }
 
-// Are all eight EMPTY, as a leaf's are?
-fn no_kids(ks: Kids) -> bool
-    ensures { λ r. ⌜ r ≡ noneOf ks ⌝ }
-{
-    let mut at: usize = 0;
-    while at < KID_WORDS {
-        if !BlockId(ks[at]).is_empty() {
-            return false;
-        }
-        at += 1;
-    }
-    true
-}
-
 // Recycles slot s, and drops its children in turn, `levels` levels down at most.
 fn drop_slot(
     capacity: usize,
@@ -130,7 +117,7 @@ fn drop_slot(
 {
     let below = children(kids, s);
     let b = recycle(capacity, a, kids, facts, find, s, below);
-    if no_kids(below) {
+    if all_empty(below) {
         return b;
     }
     if levels == 0 {

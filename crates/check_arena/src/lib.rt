@@ -1,6 +1,7 @@
 // The arena check: yes exactly if the lent tables are well formed, on any tables whatever they hold. Each pass takes time linear in the
 // capacity, and the first that says no ends the check. See specs/Models.antt.
 use arena::Arena;
+use arena::all_empty;
 use arena::fit;
 use arena::is_live_or_empty;
 use basics::KID_WORDS;
@@ -40,20 +41,6 @@ ghost use Rattle.arena.specs.Tables.{WellFormed};
 ghost use Rattle.arena.specs.Lent.{before};
 ghost use Rattle.check_freed.specs.Models.{allIn};
 ghost use Rattle.check_arena.specs.Models.{blankAt, deadFine, countsFine, leafNamed, leafFine, branchNamed, tallAt, branchFine, kindFine, liveFine, restsAt, plainAt, slotFine, rangedBy, soundBy};
-
-// Are the eight ids EMPTY?
-fn all_empty(ks: Kids) -> bool
-    ensures { λ r. ⌜ r ≡ noneOf ks ⌝ }
-{
-    let mut i: usize = 0;
-    while i < KID_WORDS {
-        if !BlockId(ks[i]).is_empty() {
-            return false;
-        }
-        i += 1;
-    }
-    true
-}
 
 // ---- a slot that is not live
 

@@ -9,6 +9,7 @@ use Rattle.arena.specs.Calls.{each}
 use Rattle.arena.specs.Models.{dropPlace}
 use Rattle.arena.specs.Tables.{tables}
 use Rattle.arena.proofs.Eight.{each-end}
+use Rattle.arena.proofs.all_empty.Reads as all-empty-reads
 use Rattle.arena.proofs.slot_of.Reads as slot-of-reads
 use Rattle.arena_release.specs.Drop.{arenaOf}
 use Rattle.arena_release.proofs.Dropping.{again-last, again-taken, slot-all, slot-bare, slot-none}
@@ -16,7 +17,6 @@ use Rattle.arena_release.proofs.drop_all.Reads as drop-all
 use Rattle.arena_release.proofs.drop_all.Kinds as drop-all-kinds
 use Rattle.arena_release.proofs.drop_slot.Reads as drop-slot
 use Rattle.arena_release.proofs.drop_slot.Kinds as drop-slot-kinds
-use Rattle.arena_release.proofs.no_kids.Reads as no-kids-reads
 use Rattle.arena_release.proofs.recycle.Reads as recycle-reads
 use Rattle.arena_release.proofs.take_place_unless_last.Reads as take-reads
 use Rattle.arena_release.proofs.+drop_all+drop_slot.{statement}
@@ -76,8 +76,8 @@ pub +drop-all+drop-slot-spec : {M : Type 1} → statement M
       children-reads.Learnt,
       recycle-reads.Asked,
       recycle-reads.Learnt,
-      no-kids-reads.Asked,
-      no-kids-reads.Learnt,
+      all-empty-reads.Asked,
+      all-empty-reads.Learnt,
       all-below t,
       drop-all.Post,
     )
