@@ -9,6 +9,7 @@ use native.Mathlib.Omega.{arith}
 use lib.Dec.{eqb, leb, ltb}
 use lib.ListN.{length, getD}
 use borrow.Author.Tests.{eq-eqb, ne-eqb, leb-false, le-leb, lt-leb, lt-ltb, le-ltb}
+use Rattle.basics.specs.Limits.{deepest, cubeKids, kidWords}
 use Rattle.basics.specs.Pick.{pick}
 use Rattle.ids.specs.declared.BlockId.{BlockId}
 use Rattle.nodes.specs.Tally.{kidsOf, Live, occ}
@@ -274,8 +275,9 @@ branch-well n tallest t ks m pos e beyond w = cases (ℕ-discrete (kidsNo t ks) 
     (λ z. done n tallest t m pos w ks e beyond z .1)
     (λ z. subst (λ (u : Tables). WellFormed n tallest u) (kids-refused n tallest t ks z .1) w)
 
--- cubes: eight children
-pub cube-law : (t : Tables) (ids : List BlockId) (ks : List ℕ) (x : Out) → length ids ≡ 8 → ks ≡ rawIds ids → x ≡ internBranchBy 8 6 t ks → Fair 8 6 t
-    → x ≡ internBranchOf 8 6 t (rawIds ids)
+-- cubes: their children fill the words of a row
+pub cube-law : (t : Tables) (ids : List BlockId) (ks : List ℕ) (x : Out) → length ids ≡ kidWords → ks ≡ rawIds ids
+    → x ≡ internBranchBy cubeKids deepest t ks → Fair cubeKids deepest t → x ≡ internBranchOf cubeKids deepest t (rawIds ids)
 cube-law t ids ks x e r q f =
-    branch-law 8 6 t (rawIds ids) x (omega arith) (omega arith) (raw-length ids ∙ e) (λ i a b. absurd (omega arith)) (q ∙ ap (internBranchBy 8 6 t) r) f
+    branch-law cubeKids deepest t (rawIds ids) x (omega arith) (omega arith) (raw-length ids ∙ e) (λ i a b. absurd (omega arith))
+    (q ∙ ap (internBranchBy cubeKids deepest t) r) f
