@@ -9,9 +9,7 @@ use native.Mathlib.Omega.{arith}
 use lib.Dec.{eqb, leb, ltb}
 use lib.ListN.{length, getD}
 use borrow.Author.Tests.{eq-eqb, ne-eqb, leb-false, le-leb, lt-leb, lt-ltb, le-ltb}
-use Rattle.basics.specs.Limits.{deepest, cubeKids, kidWords}
 use Rattle.basics.specs.Pick.{pick}
-use Rattle.ids.specs.declared.BlockId.{BlockId}
 use Rattle.nodes.specs.Tally.{kidsOf, Live, occ}
 use Rattle.nodes.specs.Values.{valueAt}
 use Rattle.nodes.specs.Words.{own, value, height, holds, places, spare, wordOf}
@@ -20,12 +18,11 @@ use Rattle.nodes.proofs.Sums.{cases, split, sumTo-ext}
 use Rattle.find.specs.Cells.{cellOf}
 use Rattle.find.specs.Content.{contentIs}
 use Rattle.find.proofs.Contents.{content-true, content-words, kids-are}
-use Rattle.arena.specs.Calls.{rawIds, Out, said, refused, fits, Fair, fullOf, roomOf, heldAt, branchAnew, allLive, enough, noneOf, branchIn, branchSlot, internBranchNo, unheld, placed, branchMade, internBranchOf}
+use Rattle.arena.specs.Calls.{Out, said, refused, fits, Fair, fullOf, roomOf, heldAt, branchAnew, allLive, enough, noneOf, branchIn, branchSlot, internBranchNo, unheld, placed, branchMade, internBranchOf}
 use Rattle.arena.specs.Models.{branchLow, branchAt, topFor, cellFor, valueBy, branchMissBy, branchHitBy, branchBy, kidsNo, internBranchBy}
 use Rattle.arena.specs.Node.{valueFor, heightFor}
 use Rattle.arena.specs.Tables.{tablesOf, Tables, cap, W, LiveSlot, WellFormed}
 use Rattle.arena.proofs.Branches.{alive, some-kid, branch-words, slot-lone, unheld-eased, unheld-inv, Placing, placing}
-use Rattle.arena.proofs.Eight.{raw-length}
 use Rattle.arena.proofs.Fits.{live-is, kids-fine, kids-fits, room-yes}
 use Rattle.arena.proofs.Fresh.{value-same, height-same, value-by, branch-makes, search-ends, branch-fresh}
 use Rattle.arena.proofs.Inv.{Inv, Content, wf-inv, wf-content, inv-wf, content-recount}
@@ -274,10 +271,3 @@ pub branch-well : (n tallest : ℕ) (t : Tables) (ks : List ℕ) → n ≤ 8 →
 branch-well n tallest t ks m pos e beyond w = cases (ℕ-discrete (kidsNo t ks) 0)
     (λ z. done n tallest t m pos w ks e beyond z .1)
     (λ z. subst (λ (u : Tables). WellFormed n tallest u) (kids-refused n tallest t ks z .1) w)
-
--- cubes: their children fill the words of a row
-pub cube-law : (t : Tables) (ids : List BlockId) (ks : List ℕ) (x : Out) → length ids ≡ kidWords → ks ≡ rawIds ids
-    → x ≡ internBranchBy cubeKids deepest t ks → Fair cubeKids deepest t → x ≡ internBranchOf cubeKids deepest t (rawIds ids)
-cube-law t ids ks x e r q f =
-    branch-law cubeKids deepest t (rawIds ids) x (omega arith) (omega arith) (raw-length ids ∙ e) (λ i a b. absurd (omega arith))
-    (q ∙ ap (internBranchBy cubeKids deepest t) r) f
