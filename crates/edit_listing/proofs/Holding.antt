@@ -20,7 +20,7 @@ use Rattle.calls.proofs.Arena.{release-does}
 use Rattle.calls.proofs.Follows.{fresh-made}
 use Rattle.calls.proofs.Living.{held-released, alone-lives, alone-counted}
 use Rattle.edit.proofs.Does.{edit-does}
-use Rattle.edit_listing.specs.Listing.{State, cellIn, valueIn, editIn, stepTo, stepOf, stateAt, startOf, Entered, Bytes}
+use Rattle.edit_listing.specs.Listing.{State, cellIn, valueIn, recordDepth, editIn, stepTo, stepOf, stateAt, startOf, Entered, Bytes}
 use Rattle.edit_listing.specs.Holding.{OldReleased, HoldsRoot}
 use Rattle.edit_listing.proofs.Steps.{step-accepted, step-refused}
 use Rattle.edit_listing.proofs.Whole.{value-small, records-well, start-well, entered-stands, entered-well}
@@ -40,11 +40,11 @@ module _ (s : State) (w : WellFormed cubeKids deepest (s .tables)) (alone : Alon
 
   edited-well : WellFormed cubeKids deepest (edited .after)
   unfolding edited editIn
-  edited-well = edit-does (s .tables) w (s .root) deepest p v small .well
+  edited-well = edit-does (s .tables) w (s .root) recordDepth p v small .well
 
   edited-holds : (y : ℕ) → holdsOn (edited .after) y ≡ on y (s .root) + ifAccepted edited (on y (edited .id))
   unfolding edited editIn
-  edited-holds y = omega (arith, edit-does (s .tables) w (s .root) deepest p v small .balance y, alone y)
+  edited-holds y = omega (arith, edit-does (s .tables) w (s .root) recordDepth p v small .balance y, alone y)
 
   still-held : Held (edited .after) (s .root)
   still-held = cases (ℕ-discrete (s .root) 0) (λ z. inl z) (λ z. inr (omega (arith, edited-holds (s .root), on-same (s .root) (s .root) z refl)))

@@ -20,7 +20,7 @@ use Rattle.arena.proofs.Releasing.{release-well}
 use Rattle.read_cell.specs.Calls.{lookNo}
 use Rattle.edit.specs.Edit.{editOf}
 use Rattle.edit.proofs.Edits.{edit-well}
-use Rattle.edit_listing.specs.Listing.{State, Stepped, stateOf, word, cellIn, oneMore, editIn, stepTo, stepOf, startOf}
+use Rattle.edit_listing.specs.Listing.{State, Stepped, stateOf, word, cellIn, oneMore, recordDepth, editIn, stepTo, stepOf, startOf}
 use Rattle.edit_listing.specs.Models.{steppedOf}
 use Rattle.edit_listing.specs.declared.Run.{Run}
 
@@ -55,7 +55,7 @@ step-refused s o z = rw (ne-eqb (o .no) 0 z)
 abbrev stepBy : State → Out → Stepped
 stepBy s o = record { state = stepTo s o; no = o .no }
 
-stepped-by : (s : State) (p : IVec3) (v : ℕ) (o : Out) → o ≡ editOf (s .tables) (s .root) deepest p v → stepBy s o ≡ steppedOf s p v
+stepped-by : (s : State) (p : IVec3) (v : ℕ) (o : Out) → o ≡ editOf (s .tables) (s .root) recordDepth p v → stepBy s o ≡ steppedOf s p v
 unfolding steppedOf stepOf editIn
 stepped-by s p v o e = ap (stepBy s) e
 
@@ -66,10 +66,10 @@ count-by n j e = e
 -- ---- the code's edit and release
 
 module _ (run : Run) (k f e : List ℕ) (p : IVec3) (v : ℕ) (small : v < 65536) (m : Made) (k₁ f₁ e₁ : List ℕ)
-    (edited : Fair cubeKids deepest (tables (run .arena) k f e) → madeOf m k₁ f₁ e₁ ≡ editOf (tables (run .arena) k f e) (run .root .0) deepest p v)
+    (edited : Fair cubeKids deepest (tables (run .arena) k f e) → madeOf m k₁ f₁ e₁ ≡ editOf (tables (run .arena) k f e) (run .root .0) recordDepth p v)
     (j : ℕ) (more : j ≡ (run .count + 1) % 2 ^ 64) where
   after-edit : Fair cubeKids deepest (tables (run .arena) k f e) → Fair cubeKids deepest (tables (m .arena) k₁ f₁ e₁)
-  after-edit fair = subst (λ (o : Out). Fair cubeKids deepest (o .after)) (sym (edited fair)) (edit-fair (tables (run .arena) k f e) (run .root .0) deepest p v small fair)
+  after-edit fair = subst (λ (o : Out). Fair cubeKids deepest (o .after)) (sym (edited fair)) (edit-fair (tables (run .arena) k f e) (run .root .0) recordDepth p v small fair)
 
   pub once-refused : (m .no ≡ 0 → ⊥) → Fair cubeKids deepest (tables (run .arena) k f e)
       → Fair cubeKids deepest (tables (m .arena) k₁ f₁ e₁)

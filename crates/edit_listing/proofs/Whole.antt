@@ -20,7 +20,7 @@ use Rattle.arena.proofs.Holding.{fresh-well}
 use Rattle.arena.proofs.Releasing.{release-well}
 use Rattle.edit.specs.Edit.{editOf}
 use Rattle.edit.proofs.Edits.{edit-well}
-use Rattle.edit_listing.specs.Listing.{State, word, cellIn, valueIn, oneMore, editIn, stepTo, stepOf, stateAt, lineOf, lineAt, linesAt, startOf, decimal, endingOf, listingOf, Entered, begun, block, Stands, Bytes}
+use Rattle.edit_listing.specs.Listing.{State, word, cellIn, valueIn, oneMore, recordDepth, editIn, stepTo, stepOf, stateAt, lineOf, lineAt, linesAt, startOf, decimal, endingOf, listingOf, Entered, begun, block, Stands, Bytes}
 use Rattle.edit_listing.proofs.Puts.{text-short, digits-short}
 use Rattle.edit_listing.proofs.Steps.{edit-unfit, step-accepted, step-refused}
 
@@ -41,7 +41,7 @@ unfolding stateAt stepOf editIn
 records-well s b h w zero = w
 records-well s b h w (suc n) =
     let t = stateAt s b n in
-    step-well t (editOf (t .tables) (t .root) deepest (cellIn b n) (valueIn b n)) (edit-well (t .tables) (records-well s b h w n) (t .root) deepest (cellIn b n) (valueIn b n) (value-small b h n))
+    step-well t (editOf (t .tables) (t .root) recordDepth (cellIn b n) (valueIn b n)) (edit-well (t .tables) (records-well s b h w n) (t .root) recordDepth (cellIn b n) (valueIn b n) (value-small b h n))
 
 -- so are those of a fresh arena over tables that fit
 pub start-well : (c : ℕ) (k f e : List ℕ) → fitOf c (length k) (length f) (length e) ≡ true → WellFormed cubeKids deepest (startOf c k f e .state .tables)
@@ -56,8 +56,8 @@ unfit-stays s f b (suc n) =
     let t = stateAt s b n in
     let e = unfit-stays s f b n in
     let g : fits (t .tables) ≡ false = ap fits e ∙ f in
-    let o = editOf (t .tables) (t .root) deepest (cellIn b n) (valueIn b n) in
-    let no = edit-unfit (t .tables) (t .root) deepest (cellIn b n) (valueIn b n) g in
+    let o = editOf (t .tables) (t .root) recordDepth (cellIn b n) (valueIn b n) in
+    let no = edit-unfit (t .tables) (t .root) recordDepth (cellIn b n) (valueIn b n) g in
     ap (λ (u : State). u .tables) (step-refused t o (λ z. omega (arith, ap (λ (x : Out). x .no) no))) ∙ ap (λ (x : Out). x .after) no ∙ e
 
 pub start-unfit : (c : ℕ) (k f e : List ℕ) → fitOf c (length k) (length f) (length e) ≡ false
@@ -69,7 +69,7 @@ start-unfit c k f e z = (
       let s = startOf c k f e .state in
       let t = stateAt s b n in
       let u : fits (s .tables) ≡ false = rw z z in
-      ap (λ (x : Out). x .no) (edit-unfit (t .tables) (t .root) deepest (cellIn b n) (valueIn b n) (ap fits (unfit-stays s u b n) ∙ u))),
+      ap (λ (x : Out). x .no) (edit-unfit (t .tables) (t .root) recordDepth (cellIn b n) (valueIn b n) (ap fits (unfit-stays s u b n) ∙ u))),
 )
 
 count-plain : (n : ℕ) → n + 1 < 2 ^ 64 → oneMore n ≡ n + 1

@@ -72,9 +72,13 @@ pub record State : Type 0 where
 unfoldable pub oneMore : ℕ → ℕ
 oneMore n = (n + 1) % 2 ^ 64
 
--- the edit of a cell at depth 6
+-- the depth of the cell that a record names
+abbrev pub recordDepth : ℕ
+recordDepth = 6
+
+-- the edit of such a cell
 unfoldable pub editIn : State → IVec3 → ℕ → Out
-editIn s p v = editOf (s .tables) (s .root) deepest p v
+editIn s p v = editOf (s .tables) (s .root) recordDepth p v
 
 -- after an edit: accepted, its answer is the root and the old root is released; refused, the old root stays
 unfoldable pub stepTo : State → Out → State

@@ -3,7 +3,6 @@
 //
 // A record is x, y, z and the value, 16 bits each, low byte first. After an accepted edit the old root is released; after a refused one it stays.
 use arena::Arena;
-use basics::DEEPEST;
 use ids::BlockId;
 use ids_text::IdText;
 use paths::IVec3;
@@ -25,6 +24,9 @@ const WIDEST: usize = 84;
 
 // A record has so many bytes.
 const RECORD: usize = 8;
+
+// The depth of the cell that a record names.
+const DEPTH: u32 = 6;
 
 // What stands between two records: the arena's state, the root, and how many records there were.
 pub struct Run {
@@ -206,7 +208,7 @@ fn edit_once(
 {
     let count = wrapping_add_u64(run.count, 1);
     let root = run.root;
-    let made = edit::set_voxel(run.arena, kids, facts, find, root, DEEPEST, cell, value);
+    let made = edit::set_voxel(run.arena, kids, facts, find, root, DEPTH, cell, value);
     let edited = made.arena;
     if made.no != 0 {
         return Step {
