@@ -22,8 +22,8 @@ use Rattle.nodes.proofs.Sums.{cases, occ-nil, occ-append, sumTo-ext, sumTo-mono
 use Rattle.find_hash.specs.Hash.{homeFor}
 use Rattle.find.specs.Cells.{insertAt, probe, cell}
 use Rattle.find.proofs.Contents.{kids-are, probe-as}
-use Rattle.arena.specs.Calls.{Out, empties, noneOf, freshSlot, freshFacts, slotGiven, named, freshNode, leafAnew, branchAnew}
-use Rattle.arena.specs.Models.{givenOut, freshAt, leafFresh, branchFresh, wrapSum, valueBy}
+use Rattle.arena.specs.Calls.{Out, empties, noneOf, freshSlot, freshFacts, givenBy, slotGiven, named, freshNode, leafAnew, branchAnew}
+use Rattle.arena.specs.Models.{moreOf, freshAt, leafFresh, branchFresh, wrapSum, valueBy}
 use Rattle.arena.specs.Node.{leafId, branchId, valueFor, heightFor, Node}
 use Rattle.arena.specs.Tables.{Tables, cap, W, LiveSlot}
 use Rattle.arena.proofs.Branches.{some-kid, occ-at, occ-in}
@@ -289,8 +289,8 @@ module _ (n tallest : ℕ) (m : n ≤ 8) (pos : 1 ≤ n) (t : Tables) (ks : List
 -- ---- the code's way
 
 module _ (t : Tables) (d : List ℕ) (i : Inv t d) (room : t .arena .live + 1 < cap t) where
-  given-is : givenOut (t .arena) (W t) ≡ slotGiven (t .arena) (W t)
-  unfolding givenOut slotGiven
+  given-is : givenBy moreOf (t .arena) (W t) ≡ slotGiven (t .arena) (W t)
+  unfolding slotGiven
   given-is =
       let most = i .sized .most in
       let l = more-few (t .arena .live) (omega arith) in

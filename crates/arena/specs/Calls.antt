@@ -102,14 +102,17 @@ heldAt t s = tablesOf (t .arena) (putOf (t .nodes) s holds (W t s holds + 1)) (t
 unfoldable pub freshSlot : Arena → ℕ
 freshSlot a = pick (eqb (a .top) 0) (a .next) (a .top)
 
--- the state once it is given out
-unfoldable pub slotGiven : Arena → Words → Arena
-slotGiven a W = record {
+-- the state once it is given out, where `more` counts one more
+abbrev pub givenBy : (ℕ → ℕ) → Arena → Words → Arena
+givenBy more a W = record {
   capacity = a .capacity;
-  next = pick (eqb (a .top) 0) (a .next + 1) (a .next);
+  next = pick (eqb (a .top) 0) (more (a .next)) (a .next);
   top = pick (eqb (a .top) 0) 0 (W (a .top) link);
-  live = a .live + 1;
+  live = more (a .live);
 }
+
+unfoldable pub slotGiven : Arena → Words → Arena
+slotGiven a W = givenBy (λ x. x + 1) a W
 
 -- its facts in order: its id, value and height, h holds and p places; link and spare are 0
 unfoldable pub freshFacts : ℕ → ℕ → ℕ → ℕ → ℕ → List ℕ

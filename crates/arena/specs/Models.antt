@@ -9,13 +9,12 @@ use Rattle.basics.specs.Pick.{pick}
 use Rattle.basics.specs.Sums.{sumTo}
 use Rattle.ids.specs.Ids.{generationOf, newLeaf, newBranch}
 use Rattle.nodes.specs.Tally.{kidsOf}
-use Rattle.nodes.specs.Words.{Nodes, nodes, Words, wordOf, factOf, putOf, factPut, written, own, holds, places, link, slot}
+use Rattle.nodes.specs.Words.{Nodes, nodes, Words, wordOf, factOf, putOf, factPut, written, own, holds, places, slot}
 use Rattle.find.specs.Cells.{cellOf}
-use Rattle.arena.specs.Calls.{Out, said, refused, did, fits, fullOf, roomOf, heldAt, freshSlot, freshFacts, empties, recycled, each, releaseNo, noneOf, unheld, allLive, enough}
+use Rattle.arena.specs.Calls.{Out, said, refused, did, fits, fullOf, roomOf, heldAt, freshSlot, givenBy, freshFacts, empties, recycled, each, releaseNo, noneOf, unheld, allLive, enough}
 use Rattle.arena.specs.Node.{kidTypes, kidMask}
 use Rattle.nodes.specs.Values.{valueAt, heightAt, maxTo}
 use Rattle.arena.specs.Tables.{Tables, tablesOf, cap, W}
-use Rattle.arena.specs.declared.Arena.{Arena}
 
 -- ## Recycling
 
@@ -56,20 +55,11 @@ bumped w f id = pick (eqb id 0) f (factPut f (slot id) w (moreOf (factOf f (slot
 abbrev pub placedBy : Nodes → List ℕ → Nodes
 placedBy x ks = nodes (x .kids) (each (bumped places) (x .facts) ks)
 
--- the state once a slot is given out
-unfoldable pub givenOut : Arena → Words → Arena
-givenOut a W = record {
-  capacity = a .capacity;
-  next = pick (eqb (a .top) 0) (moreOf (a .next)) (a .next);
-  top = pick (eqb (a .top) 0) 0 (W (a .top) link);
-  live = moreOf (a .live);
-}
-
 -- a fresh node, named in the cell `at`
 unfoldable pub freshAt : Tables → ℕ → List ℕ → ℕ → ℕ → ℕ → ℕ → ℕ → Out
 freshAt t id ks v up h q at =
     let s = freshSlot (t .arena) in
-    said 0 id (tablesOf (givenOut (t .arena) (W t)) (written (t .nodes) s ks (freshFacts id v up h q)) (set (t .find) at (s % 65536)))
+    said 0 id (tablesOf (givenBy moreOf (t .arena) (W t)) (written (t .nodes) s ks (freshFacts id v up h q)) (set (t .find) at (s % 65536)))
 
 unfoldable pub leafFresh : Tables → ℕ → ℕ → ℕ → ℕ → Out
 leafFresh t v h q at =

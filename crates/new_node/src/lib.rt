@@ -15,9 +15,9 @@ ghost use mathlib.Core.Path.{_≡_};
 ghost use Prim.Native.Nat.{_%_, _^_};
 ghost use Rattle.ids.specs.Ids.{generationOf, newLeaf};
 ghost use Rattle.nodes.specs.Words.{factOf};
-ghost use Rattle.arena.specs.Calls.{freeSlots, freshSlot};
+ghost use Rattle.arena.specs.Calls.{freeSlots, freshSlot, givenBy};
 ghost use Rattle.arena.specs.Lent.{before, made};
-ghost use Rattle.arena.specs.Models.{givenOut, freshAt, leafFresh, branchFresh};
+ghost use Rattle.arena.specs.Models.{moreOf, freshAt, leafFresh, branchFresh};
 
 // How many slots are free.
 pub fn free_slots(a: Arena) -> u64
@@ -38,7 +38,7 @@ pub fn fresh_slot(a: Arena) -> usize
 
 // The state once the fresh slot is given out.
 fn give(a: Arena, facts: &[u64]) -> Arena
-    ensures { λ r. ⌜ r ≡ givenOut a (factOf (now (facts .entry))) ⌝ }
+    ensures { λ r. ⌜ r ≡ givenBy moreOf a (factOf (now (facts .entry))) ⌝ }
 {
     if a.top == 0 {
         return Arena {
