@@ -61,21 +61,25 @@ module _ (c : ℕ) (W : Words) (s : ℕ) where
       (tells-tab (liveOrEmpty c W) (λ i. W s i ≢ 0 → Live c W (W s i)) (W s) 8 0 (λ i a l. tells-else (tells-eq (W s i) 0) (λ n. live-tells (W s i))))
 
   -- the sum that the code works out, of children whose values are in range
-  value-kids : ((i : ℕ) → i < 8 → W s i ≢ 0 → W (slot (W s i)) value ≤ 65535) → valueBy 8 W (kidsOf 8 W s) ≡ average 8 (λ i. valueAt W (W s i))
+  value-kids : ((i : ℕ) → i < 8 → W s i ≢ 0 → W (slot (W s i)) value ≤ 65535)
+      → valueBy cubeKids W (kidsOf 8 W s) ≡ average cubeKids (λ i. valueAt W (W s i))
   unfolding valueBy
   value-kids h =
-      ap (λ (x : ℕ). x / 8)
-      (sum-wraps W (kidsOf 8 W s) 8 (λ i l. rw (sym (kids-at W s i l)) (small i l))
-      ∙ sumTo-ext 8 (λ i. valueAt W (getD (kidsOf 8 W s) i 0)) (λ i. valueAt W (W s i)) (λ i l. ap (valueAt W) (sym (kids-at W s i l))))
+      ap (λ (x : ℕ). x / cubeKids)
+      (sum-wraps W (kidsOf 8 W s) cubeKids (λ i l. rw (sym (kids-at W s i (omega arith))) (small i (omega arith)))
+      ∙ sumTo-ext cubeKids (λ i. valueAt W (getD (kidsOf 8 W s) i 0)) (λ i. valueAt W (W s i))
+      (λ i l. ap (valueAt W) (sym (kids-at W s i (omega arith)))))
     where
       small : (i : ℕ) → i < 8 → valueAt W (W s i) ≤ 65535
       small i l = cases (ℕ-discrete (W s i) 0)
           (λ (z : W s i ≡ 0). rw z (omega (arith, value-zero W)))
           (λ z. let q = h i l z in omega (arith, value-node W (W s i) z))
 
-  top-kids : topFor W (kidsOf 8 W s) 8 ≡ maxTo 8 (λ i. heightAt W (W s i))
+  top-kids : topFor W (kidsOf 8 W s) cubeKids ≡ maxTo cubeKids (λ i. heightAt W (W s i))
   unfolding topFor
-  top-kids = max-ext 8 (λ i. heightAt W (getD (kidsOf 8 W s) i 0)) (λ i. heightAt W (W s i)) (λ i l. ap (heightAt W) (sym (kids-at W s i l)))
+  top-kids =
+      max-ext cubeKids (λ i. heightAt W (getD (kidsOf 8 W s) i 0)) (λ i. heightAt W (W s i))
+      (λ i l. ap (heightAt W) (sym (kids-at W s i (omega arith))))
 
 -- ---- the words, as the code reads them
 
@@ -115,23 +119,23 @@ module _ (k f : List ℕ) (s : ℕ) where
       Parts =
           (U s own ≡ branchId (kidsOf 8 U s) s gen)
           × (((i : ℕ) → i < 8 → U s i ≢ 0 → Live c U (U s i))
-          × ((U s value ≡ average 8 (λ i. valueAt U (U s i))) × ((U s height ≡ suc (maxTo 8 (λ i. heightAt U (U s i)))) × (U s height ≤ deepest))))
+          × ((U s value ≡ average cubeKids (λ i. valueAt U (U s i))) × ((U s height ≡ suc (maxTo cubeKids (λ i. heightAt U (U s i)))) × (U s height ≤ deepest))))
 
       each-tells : Tells (allLive c (factOf f) (kidsOf 8 U s)) ((i : ℕ) → i < 8 → U s i ≢ 0 → Live c U (U s i))
       unfolding liveOrEmpty liveOf wordOf
       each-tells = kids-tell c U s
 
-      value-tells : ((i : ℕ) → i < 8 → U s i ≢ 0 → Live c U (U s i)) → Tells (eqb (factOf f s value) (valueBy 8 (factOf f) (kidsOf 8 U s))) (U s value ≡ average 8 (λ i. valueAt U (U s i)))
+      value-tells : ((i : ℕ) → i < 8 → U s i ≢ 0 → Live c U (U s i)) → Tells (eqb (factOf f s value) (valueBy cubeKids (factOf f) (kidsOf 8 U s))) (U s value ≡ average cubeKids (λ i. valueAt U (U s i)))
       value-tells l =
           rw (sum-facts k f (kidsOf 8 U s), value-kids c U s (λ i m d. values i m (l i m d)), sym (word-fact (nodes k f) s value (omega arith)))
-          (tells-eq (U s value) (average 8 (λ i. valueAt U (U s i))))
+          (tells-eq (U s value) (average cubeKids (λ i. valueAt U (U s i))))
 
       branch-tells : Tells (branchFine f c (kidsOf 8 U s) s) Parts
       unfolding branchFine
       branch-tells =
           tells-and (branch-named (kidsOf 8 U s))
           (λ e. tells-and each-tells
-          (λ l. tells-and (value-tells l) (λ v. rw (top-facts k f (kidsOf 8 U s), top-kids c U s) (tall-tells (maxTo 8 (λ i. heightAt U (U s i)))))))
+          (λ l. tells-and (value-tells l) (λ v. rw (top-facts k f (kidsOf 8 U s), top-kids c U s) (tall-tells (maxTo cubeKids (λ i. heightAt U (U s i)))))))
 
       -- without children it is a leaf, else a branch
       kind-tells : Tells (kindFine f c (kidsOf 8 U s) s) (LeafNode U s ⊎ BranchNode cubeKids deepest c U s)
