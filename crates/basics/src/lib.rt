@@ -10,6 +10,9 @@ pub const TALLEST: u64 = 6;
 // The deepest cube that is expanded.
 pub const DEEPEST_CUBE: u32 = 6;
 
+// The children of a node in a cube.
+pub const CUBE_KIDS: usize = 8;
+
 // The words of a slot in the tables `kids` and `facts`, and its cells in the table `find`.
 pub const KID_WORDS: usize = 8;
 

@@ -4,7 +4,7 @@ use mathlib.Core.List.{List, [], _∷_}
 use Prim.Native.Nat.{ℕ, _%_, _^_}
 use lib.Dec.{eqb, leb}
 use lib.ListN.{getD, set}
-use Rattle.basics.specs.Limits.{deepest, cubeKids}
+use Rattle.basics.specs.Limits.{deepest, cubeKids, kidWords}
 use Rattle.basics.specs.Pick.{pick}
 use Rattle.ids.specs.Ids.{isLeaf, invalid}
 use Rattle.nodes.specs.Words.{Words, own}
@@ -23,7 +23,7 @@ planned k s = record { new = k; id = s }
 
 -- the eight parts of an id
 unfoldable pub eightParts : Words → ℕ → List ℕ
-eightParts U a = tabFrom cubeKids 0 (part U a)
+eightParts U a = tabFrom kidWords 0 (part U a)
 
 -- the slot that the search for a content finds
 unfoldable pub foundBy : Tables → List ℕ → ℕ → ℕ

@@ -6,6 +6,7 @@ use native.Mathlib.Numerals.{add-one}
 use native.Mathlib.Omega.{arith}
 use borrow.Author.Tests.{eq-eqb, ne-eqb}
 use lib.ListN.{getD}
+use Rattle.basics.specs.Limits.{cubeKids}
 use Rattle.basics.specs.Sums.{sumTo}
 use Rattle.nodes.specs.Words.{Words, height, slot, value}
 use Rattle.nodes.specs.Values.{heightAt, maxTo, valueAt}
@@ -37,9 +38,9 @@ module _ (U : Words) (ks : List ℕ) where
   unfolding wrapSum sumTo
   sum-step sum i v e ev = rw (add-one i, e, ev)
 
-  pub sum-last : (sum i : ℕ) → sum ≡ wrapSum U ks i → i ≤ 8 → 8 ≤ i → sum / 8 ≡ valueBy 8 U ks
+  pub sum-last : (sum i : ℕ) → sum ≡ wrapSum U ks i → i ≤ cubeKids → cubeKids ≤ i → sum / cubeKids ≡ valueBy cubeKids U ks
   unfolding valueBy
-  sum-last sum i e a b = let q : i ≡ 8 = omega arith in ap (λ (x : ℕ). x / 8) (rw q at e)
+  sum-last sum i e a b = let q : i ≡ cubeKids = omega arith in ap (λ (x : ℕ). x / cubeKids) (rw q at e)
 
   pub top-start : 0 ≡ topFor U ks 0
   unfolding topFor maxTo
@@ -49,8 +50,8 @@ module _ (U : Words) (ks : List ℕ) where
   unfolding topFor maxTo
   top-step top i v e ev = rw (add-one i, e, ev)
 
-  pub top-last : (top i : ℕ) → top ≡ topFor U ks i → i ≤ 8 → 8 ≤ i → top ≡ topFor U ks 8
-  top-last top i e a b = let q : i ≡ 8 = omega arith in rw q at e
+  pub top-last : (top i : ℕ) → top ≡ topFor U ks i → i ≤ cubeKids → cubeKids ≤ i → top ≡ topFor U ks cubeKids
+  top-last top i e a b = let q : i ≡ cubeKids = omega arith in rw q at e
 
 module _ (U : Words) (ks : List ℕ) (i : ℕ) where
   -- an EMPTY child is passed over

@@ -1,7 +1,7 @@
 // What children come to: the stored value of a branch with them, and the height of the tallest. Intern branch and the edit work out their new
 // branches with these.
 use arena::slot_of;
-use basics::KID_WORDS;
+use basics::CUBE_KIDS;
 use basics::Kids;
 use nodes::HEIGHT;
 use nodes::VALUE;
@@ -35,11 +35,11 @@ pub fn value_of(facts: &[u64], ks: Kids) -> u64
 {
     let mut sum: u64 = 0;
     let mut i: usize = 0;
-    while i < KID_WORDS {
+    while i < CUBE_KIDS {
         sum += value_at(facts, ks[i]) % 65536;
         i += 1;
     }
-    sum / 8
+    sum / (CUBE_KIDS as u64)
 }
 
 // The height of an id; 0 of EMPTY.
@@ -61,12 +61,12 @@ fn larger(x: u64, y: u64) -> u64
 
 // The stored value of a branch with these children, and the height of the tallest of them, in one pass. EMPTY adds nothing to either.
 pub fn sums_of(facts: &[u64], ks: Kids) -> Sums
-    ensures { λ r. ⌜ (r .value ≡ valueBy cubeKids (factOf (now (facts .entry))) ks) × (r .top ≡ topFor (factOf (now (facts .entry))) ks 8) ⌝ }
+    ensures { λ r. ⌜ (r .value ≡ valueBy cubeKids (factOf (now (facts .entry))) ks) × (r .top ≡ topFor (factOf (now (facts .entry))) ks cubeKids) ⌝ }
 {
     let mut sum: u64 = 0;
     let mut top: u64 = 0;
     let mut i: usize = 0;
-    while i < KID_WORDS {
+    while i < CUBE_KIDS {
         let k = ks[i];
         if k != 0 {
             let s = slot_of(k);
@@ -76,7 +76,7 @@ pub fn sums_of(facts: &[u64], ks: Kids) -> Sums
         i += 1;
     }
     Sums {
-        value: sum / 8,
+        value: sum / (CUBE_KIDS as u64),
         top: top,
     }
 }

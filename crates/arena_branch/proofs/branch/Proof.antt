@@ -3,6 +3,7 @@ use mathlib.Core.Path.{_≡_, ap, _∙_}
 use mathlib.Core.List.{List}
 use Prim.Native.Nat.{ℕ, _+_}
 use lib.ListN.{getD}
+use Rattle.basics.specs.Limits.{cubeKids}
 use Rattle.nodes.specs.Words.{factOf, nodes, wordOf}
 use Rattle.find.specs.Cells.{cellOf}
 use Rattle.arena.specs.Calls.{Out}
@@ -13,13 +14,13 @@ use Rattle.new_value.proofs.Facts.{sum-facts}
 use Rattle.arena_branch.proofs.branch.Statement.{statement}
 use Rattle.arena_branch.proofs.branch.Tie as tie
 
-ended : (a : Arena) (k f e ks : List ℕ) (top v s p : ℕ) (x : Out) → v ≡ valueBy 8 (factOf f) ks → p ≡ cellOf e (a .capacity) (wordOf (nodes k f)) ks v
-    → s ≡ getD e p 0 → x ≡ branchAt (tables a k f e) ks v (top + 1) s p → x ≡ branchBy 8 (tables a k f e) ks top
+ended : (a : Arena) (k f e ks : List ℕ) (top v s p : ℕ) (x : Out) → v ≡ valueBy cubeKids (factOf f) ks → p ≡ cellOf e (a .capacity) (wordOf (nodes k f)) ks v
+    → s ≡ getD e p 0 → x ≡ branchAt (tables a k f e) ks v (top + 1) s p → x ≡ branchBy cubeKids (tables a k f e) ks top
 unfolding branchBy
 ended a k f e ks top v s p x ev ep es h =
-    let w : v ≡ valueBy 8 (wordOf (nodes k f)) ks = ev ∙ sum-facts k f ks in
-    let q : p ≡ cellFor (tables a k f e) ks (valueBy 8 (wordOf (nodes k f)) ks) = ep ∙ ap (cellOf e (a .capacity) (wordOf (nodes k f)) ks) w in
-    let z : s ≡ getD e (cellFor (tables a k f e) ks (valueBy 8 (wordOf (nodes k f)) ks)) 0 = es ∙ ap (λ (y : ℕ). getD e y 0) q in
+    let w : v ≡ valueBy cubeKids (wordOf (nodes k f)) ks = ev ∙ sum-facts k f ks in
+    let q : p ≡ cellFor (tables a k f e) ks (valueBy cubeKids (wordOf (nodes k f)) ks) = ep ∙ ap (cellOf e (a .capacity) (wordOf (nodes k f)) ks) w in
+    let z : s ≡ getD e (cellFor (tables a k f e) ks (valueBy cubeKids (wordOf (nodes k f)) ks)) 0 = es ∙ ap (λ (y : ℕ). getD e y 0) q in
     h ∙ (λ i. branchAt (tables a k f e) ks (w i) (top + 1) (z i) (q i))
 
 pub branch-spec : {M : Type 1} → statement M

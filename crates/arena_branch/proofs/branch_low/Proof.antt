@@ -13,8 +13,8 @@ use Rattle.new_value.proofs.Facts.{top-facts}
 use Rattle.arena_branch.proofs.branch_low.Statement.{statement}
 use Rattle.arena_branch.proofs.branch_low.Tie as tie
 
-module _ (a : Arena) (k f e ks : List ℕ) (top : ℕ) (et : top ≡ topFor (factOf f) ks 8) where
-  top-is : topFor (wordOf (nodes k f)) ks 8 ≡ top
+module _ (a : Arena) (k f e ks : List ℕ) (top : ℕ) (et : top ≡ topFor (factOf f) ks cubeKids) where
+  top-is : topFor (wordOf (nodes k f)) ks cubeKids ≡ top
   top-is = sym (et ∙ top-facts k f ks)
 
   tall : deepest ≤ top → refused 8 (tables a k f e) ≡ branchLow cubeKids deepest (tables a k f e) ks

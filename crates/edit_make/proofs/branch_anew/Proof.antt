@@ -3,6 +3,7 @@ use mathlib.Core.Path.{_≡_, ap, ap₂, _∙_}
 use mathlib.Core.List.{List}
 use Prim.Native.Nat.{ℕ}
 use lib.Dec.{eqb}
+use Rattle.basics.specs.Limits.{cubeKids}
 use Rattle.nodes.specs.Words.{factOf}
 use Rattle.find_hash.specs.Hash.{homeFor}
 use Rattle.find.specs.Cells.{probe}
@@ -15,7 +16,7 @@ use Rattle.new_value.proofs.Facts.{sum-facts, top-facts}
 use Rattle.edit_make.proofs.branch_anew.Statement.{statement}
 use Rattle.edit_make.proofs.branch_anew.Tie as tie
 
-done : (a : Arena) (k f e ks : List ℕ) (h q v top up at : ℕ) (r : Out) → v ≡ valueBy 8 (factOf f) ks → top ≡ topFor (factOf f) ks 8 → up ≡ moreOf top
+done : (a : Arena) (k f e ks : List ℕ) (h q v top up at : ℕ) (r : Out) → v ≡ valueBy cubeKids (factOf f) ks → top ≡ topFor (factOf f) ks cubeKids → up ≡ moreOf top
     → at ≡ probe (eqb (freshSlot a)) e (homeFor (a .capacity) ks v)
     → r ≡ branchFresh (tables a k f e) ks v up h q at → r ≡ branchAnewBy (tables a k f e) ks h q
 unfolding branchAnewBy

@@ -5,6 +5,7 @@ use mathlib.Core.List.{List}
 use Prim.Native.Nat.{ℕ}
 use lib.Dec.{eqb}
 use lib.ListN.{getD}
+use Rattle.basics.specs.Limits.{cubeKids}
 use Rattle.nodes.specs.Words.{factOf, wordOf, nodes}
 use Rattle.find.specs.Cells.{cellOf}
 use Rattle.arena.specs.Calls.{allOf}
@@ -27,7 +28,7 @@ module _ (a : Arena) (k f e ks : List ℕ) (s : ℕ) (b : Bool) (eb : b ≡ allO
   unfolding needPlan
   leaf l h el hl = rw (sym eb ∙ h, sym el ∙ hl)
 
-  found : (l : Bool) (v p i : ℕ) (r : Plan) → b ≡ false → l ≡ leafKids ks → l ≡ false → v ≡ valueBy 8 (factOf f) ks
+  found : (l : Bool) (v p i : ℕ) (r : Plan) → b ≡ false → l ≡ leafKids ks → l ≡ false → v ≡ valueBy cubeKids (factOf f) ks
       → p ≡ cellOf e (a .capacity) (wordOf (nodes k f)) ks v → i ≡ getD e p 0 → r ≡ slotPlan (factOf f) i s → r ≡ needPlan (tables a k f e) ks s
   unfolding needPlan foundBy
   found l v p i r h el hl ev ep ei er =

@@ -2,6 +2,7 @@ use borrow.Author.Needs.{needs}
 use mathlib.Core.Path.{_≡_}
 use mathlib.Core.Logic.{⊎-elim}
 use Prim.Native.Nat.{_-_, _*_, _≤_}
+use Rattle.basics.specs.Limits.{cubeKids}
 use Rattle.nodes.specs.Words.{factOf}
 use Rattle.arena.specs.Models.{topFor, wrapSum}
 use Rattle.new_value.proofs.Steps.{sum-last, sum-node, sum-none, sum-start, top-last, top-node, top-none, top-start}
@@ -10,10 +11,10 @@ use Rattle.new_value.proofs.sums_of.Tie as tie
 
 -- invariant: `sum` and `top` are the sum and the tallest of the first i children
 abbrev Inv-loop : tie.InvT-loop
-Inv-loop facts ks sum₀ top₀ i₀ sum top i = (i ≤ 8) × (sum ≤ 65536 * i) × (sum ≡ wrapSum (factOf facts) ks i) × (top ≡ topFor (factOf facts) ks i)
+Inv-loop facts ks sum₀ top₀ i₀ sum top i = (i ≤ cubeKids) × (sum ≤ 65536 * i) × (sum ≡ wrapSum (factOf facts) ks i) × (top ≡ topFor (factOf facts) ks i)
 
 abbrev μ-loop : tie.MeasureT-loop
-μ-loop facts ks sum₀ top₀ i₀ sum top i = 8 - i
+μ-loop facts ks sum₀ top₀ i₀ sum top i = cubeKids - i
 
 pub sums-of-spec : {M : Type 1} → statement M
 sums-of-spec =
@@ -24,4 +25,4 @@ sums-of-spec =
     (λ c.
     ⊎-elim (λ w. (search needs, search needs, search sum-node, search top-node)) (λ w. (search needs, search needs, search sum-none, search top-none))
     (c .if1 .came))
-    (λ c. (search sum-last, search top-last)))
+    (λ c. search needs) (λ c. (search sum-last, search top-last)))
