@@ -50,17 +50,17 @@ use Rattle.edit.proofs.Upward.{Low, Done, low-have, low-lack, placed, l
 words-set : (U : Words) (a c s : ℕ) → c < cubeKids → set (eightParts U a) c s ≡ wordsOf cubeKids (replace (part U a) c s)
 unfolding eightParts wordsOf
 words-set U a c s l =
-    let e : length (set (tabFrom cubeKids 0 (part U a)) c s) ≡ kidWords = length-set (tabFrom cubeKids 0 (part U a)) c s ∙ tabFrom-length cubeKids 0 (part U a) in
-    sym (subst (λ (k : ℕ). tabFrom k 0 (λ i. pick (ltb i cubeKids) (replace (part U a) c s i) 0) ≡ set (tabFrom cubeKids 0 (part U a)) c s) e
-    (tab-list (set (tabFrom cubeKids 0 (part U a)) c s) 0 (λ i. pick (ltb i cubeKids) (replace (part U a) c s i) 0) (λ j h. at j (omega arith))))
+    let e : length (set (tabFrom kidWords 0 (part U a)) c s) ≡ kidWords = length-set (tabFrom kidWords 0 (part U a)) c s ∙ tabFrom-length kidWords 0 (part U a) in
+    sym (subst (λ (k : ℕ). tabFrom k 0 (λ i. pick (ltb i cubeKids) (replace (part U a) c s i) 0) ≡ set (tabFrom kidWords 0 (part U a)) c s) e
+    (tab-list (set (tabFrom kidWords 0 (part U a)) c s) 0 (λ i. pick (ltb i cubeKids) (replace (part U a) c s i) 0) (λ j h. at j (omega arith))))
   where
-    at : (j : ℕ) → j < cubeKids → pick (ltb (0 + j) cubeKids) (replace (part U a) c s (0 + j)) 0 ≡ getD (set (tabFrom cubeKids 0 (part U a)) c s) j 0
+    at : (j : ℕ) → j < cubeKids → pick (ltb (0 + j) cubeKids) (replace (part U a) c s (0 + j)) 0 ≡ getD (set (tabFrom kidWords 0 (part U a)) c s) j 0
     at j h =
         let z : 0 + j ≡ j = omega arith in
-        let n = tabFrom-length cubeKids 0 (part U a) in
+        let n = tabFrom-length kidWords 0 (part U a) in
         rw (z, lt-ltb j cubeKids h) (cases (ℕ-discrete j c)
-        (λ (q : j ≡ c). replace-same (part U a) c s j q ∙ sym (ap (λ (i : ℕ). getD (set (tabFrom cubeKids 0 (part U a)) c s) i 0) q ∙ set-at (tabFrom cubeKids 0 (part U a)) c s (omega arith)))
-        (λ q. replace-other (part U a) c s j q ∙ sym (set-other (tabFrom cubeKids 0 (part U a)) c s j q ∙ tab-get cubeKids 0 (part U a) j h ∙ ap (part U a) z)))
+        (λ (q : j ≡ c). replace-same (part U a) c s j q ∙ sym (ap (λ (i : ℕ). getD (set (tabFrom kidWords 0 (part U a)) c s) i 0) q ∙ set-at (tabFrom kidWords 0 (part U a)) c s (omega arith)))
+        (λ q. replace-other (part U a) c s j q ∙ sym (set-other (tabFrom kidWords 0 (part U a)) c s j q ∙ tab-get kidWords 0 (part U a) j h ∙ ap (part U a) z)))
 
 words-tab : (f : ℕ → ℕ) → wordsOf cubeKids f ≡ tabFrom cubeKids 0 f
 unfolding wordsOf
@@ -133,7 +133,7 @@ module _ (tallest : ℕ) (t : Tables) (w : WellFormed cubeKids tallest t) where
             let n = words-length cubeKids f in
             let b = branch-words t (wordsOf cubeKids f) (branchSlot t (wordsOf cubeKids f)) (r .0) in
             let l : LiveSlot t (branchSlot t (wordsOf cubeKids f)) = (r .1, b .0) in
-            let k : (j : ℕ) → j < cubeKids → W t (branchSlot t (wordsOf cubeKids f)) j ≡ getD (wordsOf cubeKids f) j 0 =
+            let k : (j : ℕ) → j < kidWords → W t (branchSlot t (wordsOf cubeKids f)) j ≡ getD (wordsOf cubeKids f) j 0 =
             (λ j h. let q : 0 + j ≡ j = omega arith in rw q at (b .1 j (omega arith))) in
             search-hit cubeKids tallest t w (wordsOf cubeKids f) (valueFor cubeKids (W t) (wordsOf cubeKids f)) n (branchSlot t (wordsOf cubeKids f)) l
             (content-true (W t) (wordsOf cubeKids f) (valueFor cubeKids (W t) (wordsOf cubeKids f)) (branchSlot t (wordsOf cubeKids f)) n k (slot-value (branchSlot t (wordsOf cubeKids f)) l k))
