@@ -99,7 +99,7 @@ module _ (u : Tables) (w : WellFormed cubeKids deepest u) (id v : ℕ) (ks : Lis
   unfolding heightAt
   height-is = rw (ne-eqb id 0 (live-nonzero (k .live)))
 
-  pub kid-is : (i : ℕ) → i < cubeKids → childOf (W u) id i ≡ getD ks i 0
+  pub kid-is : (i : ℕ) → i < kidWords → childOf (W u) id i ≡ getD ks i 0
   kid-is i h = kid-word (W u) (slot id) i h ∙ ap (λ (l : List ℕ). getD l i 0) (k .kids)
 
   pub flat-is : ks ≡ empties → Flat id
@@ -109,14 +109,14 @@ module _ (u : Tables) (w : WellFormed cubeKids deepest u) (id v : ℕ) (ks : Lis
       go (empty z) = inl z
       go (leaf l) = inr l
       go (branch b) =
-          absurd (wf-made cubeKids deepest u fit w .branches id (k .live) b .notAllEmpty (λ i h. kid-is i h ∙ ap (λ (l : List ℕ). getD l i 0) e ∙ empties-at i h))
+          absurd (wf-made cubeKids deepest u fit w .branches id (k .live) b .notAllEmpty (λ i h. kid-is i (omega arith) ∙ ap (λ (l : List ℕ). getD l i 0) e ∙ empties-at i (omega arith)))
 
   pub branch-is : length ks ≡ kidWords → (U : Words) → v ≡ valueFor cubeKids U ks → Branch id
   branch-is e U q = go (kind id)
     where
       bare : LeafNode (W u) (slot id) → ks ≡ empties
       bare n = ext-getD 0 ks empties (e ∙ sym empties-length) (λ i h.
-          let j : i < cubeKids = subst (λ (m : ℕ). i < m) e h in
+          let j : i < kidWords = subst (λ (m : ℕ). i < m) e h in
           sym (kid-is i j) ∙ n .bare i j ∙ sym (empties-at i j))
 
       flat : Leaf id → Branch id

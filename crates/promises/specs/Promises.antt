@@ -9,7 +9,7 @@ use native.Mathlib.Omega.{arith}
 use lib.Pow.{pow-pos}
 use lib.Dec.{eqb}
 use lib.ListN.{length, set}
-use Rattle.basics.specs.Limits.{deepest, deepestCube, cubeKids, largestValue}
+use Rattle.basics.specs.Limits.{deepest, deepestCube, cubeKids, kidWords, largestValue}
 use Rattle.basics.specs.Pick.{pick}
 use Rattle.nodes.specs.Values.{valueAt, heightAt}
 use Rattle.nodes.specs.Tally.{occ}
@@ -40,7 +40,7 @@ pub data Call : Type 0 where
 -- what can be handed to a call: a 16-bit value, the ids of the children
 abbrev pub Handed : Call → Type 0
 Handed (leaf v) = v ≤ largestValue
-Handed (branch ks) = length ks ≡ cubeKids
+Handed (branch ks) = length ks ≡ kidWords
 Handed (hold b) = Unit
 Handed (release b) = Unit
 Handed (voxel b e p v) = v ≤ largestValue
