@@ -89,7 +89,7 @@ module _ (W : Words) (s : ℕ) where
 
 -- ---- live ids of well-formed tables
 
-module _ (n tallest : ℕ) (t : Tables) (m : n ≤ 8) (w : WellFormed n tallest t) (y : ℕ) (live : Live (cap t) (W t) y) where
+module _ {n tallest : ℕ} {t : Tables} (m : n ≤ 8) (w : WellFormed n tallest t) (y : ℕ) (live : Live (cap t) (W t) y) where
   node : Node n tallest (cap t) (W t) (slot y)
   node = w .nodes (slot y) (live .low, rw (live .is) (live .high))
 

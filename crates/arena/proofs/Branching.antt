@@ -52,19 +52,19 @@ pub found-slot : (t : Tables) (ks : List ℕ) → branchSlot t ks ≢ 0 → (bra
 unfolding branchSlot
 found-slot t ks d = find-hit (branchIn t ks) (cap t) d
 
-module _ (n tallest : ℕ) (t : Tables) (m : n ≤ 8) (pos : 1 ≤ n) (w : WellFormed n tallest t) (ks : List ℕ) (e : length ks ≡ 8)
+module _ {n tallest : ℕ} {t : Tables} (m : n ≤ 8) (pos : 1 ≤ n) (w : WellFormed n tallest t) (ks : List ℕ) (e : length ks ≡ 8)
     (beyond : (i : ℕ) → n ≤ i → i < 8 → getD ks i 0 ≡ 0) (fine : kidsNo t ks ≡ 0) where
   abbrev v : ℕ
   v = valueFor n (W t) ks
 
   inv : Inv t []
-  inv = wf-inv n tallest t m w
+  inv = wf-inv m w
 
   kid-live : (y : ℕ) → y ≢ 0 → 1 ≤ occ y ks → Live (cap t) (W t) y
   kid-live y d o = live-is t y (alive t ks (kids-fine t ks fine .0) y d o)
 
   con : Content n tallest (cap t) (W t)
-  con = wf-content n tallest t w
+  con = wf-content w
 
   value-is : valueBy n (W t) ks ≡ v
   value-is = value-by n tallest m pos t ks e con kid-live
@@ -98,7 +98,7 @@ module _ (n tallest : ℕ) (t : Tables) (m : n ≤ 8) (pos : 1 ≤ n) (w : WellF
   unfolding branchBy branchAt
   hit-law top d =
       let q = slot-in d in
-      let r = search-hit n tallest t w ks v e (branchSlot t ks) (q .0) (q .1) in
+      let r = search-hit w ks v e (branchSlot t ks) (q .0) (q .1) in
       rw (value-is, r, ne-eqb (branchSlot t ks) 0 d)
 
   hold-few : fullOf (W t) (branchSlot t ks) ≡ false → fullOf (wordOf (unheld (t .nodes) ks)) (branchSlot t ks) ≡ false
@@ -113,10 +113,10 @@ module _ (n tallest : ℕ) (t : Tables) (m : n ≤ 8) (pos : 1 ≤ n) (w : WellF
       let eased = unheld-eased ks (t .nodes) in
       let u : Inv (tablesOf (t .arena) (unheld (t .nodes) ks) (t .find)) [] = unheld-inv (t .arena) (t .find) [] ks (t .nodes) inv
       (λ y z o. (kid-live y z o, kid-placed (inv .counts) (branchSlot t ks) y (q .0 .0) z (subst (λ (l : List ℕ). 1 ≤ occ y l) (sym k) o))) in
-      let well : WellFormed n tallest (tablesOf (t .arena) (unheld (t .nodes) ks) (t .find)) = inv-wf n tallest (tablesOf (t .arena) (unheld (t .nodes) ks) (t .find)) u
+      let well : WellFormed n tallest (tablesOf (t .arena) (unheld (t .nodes) ks) (t .find)) = inv-wf n tallest u
       (content-recount n tallest (cap t) (W t) (wordOf (unheld (t .nodes) ks)) m (λ b g j. eased .words b g (omega arith) (omega arith) (omega arith))
       (λ b l h. let x = eased .fewer b in let y = w .nodes b (l, h) .few in omega arith) con) in
-      held-kept n tallest (tablesOf (t .arena) (unheld (t .nodes) ks) (t .find)) (branchSlot t ks) m well
+      held-kept (branchSlot t ks) m well
       (q .0 .0, (let x = eased .words (branchSlot t ks) own (omega arith) (omega arith) (omega arith) in let y = q .0 .1 in omega arith))
       (hold-few f)
 
@@ -135,7 +135,7 @@ module _ (n tallest : ℕ) (t : Tables) (m : n ≤ 8) (pos : 1 ≤ n) (w : WellF
 
   miss-law : (top : ℕ) → branchSlot t ks ≡ 0 → branchBy n t ks top ≡ branchMissBy t ks v (top + 1) (cellFor t ks v)
   unfolding branchBy branchAt
-  miss-law top z = let r = search-miss n tallest t w ks v e (no-branch z) in rw (value-is, r)
+  miss-law top z = let r = search-miss w ks v e (no-branch z) in rw (value-is, r)
 
   value-u : valueFor n (W u) ks ≡ v
   value-u = value-same n (W t) (W u) ks (λ b. u-word b value (omega arith) (omega arith) (omega arith))
@@ -148,8 +148,8 @@ module _ (n tallest : ℕ) (t : Tables) (m : n ≤ 8) (pos : 1 ≤ n) (w : WellF
   made-law top h z r =
       let room = room-yes (t .arena) r in
       rw (r, place .same)
-      (branch-fresh u (ks ++ []) (place .inv) room n ks v (top + 1) 1 0 (cellFor t ks v) (sym value-u) (sym h ∙ sym height-u)
-      (search-ends u (ks ++ []) (place .inv) room ks v (contentIs (W t) ks v) (λ x p l. no-branch z x p (u-live x l))))
+      (branch-fresh (ks ++ []) (place .inv) room n ks v (top + 1) 1 0 (cellFor t ks v) (sym value-u) (sym h ∙ sym height-u)
+      (search-ends (ks ++ []) (place .inv) room ks v (contentIs (W t) ks v) (λ x p l. no-branch z x p (u-live x l))))
 
   full-law : (top : ℕ) → roomOf (t .arena) ≡ false → branchMissBy t ks v (top + 1) (cellFor t ks v) ≡ refused 11 t
   unfolding branchMissBy
@@ -166,10 +166,10 @@ module _ (n tallest : ℕ) (t : Tables) (m : n ≤ 8) (pos : 1 ≤ n) (w : WellF
   unfolding branchMade
   made-kept z r low =
       let h = height-u in
-      let g = branch-makes n tallest m pos u ks 1 0 e beyond (kids-fine t ks fine .2) (place .inv) u-content (room-yes (t .arena) r) (omega arith) (omega arith) (omega arith)
-      (λ x l k. slot-lone t ks e z x (u-live x l) (let o = not-ground n tallest t w ks v e x (u-live x l) in omega arith)
+      let g = branch-makes n tallest m pos ks 1 0 e beyond (kids-fine t ks fine .2) (place .inv) u-content (room-yes (t .arena) r) (omega arith) (omega arith) (omega arith)
+      (λ x l k. slot-lone t ks e z x (u-live x l) (let o = not-ground w ks v e x (u-live x l) in omega arith)
       (λ j b. sym (u-word x j (omega arith) (omega arith) (omega arith)) ∙ k j b)) .grown in
-      inv-wf n tallest (branchAnew n u ks 1 0 .after) (g .inv) (g .content)
+      inv-wf n tallest (g .inv) (g .content)
 
 -- ---- the two theorems
 
@@ -191,7 +191,7 @@ kids-refused n tallest t ks d =
     (λ a. rw (f, a) (refl, refl)))
     (λ f. rw f (refl, refl))
 
-module _ (n tallest : ℕ) (t : Tables) (m : n ≤ 8) (pos : 1 ≤ n) (w : WellFormed n tallest t) (ks : List ℕ) (e : length ks ≡ 8)
+module _ {n tallest : ℕ} {t : Tables} (m : n ≤ 8) (pos : 1 ≤ n) (w : WellFormed n tallest t) (ks : List ℕ) (e : length ks ≡ 8)
     (beyond : (i : ℕ) → n ≤ i → i < 8 → getD ks i 0 ≡ 0) (fine : kidsNo t ks ≡ 0) where
   by-is : internBranchBy n tallest t ks ≡ pick (ltb (topFor (W t) ks n) tallest) (branchBy n t ks (topFor (W t) ks n)) (refused 8 t)
   unfolding internBranchBy branchLow
@@ -227,25 +227,25 @@ module _ (n tallest : ℕ) (t : Tables) (m : n ≤ 8) (pos : 1 ≤ n) (w : WellF
       cases (ℕ-discrete (branchSlot t ks) 0)
       (λ z. split (roomOf (t .arena))
       (λ r. ends (branchMade n t ks) 0
-      (by ∙ miss-law n tallest t m pos w ks e beyond fine (topFor (W t) ks n) z ∙ made-law n tallest t m pos w ks e beyond fine (topFor (W t) ks n) h z r)
+      (by ∙ miss-law m pos w ks e beyond fine (topFor (W t) ks n) z ∙ made-law m pos w ks e beyond fine (topFor (W t) ks n) h z r)
       (no-is ∙ rw (le-leb (heightFor n (W t) ks) tallest hl, eq-eqb (branchSlot t ks) 0 z, r))
       (rw (eq-eqb (branchSlot t ks) 0 z))
-      (made-kept n tallest t m pos w ks e beyond fine z r hl))
+      (made-kept m pos w ks e beyond fine z r hl))
       (λ r. ends (refused 11 t) 11
-      (by ∙ miss-law n tallest t m pos w ks e beyond fine (topFor (W t) ks n) z ∙ full-law n tallest t m pos w ks e beyond fine (topFor (W t) ks n) r)
+      (by ∙ miss-law m pos w ks e beyond fine (topFor (W t) ks n) z ∙ full-law m pos w ks e beyond fine (topFor (W t) ks n) r)
       (no-is ∙ rw (le-leb (heightFor n (W t) ks) tallest hl, eq-eqb (branchSlot t ks) 0 z, r))
       refl w))
       (λ z. split (fullOf (W t) (branchSlot t ks))
       (λ f. ends (refused 10 t) 10
-      (by ∙ hit-law n tallest t m pos w ks e beyond fine (topFor (W t) ks n) z ∙ hit-full t ks (branchSlot t ks) f)
+      (by ∙ hit-law m pos w ks e beyond fine (topFor (W t) ks n) z ∙ hit-full t ks (branchSlot t ks) f)
       (no-is ∙ rw (le-leb (heightFor n (W t) ks) tallest hl, ne-eqb (branchSlot t ks) 0 z, f))
       refl w)
       (λ f. ends (said 0 (W t (branchSlot t ks) own) (heldAt (tablesOf (t .arena) (unheld (t .nodes) ks) (t .find)) (branchSlot t ks))) 0
-      (by ∙ hit-law n tallest t m pos w ks e beyond fine (topFor (W t) ks n) z
-      ∙ hit-held t ks (branchSlot t ks) f (hold-few n tallest t m pos w ks e beyond fine f))
+      (by ∙ hit-law m pos w ks e beyond fine (topFor (W t) ks n) z
+      ∙ hit-held t ks (branchSlot t ks) f (hold-few m pos w ks e beyond fine f))
       (no-is ∙ rw (le-leb (heightFor n (W t) ks) tallest hl, ne-eqb (branchSlot t ks) 0 z, f))
       (rw (ne-eqb (branchSlot t ks) 0 z))
-      (hit-kept n tallest t m pos w ks e beyond fine z f))))
+      (hit-kept m pos w ks e beyond fine z f))))
       (λ l.
       let h = height-top n t ks in
       ends (refused 8 t) 8
@@ -258,16 +258,16 @@ unfolding kidsNo
 branch-unsized t ks u z = let y : _≡_ {A = ℕ} 1 0 = (rw u at z) in omega arith
 
 -- the code's answer is the definition's
-pub branch-law : (n tallest : ℕ) (t : Tables) (ks : List ℕ) (x : Out) → n ≤ 8 → 1 ≤ n → length ks ≡ 8 → ((i : ℕ) → n ≤ i → i < 8 → getD ks i 0 ≡ 0)
+pub branch-law : {n tallest : ℕ} {t : Tables} (ks : List ℕ) (x : Out) → n ≤ 8 → 1 ≤ n → length ks ≡ 8 → ((i : ℕ) → n ≤ i → i < 8 → getD ks i 0 ≡ 0)
     → x ≡ internBranchBy n tallest t ks → Fair n tallest t → x ≡ internBranchOf n tallest t ks
-branch-law n tallest t ks x m pos e beyond q (inl u) = q ∙ kids-refused n tallest t ks (branch-unsized t ks u) .0
-branch-law n tallest t ks x m pos e beyond q (inr w) = cases (ℕ-discrete (kidsNo t ks) 0)
-    (λ z. q ∙ done n tallest t m pos w ks e beyond z .0)
+branch-law {n} {tallest} {t} ks x m pos e beyond q (inl u) = q ∙ kids-refused n tallest t ks (branch-unsized t ks u) .0
+branch-law {n} {tallest} {t} ks x m pos e beyond q (inr w) = cases (ℕ-discrete (kidsNo t ks) 0)
+    (λ z. q ∙ done m pos w ks e beyond z .0)
     (λ z. q ∙ kids-refused n tallest t ks z .0)
 
 -- and well formed stays well formed
-pub branch-well : (n tallest : ℕ) (t : Tables) (ks : List ℕ) → n ≤ 8 → 1 ≤ n → length ks ≡ 8 → ((i : ℕ) → n ≤ i → i < 8 → getD ks i 0 ≡ 0)
+pub branch-well : {n tallest : ℕ} {t : Tables} (ks : List ℕ) → n ≤ 8 → 1 ≤ n → length ks ≡ 8 → ((i : ℕ) → n ≤ i → i < 8 → getD ks i 0 ≡ 0)
     → WellFormed n tallest t → WellFormed n tallest (internBranchOf n tallest t ks .after)
-branch-well n tallest t ks m pos e beyond w = cases (ℕ-discrete (kidsNo t ks) 0)
-    (λ z. done n tallest t m pos w ks e beyond z .1)
+branch-well {n} {tallest} {t} ks m pos e beyond w = cases (ℕ-discrete (kidsNo t ks) 0)
+    (λ z. done m pos w ks e beyond z .1)
     (λ z. subst (λ (u : Tables). WellFormed n tallest u) (kids-refused n tallest t ks z .1) w)

@@ -71,12 +71,12 @@ recycled-next t s = refl
 
 -- ---- the steps
 
-module _ (t : Tables) (x : ℕ) (debt : List ℕ) (v : Inv t (x ∷ debt)) (d : x ≢ 0) where
+module _ {t : Tables} (x : ℕ) (debt : List ℕ) (v : Inv t (x ∷ debt)) (d : x ≢ 0) where
   pub debtor : Live (cap t) (W t) x
   debtor = v .counts .named x d (omega (arith, total-cons 8 (cap t) (W t) x x debt, same-refl x))
 
   within : Within (t .nodes) (slot x)
-  within = sized-within t (slot x) (v .sized) (debtor .low)
+  within = sized-within (slot x) (v .sized) (debtor .low)
 
   was : floor ≤ W t (slot x) own
   was = let p = debtor .is in let q = debtor .high in omega arith
@@ -230,62 +230,62 @@ pub record Dropped (t t′ : Tables) (debt : List ℕ) : Type 0 where
   pub next : t′ .arena .next ≡ t .arena .next
 
 dropped-trans : {t t′ t″ : Tables} {d d′ : List ℕ} → Dropped t t′ d → Dropped t′ t″ d′ → Dropped t t″ d′
-dropped-trans {t} {t′} {t″} p q = record {
+dropped-trans {t′} {t″} p q = record {
   inv = q .inv;
   frame = frame-trans (p .frame) (subst (λ (c : ℕ). Frame c (W t′) (W t″)) (p .size) (q .frame));
   size = q .size ∙ p .size;
   next = q .next ∙ p .next;
 }
 
-dropped-refl : (t : Tables) (d : List ℕ) → Inv t d → Dropped t t d
-dropped-refl t d v = record { inv = v; frame = frame-refl (cap t) (W t); size = refl; next = refl }
+dropped-refl : {t : Tables} (d : List ℕ) → Inv t d → Dropped t t d
+dropped-refl {t} d v = record { inv = v; frame = frame-refl (cap t) (W t); size = refl; next = refl }
 
 -- and that `more`, which goes as deep or deeper, does the same
 abbrev Good : (Tables → ℕ → Tables) → (Tables → ℕ → Tables) → ℕ → Type 0
 Good rec more k = (t : Tables) (x : ℕ) (debt : List ℕ) → Inv t (x ∷ debt) → (x ≢ 0 → W t (slot x) height < k) → Dropped t (rec t x) debt × (more t x ≡ rec t x)
 
-each-good : (rec more : Tables → ℕ → Tables) (k : ℕ) → Good rec more k → (ys : List ℕ) (t : Tables) (debt : List ℕ) → Inv t (ys ++ debt)
+each-good : (rec more : Tables → ℕ → Tables) (k : ℕ) → Good rec more k → (ys : List ℕ) {t : Tables} (debt : List ℕ) → Inv t (ys ++ debt)
     → ((y : ℕ) → y ≢ 0 → 1 ≤ occ y ys → W t (slot y) height < k)
     → Dropped t (each rec t ys) debt × (each more t ys ≡ each rec t ys)
 unfolding each
-each-good rec more k g [] t debt v h = (dropped-refl t debt v, refl)
-each-good rec more k g (y ∷ ys) t debt v h =
+each-good rec more k g [] {t} debt v h = (dropped-refl debt v, refl)
+each-good rec more k g (y ∷ ys) {t} debt v h =
     let first = g t y (ys ++ debt) v (λ z. h y z (omega (arith, occ-here y ys))) in
     let r : Dropped t (rec t y) (ys ++ debt) = first .0 in
-    let rest = each-good rec more k g ys (rec t y) debt (r .inv)
+    let rest = each-good rec more k g ys debt (r .inv)
     (λ z d m.
     let w : Live (cap (rec t y)) (W (rec t y)) z = r .inv .counts .named z d (omega (arith, total-append 8 (cap (rec t y)) (W (rec t y)) z ys debt)) in
     frame-low (cap t) (W t) (W (rec t y)) k z (r .frame) (subst (λ (c : ℕ). Live c (W (rec t y)) z) (r .size) w) (h z d (omega (arith, occ-cons z y ys)))) in
     (dropped-trans r (rest .0), ap (λ (u : Tables). each more u ys) (first .1) ∙ rest .1)
 
-recycled-dropped : (t : Tables) (x : ℕ) (debt : List ℕ) (v : Inv t (x ∷ debt)) (d : x ≢ 0) → W t (slot x) holds ≡ 0 → W t (slot x) places ≤ 1
+recycled-dropped : {t : Tables} (x : ℕ) (debt : List ℕ) (v : Inv t (x ∷ debt)) (d : x ≢ 0) → W t (slot x) holds ≡ 0 → W t (slot x) places ≤ 1
     → Dropped t (recycled t (slot x)) (kidsOf 8 (W t) (slot x) ++ debt)
-recycled-dropped t x debt v d u one = record {
-  inv = recycled-inv t x debt v d one;
-  frame = recycled-frame t x debt v d u;
+recycled-dropped {t} x debt v d u one = record {
+  inv = recycled-inv x debt v d one;
+  frame = recycled-frame x debt v d u;
   size = recycled-cap t (slot x);
   next = recycled-next t (slot x);
 }
 
-unplaced-dropped : (t : Tables) (x : ℕ) (debt : List ℕ) (v : Inv t (x ∷ debt)) (d : x ≢ 0) → 2 ≤ W t (slot x) holds + W t (slot x) places
+unplaced-dropped : {t : Tables} (x : ℕ) (debt : List ℕ) (v : Inv t (x ∷ debt)) (d : x ≢ 0) → 2 ≤ W t (slot x) holds + W t (slot x) places
     → Dropped t (unplaced t (slot x)) debt
 unfolding unplaced
-unplaced-dropped t x debt v d two = record { inv = unplaced-inv t x debt v d two; frame = unplaced-frame t x debt v d; size = refl; next = refl }
+unplaced-dropped x debt v d two = record { inv = unplaced-inv x debt v d two; frame = unplaced-frame x debt v d; size = refl; next = refl }
 
 one-good : (rec more : Tables → ℕ → Tables) (k : ℕ) → Good rec more k → Good (dropOne rec) (dropOne more) (suc k)
 one-good rec more k g t x debt v h = cases (ℕ-discrete x 0)
     (λ (e : x ≡ 0).
-    both (one-empty rec t x e) (one-empty more t x e) (dropped-refl t debt (inv-empty t debt (subst (λ (z : ℕ). Inv t (z ∷ debt)) e v))) refl)
+    both (one-empty rec t x e) (one-empty more t x e) (dropped-refl debt (inv-empty debt (subst (λ (z : ℕ). Inv t (z ∷ debt)) e v))) refl)
     (λ d.
-    let live = debtor t x debt v d in
+    let live = debtor x debt v d in
     let alive = v .counts .alive x live in
     cases (ℕ-discrete (W t (slot x) holds) 0)
     (λ u. cases (decLt 1 (W t (slot x) places))
-    (λ m. both (one-more rec t x d u m) (one-more more t x d u m) (unplaced-dropped t x debt v d (omega arith)) refl)
+    (λ m. both (one-more rec t x d u m) (one-more more t x d u m) (unplaced-dropped x debt v d (omega arith)) refl)
     (λ m.
     let one : W t (slot x) places ≤ 1 = omega arith in
-    let i = recycled-dropped t x debt v d u one in
-    let r = each-good rec more k g (kidsOf 8 (W t) (slot x)) (recycled t (slot x)) debt (i .inv)
+    let i = recycled-dropped x debt v d u one in
+    let r = each-good rec more k g (kidsOf 8 (W t) (slot x)) debt (i .inv)
     (λ y z m.
     let w : Live (cap (recycled t (slot x))) (W (recycled t (slot x))) y =
     i .inv .counts .named y z (omega (arith, total-append 8 (cap (recycled t (slot x))) (W (recycled t (slot x))) y (kidsOf 8 (W t) (slot x)) debt)) in
@@ -296,7 +296,7 @@ one-good rec more k g t x debt v h = cases (ℕ-discrete x 0)
     (λ u.
     let p = v .counts .placed x live in
     let two : 2 ≤ W t (slot x) holds + W t (slot x) places = omega (arith, total-cons 8 (cap t) (W t) x x debt, same-refl x) in
-    both (one-held rec t x d u) (one-held more t x d u) (unplaced-dropped t x debt v d two) refl))
+    both (one-held rec t x d u) (one-held more t x d u) (unplaced-dropped x debt v d two) refl))
   where
     both : {a b : Tables} → dropOne rec t x ≡ a → dropOne more t x ≡ b → Dropped t a debt → b ≡ a → Dropped t (dropOne rec t x) debt × (dropOne more t x ≡ dropOne rec t x)
     both p q r e = (subst (λ (u : Tables). Dropped t u debt) (sym p) r, q ∙ e ∙ sym p)
@@ -311,12 +311,12 @@ drop-empty (suc k) t x e = one-empty (dropPlace k) t x e
 drop-goods : (k j : ℕ) → k ≤ j → Good (dropPlace k) (dropPlace j) k
 unfolding dropPlace
 drop-goods zero j l t x debt v h = cases (ℕ-discrete x 0)
-    (λ (e : x ≡ 0). (dropped-refl t debt (inv-empty t debt (subst (λ (z : ℕ). Inv t (z ∷ debt)) e v)), drop-empty j t x e))
+    (λ (e : x ≡ 0). (dropped-refl debt (inv-empty debt (subst (λ (z : ℕ). Inv t (z ∷ debt)) e v)), drop-empty j t x e))
     (λ d. absurd (let p = h d in omega arith))
 drop-goods (suc k) zero l t x debt v h = absurd (omega arith)
 drop-goods (suc k) (suc j) l t x debt v h = one-good (dropPlace k) (dropPlace j) k (drop-goods k j (omega arith)) t x debt v h
 
-module _ (k : ℕ) (t : Tables) (x : ℕ) (debt : List ℕ) (v : Inv t (x ∷ debt)) (h : x ≢ 0 → W t (slot x) height < k) where
+module _ (k : ℕ) {t : Tables} (x : ℕ) (debt : List ℕ) (v : Inv t (x ∷ debt)) (h : x ≢ 0 → W t (slot x) height < k) where
   pub drop-good : Dropped t (dropPlace k t x) debt
   drop-good = drop-goods k k (omega arith) t x debt v h .0
 

@@ -38,9 +38,9 @@ fits-sized t e =
     let p = fit-all (cap t) (length (t .nodes .kids)) (length (t .nodes .facts)) (length (t .find)) e in
     record { least = p .0; most = p .1; kids = p .2; facts = p .3; cells = p .4 }
 
-pub sized-fits : (t : Tables) → Sized t → fits t ≡ true
+pub sized-fits : {t : Tables} → Sized t → fits t ≡ true
 unfolding fitOf
-sized-fits t s =
+sized-fits {t} s =
     rw (
       le-leb 2 (cap t) (s .least),
       le-leb (cap t) 65536 (s .most),

@@ -68,15 +68,15 @@ pub record Makes-one (n tallest : ℕ) (t : Tables) (ks : List ℕ) (v h q : ℕ
 abbrev words : Tables → ℕ → List ℕ → ℕ → ℕ → ℕ → ℕ → Words
 words t id ks v up h q = wordOf (written (t .nodes) (spot t) ks (freshFacts id v up h q))
 
-module _ (t : Tables) (id : ℕ) (ks : List ℕ) (v up h q : ℕ) (e : length ks ≡ 8) (i : Inv t (ks ++ [])) (room : t .arena .live + 1 < cap t)
+module _ {t : Tables} (id : ℕ) (ks : List ℕ) (v up h q : ℕ) (e : length ks ≡ 8) (i : Inv t (ks ++ [])) (room : t .arena .live + 1 < cap t)
     (called : Called t id) where
   node-new : Fresh t (freshNode t id ks v up h q .after) id ks v h q
   unfolding freshNode slotGiven
   node-new =
       let o = called .spot in
       let U′ = words t id ks v up h q in
-      let free = fresh-free t (ks ++ []) i room in
-      let row : Row (W t) U′ (spot t) id ks v up h q = made-row t id ks v up h q e i room called in
+      let free = fresh-free (ks ++ []) i room in
+      let row : Row (W t) U′ (spot t) id ks v up h q = made-row id ks v up h q e i room called in
       record {
         caps = refl;
         given = refl;
@@ -95,34 +95,34 @@ module _ (t : Tables) (id : ℕ) (ks : List ℕ) (v up h q : ℕ) (e : length ks
       → Node n tallest (cap t) (words t id ks v up h q) (spot t) → Grown n tallest t (freshNode t id ks v up h q .after) (replicate q id) 1
   unfolding freshNode slotGiven
   node-grown n tallest m c alone held taller node = record {
-    inv = made-inv t id ks v up h q e i room called held taller;
-    content = made-content t id ks v up h q e i room called n tallest m alone node c;
+    inv = made-inv id ks v up h q e i room called held taller;
+    content = made-content id ks v up h q e i room called n tallest m alone node c;
     caps = refl;
     lives = refl;
-    old = λ y f l a b. made-old t id ks v up h q e i room called y f l a;
+    old = λ y f l a b. made-old id ks v up h q e i room called y f l a;
   }
 
 -- every slot has the generation that it had
 pub fresh-gens : {t u : Tables} {r : ℕ} {ks : List ℕ} {v h p : ℕ} → Fresh t u r ks v h p → (b : ℕ) → generationOf (W u b own) ≡ generationOf (W t b own)
-fresh-gens {t} {u} {r} f b = cases (ℕ-discrete b (slot r))
+fresh-gens {r} f b = cases (ℕ-discrete b (slot r))
     (λ (z : b ≡ slot r). rw z (ap generationOf (f .live .is) ∙ f .gen))
     (λ z. ap generationOf (f .others b own z (omega arith)))
 
 -- ---- a fresh leaf
 
-empty-debt : (t : Tables) → Inv t [] → Inv t (empties ++ [])
-empty-debt t j = inv-debt t [] (empties ++ []) (λ y d. omega (arith, occ-nil y, occ-append y empties [], empties-none y d)) j
+empty-debt : {t : Tables} → Inv t [] → Inv t (empties ++ [])
+empty-debt j = inv-debt [] (empties ++ []) (λ y d. omega (arith, occ-nil y, occ-append y empties [], empties-none y d)) j
 
-pub leaf-new : (t : Tables) → Inv t [] → t .arena .live + 1 < cap t → (x h q : ℕ) → Fresh t (leafAnew t x h q .after) (leafAnew t x h q .id) empties x h q
+pub leaf-new : {t : Tables} → Inv t [] → t .arena .live + 1 < cap t → (x h q : ℕ) → Fresh t (leafAnew t x h q .after) (leafAnew t x h q .id) empties x h q
 unfolding leafAnew freshNode
-leaf-new t j room x h q = node-new t (leafOwn t) empties x 0 h q empties-length (empty-debt t j) room (leaf-called t [] j room)
+leaf-new {t} j room x h q = node-new (leafOwn t) empties x 0 h q empties-length (empty-debt j) room (leaf-called [] j room)
 
-module _ (n tallest : ℕ) (m : n ≤ 8) (t : Tables) (x h q : ℕ) (j : Inv t []) (c : Content n tallest (cap t) (W t)) (room : t .arena .live + 1 < cap t)
+module _ (n tallest : ℕ) (m : n ≤ 8) {t : Tables} (x h q : ℕ) (j : Inv t []) (c : Content n tallest (cap t) (W t)) (room : t .arena .live + 1 < cap t)
     (some : x ≢ 0) (small : x ≤ 65535) (few : h ≤ 1000000) (held : 1 ≤ h + q) (alone : Alone t empties x) where
   leaf-row : Node n tallest (cap t) (words t (leafOwn t) empties x 0 h q) (spot t)
   leaf-row =
-      let called = leaf-called t [] j room in
-      let r = made-row t (leafOwn t) empties x 0 h q empties-length (empty-debt t j) room called in
+      let called = leaf-called [] j room in
+      let r = made-row (leafOwn t) empties x 0 h q empties-length (empty-debt j) room called in
       let o = r .worth in
       let f = r .held in
       record {
@@ -138,11 +138,11 @@ module _ (n tallest : ℕ) (m : n ≤ 8) (t : Tables) (x h q : ℕ) (j : Inv t [
 
   leaf-grown : Grown n tallest t (leafAnew t x h q .after) (replicate q (leafAnew t x h q .id)) 1
   unfolding leafAnew freshNode
-  leaf-grown = node-grown t (leafOwn t) empties x 0 h q empties-length (empty-debt t j) room (leaf-called t [] j room) n tallest m c alone held
+  leaf-grown = node-grown (leafOwn t) empties x 0 h q empties-length (empty-debt j) room (leaf-called [] j room) n tallest m c alone held
       (λ y a b. absurd (let z = empties-none y a in omega arith)) leaf-row
 
   pub leaf-makes : Makes-one n tallest t empties x h q (leafAnew t x h q)
-  leaf-makes = record { grown = leaf-grown; fresh = leaf-new t j room x h q }
+  leaf-makes = record { grown = leaf-grown; fresh = leaf-new j room x h q }
 
 -- ---- a fresh branch over children whose places are owed
 
@@ -189,13 +189,13 @@ module _ (n tallest : ℕ) (m : n ≤ 8) (pos : 1 ≤ n) (t : Tables) (ks : List
   unfolding valueBy valueFor
   value-by = ap (λ (z : ℕ). z / n) (sum-wraps (W t) ks n kid-small)
 
-pub branch-new : (n : ℕ) (t : Tables) (ks : List ℕ) → length ks ≡ 8 → noneOf ks ≡ false → Inv t (ks ++ []) → t .arena .live + 1 < cap t → (h q : ℕ)
+pub branch-new : (n : ℕ) {t : Tables} (ks : List ℕ) → length ks ≡ 8 → noneOf ks ≡ false → Inv t (ks ++ []) → t .arena .live + 1 < cap t → (h q : ℕ)
     → Fresh t (branchAnew n t ks h q .after) (branchAnew n t ks h q .id) ks (valueFor n (W t) ks) h q
 unfolding branchAnew freshNode
-branch-new n t ks e some i room h q =
-    node-new t (branchOwn t ks) ks (valueFor n (W t) ks) (heightFor n (W t) ks) h q e i room (branch-called t (ks ++ []) i room ks some)
+branch-new n {t} ks e some i room h q =
+    node-new (branchOwn t ks) ks (valueFor n (W t) ks) (heightFor n (W t) ks) h q e i room (branch-called (ks ++ []) i room ks some)
 
-module _ (n tallest : ℕ) (m : n ≤ 8) (pos : 1 ≤ n) (t : Tables) (ks : List ℕ) (h q : ℕ) (e : length ks ≡ 8)
+module _ (n tallest : ℕ) (m : n ≤ 8) (pos : 1 ≤ n) {t : Tables} (ks : List ℕ) (h q : ℕ) (e : length ks ≡ 8)
     (beyond : (i : ℕ) → n ≤ i → i < 8 → getD ks i 0 ≡ 0) (some : noneOf ks ≡ false) (i : Inv t (ks ++ [])) (c : Content n tallest (cap t) (W t))
     (room : t .arena .live + 1 < cap t) (lowers : heightFor n (W t) ks ≤ tallest) (few : h ≤ 1000000) (held : 1 ≤ h + q)
     (lone : (x : ℕ) → LiveSlot t x → ((j : ℕ) → j < 8 → W t x j ≡ getD ks j 0) → ⊥) where
@@ -212,13 +212,13 @@ module _ (n tallest : ℕ) (m : n ≤ 8) (pos : 1 ≤ n) (t : Tables) (ks : List
   U′ = words t id ks v up h q
 
   called : Called t id
-  called = branch-called t (ks ++ []) i room ks some
+  called = branch-called (ks ++ []) i room ks some
 
   r : Row (W t) U′ (spot t) id ks v up h q
-  r = made-row t id ks v up h q e i room called
+  r = made-row id ks v up h q e i room called
 
   old : (y f : ℕ) → Live (cap t) (W t) y → f ≤ spare → U′ (slot y) f ≡ W t (slot y) f
-  old = made-old t id ks v up h q e i room called
+  old = made-old id ks v up h q e i room called
 
   kid-live : (y : ℕ) → y ≢ 0 → 1 ≤ occ y ks → Live (cap t) (W t) y
   kid-live y d o = i .counts .named y d (omega (arith, total-append 8 (cap t) (W t) y ks []))
@@ -281,21 +281,21 @@ module _ (n tallest : ℕ) (m : n ≤ 8) (pos : 1 ≤ n) (t : Tables) (ks : List
 
   branch-grown : Grown n tallest t (branchAnew n t ks h q .after) (replicate q (branchAnew n t ks h q .id)) 1
   unfolding branchAnew freshNode
-  branch-grown = node-grown t id ks v up h q e i room called n tallest m c (λ x l a b. lone x l a) held kid-lower branch-row
+  branch-grown = node-grown id ks v up h q e i room called n tallest m c (λ x l a b. lone x l a) held kid-lower branch-row
 
   pub branch-makes : Makes-one n tallest t ks v h q (branchAnew n t ks h q)
-  branch-makes = record { grown = branch-grown; fresh = branch-new n t ks e some i room h q }
+  branch-makes = record { grown = branch-grown; fresh = branch-new n ks e some i room h q }
 
 -- ---- the code's way
 
-module _ (t : Tables) (d : List ℕ) (i : Inv t d) (room : t .arena .live + 1 < cap t) where
+module _ {t : Tables} (d : List ℕ) (i : Inv t d) (room : t .arena .live + 1 < cap t) where
   given-is : givenBy moreOf (t .arena) (W t) ≡ slotGiven (t .arena) (W t)
   unfolding slotGiven
   given-is =
       let most = i .sized .most in
       let l = more-few (t .arena .live) (omega arith) in
       cases (ℕ-discrete (t .arena .top) 0)
-      (λ z. let b = fresh-bumps t d i room z .1 in let x = more-few (t .arena .next) (omega arith) in rw (eq-eqb (t .arena .top) 0 z) (arena-path _ _ _ _ _ _ _ _ refl x refl l))
+      (λ z. let b = fresh-bumps d i room z .1 in let x = more-few (t .arena .next) (omega arith) in rw (eq-eqb (t .arena .top) 0 z) (arena-path _ _ _ _ _ _ _ _ refl x refl l))
       (λ z. rw (ne-eqb (t .arena .top) 0 z) (arena-path _ _ _ _ _ _ _ _ refl refl refl l))
 
   -- the slot named in the cell `at` stands in the first empty cell from its home on
@@ -307,7 +307,7 @@ module _ (t : Tables) (d : List ℕ) (i : Inv t d) (room : t .arena .live + 1 < 
       → Ends ks v (probe same (t .find) (homeFor (cap t) ks v))
   unfolding named insertAt
   search-ends ks v same none =
-      let l = fresh-small t d i room in
+      let l = fresh-small d i room in
       let whole : spot t % 65536 ≡ spot t = omega arith in
       ap₂ (λ (x y : ℕ). set (t .find) x y)
       (probe-as same (λ x. false) (t .find) (homeFor (cap t) ks v) (λ c a. none (cell (t .find) c) a (i .finds .names (cell (t .find) c) a .0 (c, refl)))) whole
@@ -315,7 +315,7 @@ module _ (t : Tables) (d : List ℕ) (i : Inv t d) (room : t .arena .live + 1 < 
   -- no cell has the number of a slot that is not live
   pub number-ends : (ks : List ℕ) (v : ℕ) → Ends ks v (probe (eqb (spot t)) (t .find) (homeFor (cap t) ks v))
   number-ends ks v = search-ends ks v (eqb (spot t)) (λ x p l. ne-eqb (spot t) x (λ z.
-      let dead : W t x own < floor = subst (λ (y : ℕ). W t y own < floor) z (fresh-free t d i room .2) in
+      let dead : W t x own < floor = subst (λ (y : ℕ). W t y own < floor) z (fresh-free d i room .2) in
       let live = l .1 in
       omega arith))
 
@@ -325,8 +325,8 @@ module _ (t : Tables) (d : List ℕ) (i : Inv t d) (room : t .arena .live + 1 < 
 
   whole : (spot t % 2 ^ 32 ≡ spot t) × (generationOf (W t (spot t) own) ≤ 0x7FFE)
   whole =
-      let free = fresh-free t d i room .1 in
-      let small = fresh-small t d i room in
+      let free = fresh-free d i room .1 in
+      let small = fresh-small d i room in
       let g = i .clean .gens (spot t) free in
       (omega arith, omega arith)
 

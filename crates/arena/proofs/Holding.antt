@@ -35,8 +35,8 @@ hold-done : (t : Tables) (id : ℕ) → holdNo t id ≡ 0 → id ≢ 0 → heldA
 unfolding holdOf
 hold-done t id z e = rw (eq-eqb (holdNo t id) 0 z, ne-eqb id 0 e)
 
-pub hold-well : (n tallest : ℕ) (t : Tables) (id : ℕ) → n ≤ 8 → WellFormed n tallest t → WellFormed n tallest (holdOf t id .after)
-hold-well n tallest t id m w = cases (ℕ-discrete (holdNo t id) 0)
+pub hold-well : {n tallest : ℕ} {t : Tables} (id : ℕ) → n ≤ 8 → WellFormed n tallest t → WellFormed n tallest (holdOf t id .after)
+hold-well {n} {tallest} {t} id m w = cases (ℕ-discrete (holdNo t id) 0)
     (λ z. cases (ℕ-discrete id 0)
     (λ y. subst (λ (u : Tables). WellFormed n tallest u) (hold-empty t id z y) w)
     (λ y.
@@ -44,7 +44,7 @@ hold-well n tallest t id m w = cases (ℕ-discrete (holdNo t id) 0)
     let v = live-is t id (r .0) in
     let i = v .is in
     let h = v .high in
-    subst (λ (u : Tables). WellFormed n tallest u) (hold-done t id z y) (held-kept n tallest t (slot id) m w (v .low, omega arith) (r .1))))
+    subst (λ (u : Tables). WellFormed n tallest u) (hold-done t id z y) (held-kept (slot id) m w (v .low, omega arith) (r .1))))
     (λ z. subst (λ (u : Tables). WellFormed n tallest u) (hold-refused t id z) w)
 
 -- ---- a fresh arena

@@ -46,8 +46,8 @@ pub record Content (n tallest cap : ℕ) (W : Words) : Type 0 where
 
 -- ---- the bridge
 
-pub wf-counts : (n tallest : ℕ) (t : Tables) → n ≤ 8 → WellFormed n tallest t → Counts 8 (cap t) (W t) []
-wf-counts n tallest t m w = slots-counts 8 (cap t) (W t) (omega arith) all
+pub wf-counts : {n tallest : ℕ} {t : Tables} → n ≤ 8 → WellFormed n tallest t → Counts 8 (cap t) (W t) []
+wf-counts {t = t} m w = slots-counts 8 (cap t) (W t) (omega arith) all
   where
     all : Slots 8 (cap t) (W t)
     all s l = record {
@@ -60,10 +60,10 @@ wf-counts n tallest t m w = slots-counts 8 (cap t) (W t) (omega arith) all
       used = λ h. w .used s (l, h);
     }
 
-pub wf-inv : (n tallest : ℕ) (t : Tables) → n ≤ 8 → WellFormed n tallest t → Inv t []
-wf-inv n tallest t m w = record {
+pub wf-inv : {n tallest : ℕ} {t : Tables} → n ≤ 8 → WellFormed n tallest t → Inv t []
+wf-inv m w = record {
   sized = w .sized;
-  counts = wf-counts n tallest t m w;
+  counts = wf-counts m w;
   fs = w .freed;
   freed = w .chain;
   lives = w .lives;
@@ -71,11 +71,11 @@ wf-inv n tallest t m w = record {
   finds = w .finds;
 }
 
-pub wf-content : (n tallest : ℕ) (t : Tables) → WellFormed n tallest t → Content n tallest (cap t) (W t)
-wf-content n tallest t w = record { nodes = λ s l h. w .nodes s (l, h); distinct = λ s b l m h k e f. w .distinct s b (l, h) (m, k) e f }
+pub wf-content : {n tallest : ℕ} {t : Tables} → WellFormed n tallest t → Content n tallest (cap t) (W t)
+wf-content w = record { nodes = λ s l h. w .nodes s (l, h); distinct = λ s b l m h k e f. w .distinct s b (l, h) (m, k) e f }
 
-pub inv-wf : (n tallest : ℕ) (t : Tables) → Inv t [] → Content n tallest (cap t) (W t) → WellFormed n tallest t
-inv-wf n tallest t v c = record {
+pub inv-wf : (n tallest : ℕ) {t : Tables} → Inv t [] → Content n tallest (cap t) (W t) → WellFormed n tallest t
+inv-wf n tallest {t} v c = record {
   sized = v .sized;
   freed = v .fs;
   chain = v .freed;
@@ -144,18 +144,18 @@ move-inv a l l′ f d d′ x v live r same-debt moved kept = record {
     w : (b g : ℕ) → g ≤ spare → g ≢ holds → g ≢ places → wordOf l′ b g ≡ wordOf l b g
     w = recounted-word r
 
-pub inv-debt : (t : Tables) (d d′ : List ℕ) → ((y : ℕ) → y ≢ 0 → occ y d ≡ occ y d′) → Inv t d → Inv t d′
-inv-debt t d d′ e v =
+pub inv-debt : {t : Tables} (d d′ : List ℕ) → ((y : ℕ) → y ≢ 0 → occ y d ≡ occ y d′) → Inv t d → Inv t d′
+inv-debt {t} d d′ e v =
     record { sized = v .sized; counts = counts-debt 8 (cap t) (W t) d d′ e (v .counts); fs = v .fs; freed = v .freed; lives = v .lives; clean = v .clean; finds = v .finds }
 
-pub inv-empty : (t : Tables) (d : List ℕ) → Inv t (0 ∷ d) → Inv t d
-inv-empty t d v =
+pub inv-empty : {t : Tables} (d : List ℕ) → Inv t (0 ∷ d) → Inv t d
+inv-empty {t} d v =
     record { sized = v .sized; counts = drop-empty 8 (cap t) (W t) d (v .counts); fs = v .fs; freed = v .freed; lives = v .lives; clean = v .clean; finds = v .finds }
 
 -- ---- a slot below the capacity lies inside the tables
 
-pub sized-within : (t : Tables) (s : ℕ) → Sized t → s < cap t → Within (t .nodes) s
-sized-within t s z l = let k = z .kids in let f = z .facts in record { kids = omega arith; facts = omega arith }
+pub sized-within : {t : Tables} (s : ℕ) → Sized t → s < cap t → Within (t .nodes) s
+sized-within s z l = let k = z .kids in let f = z .facts in record { kids = omega arith; facts = omega arith }
 
 -- ---- content goes through
 

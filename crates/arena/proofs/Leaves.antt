@@ -34,7 +34,7 @@ use Rattle.arena.proofs.Rows.{empties-length, empties-at}
 use Rattle.arena.proofs.Scan.{find-hit, find-miss}
 
 -- ---- the search by content on well-formed tables: for any content (ks, v)
-module _ (n tallest : ℕ) (t : Tables) (w : WellFormed n tallest t) (ks : List ℕ) (v : ℕ) (e : length ks ≡ 8) where
+module _ {n tallest : ℕ} {t : Tables} (w : WellFormed n tallest t) (ks : List ℕ) (v : ℕ) (e : length ks ≡ 8) where
   pub not-ground : (s : ℕ) → LiveSlot t s → 0 < s
   not-ground s l = cases (ℕ-discrete s 0)
       (λ (q : s ≡ 0). absurd (let z : W t s own ≡ 0 = rw q (w .chain .ground) in let f = floor-pos in let h = l .1 in omega arith)) (λ q. omega arith)
@@ -61,29 +61,29 @@ module _ (n tallest : ℕ) (t : Tables) (w : WellFormed n tallest t) (ks : List 
 -- ---- what the calls leave
 
 -- one hold more on a live node
-pub held-kept : (n tallest : ℕ) (t : Tables) (s : ℕ) → n ≤ 8 → WellFormed n tallest t → LiveSlot t s → fullOf (W t) s ≡ false → WellFormed n tallest (heldAt t s)
+pub held-kept : {n tallest : ℕ} {t : Tables} (s : ℕ) → n ≤ 8 → WellFormed n tallest t → LiveSlot t s → fullOf (W t) s ≡ false → WellFormed n tallest (heldAt t s)
 unfolding heldAt fullOf
-held-kept n tallest t s m w l f =
+held-kept {n} {tallest} {t} s m w l f =
     let few = leb-false 1000000 (W t s holds) f in
-    let i = wf-inv n tallest t m w in
+    let i = wf-inv m w in
     let id = i .counts .ids s (l .0) (l .1) in
     let live : Live (cap t) (W t) (W t s own) = live-own 8 (cap t) (W t) [] (i .counts) s (l .0) (l .1) in
     let r : Recounted s (t .nodes) (putOf (t .nodes) s holds (W t s holds + 1)) = put-recounted (t .nodes) s holds (W t s holds + 1) (inl refl) in
     let now : wordOf (putOf (t .nodes) s holds (W t s holds + 1)) s holds ≡ W t s holds + 1 =
-    put-same (t .nodes) s holds (W t s holds + 1) (sized-within t s (w .sized) (l .0)) (omega arith) (omega arith) in
+    put-same (t .nodes) s holds (W t s holds + 1) (sized-within s (w .sized) (l .0)) (omega arith) (omega arith) in
     let old : wordOf (putOf (t .nodes) s holds (W t s holds + 1)) s places ≡ W t s places = put-field (t .nodes) s holds (W t s holds + 1) places (omega arith) in
     let v : Inv (tablesOf (t .arena) (putOf (t .nodes) s holds (W t s holds + 1)) (t .find)) [] =
     move-inv (t .arena) (t .nodes) (putOf (t .nodes) s holds (W t s holds + 1)) (t .find) [] [] (W t s own) i live
     (subst (λ (z : ℕ). Recounted z (t .nodes) (putOf (t .nodes) s holds (W t s holds + 1))) (sym id) r) (λ y a b. refl)
     (subst (λ (z : ℕ). wordOf (putOf (t .nodes) s holds (W t s holds + 1)) z places + occ (W t s own) [] ≡ W t z places + occ (W t s own) []) (sym id) (omega arith))
     (subst (λ (z : ℕ). 1 ≤ wordOf (putOf (t .nodes) s holds (W t s holds + 1)) z holds + wordOf (putOf (t .nodes) s holds (W t s holds + 1)) z places) (sym id) (omega arith)) in
-    inv-wf n tallest (tablesOf (t .arena) (putOf (t .nodes) s holds (W t s holds + 1)) (t .find)) v
+    inv-wf n tallest v
     (content-recount n tallest (cap t) (W t) (wordOf (putOf (t .nodes) s holds (W t s holds + 1))) m
     (λ b g k. recounted-word r b g (omega arith) (omega arith) (omega arith))
     (λ b k h. cases (ℕ-discrete b s)
     (λ (q : b ≡ s). subst (λ (z : ℕ). wordOf (putOf (t .nodes) s holds (W t s holds + 1)) z holds ≤ 1000000) (sym q) (omega arith))
     (λ q. let e = r .others b holds q (omega arith) in let o = w .nodes b (k, h) .few in omega arith))
-    (wf-content n tallest t w))
+    (wf-content w))
 
 hit-is-full : (t : Tables) (s : ℕ) → fullOf (W t) s ≡ true → hitBy t s ≡ refused 10 t
 unfolding hitBy
@@ -93,7 +93,7 @@ pub hit-is-held : (t : Tables) (s : ℕ) → fullOf (W t) s ≡ false → hitBy 
 unfolding hitBy
 hit-is-held t s f = rw f
 
-module _ (n tallest : ℕ) (t : Tables) (m : n ≤ 8) (w : WellFormed n tallest t) (v : ℕ) (some : v ≢ 0) where
+module _ {n tallest : ℕ} {t : Tables} (m : n ≤ 8) (w : WellFormed n tallest t) (v : ℕ) (some : v ≢ 0) where
   pub leaf-in : (s : ℕ) → s < cap t → leafIn t v s ≡ true → LiveSlot t s × LeafNode (W t) s × (W t s value ≡ v)
   unfolding leafIn
   leaf-in s l h =
@@ -126,7 +126,7 @@ module _ (n tallest : ℕ) (t : Tables) (m : n ≤ 8) (w : WellFormed n tallest 
       (λ h. h)
 
   pub leaf-alone : leafSlot t v ≡ 0 → Alone t empties v
-  leaf-alone z = none-alone n tallest t w empties v empties-length (no-leaf z)
+  leaf-alone z = none-alone w empties v empties-length (no-leaf z)
 
   -- the slot of the leaf
   pub leaf-slot : leafSlot t v ≢ 0 → (leafSlot t v < cap t) × (leafIn t v (leafSlot t v) ≡ true)
@@ -138,22 +138,22 @@ module _ (n tallest : ℕ) (t : Tables) (m : n ≤ 8) (w : WellFormed n tallest 
   unfolding leafBy leafAt
   hit-law d =
       let q = leaf-slot d in
-      let r = search-hit n tallest t w empties v empties-length (leafSlot t v) (leaf-in (leafSlot t v) (q .0) (q .1) .0) (leaf-content (leafSlot t v) (q .0) (q .1)) in
+      let r = search-hit w empties v empties-length (leafSlot t v) (leaf-in (leafSlot t v) (q .0) (q .1) .0) (leaf-content (leafSlot t v) (q .0) (q .1)) in
       rw (r, ne-eqb (leafSlot t v) 0 d)
 
   -- ---- there is none
   miss-law : leafSlot t v ≡ 0 → leafBy t v ≡ leafMissBy t v (cellFor t empties v)
   unfolding leafBy leafAt
-  miss-law z = let r = search-miss n tallest t w empties v empties-length (no-leaf z) in rw r
+  miss-law z = let r = search-miss w empties v empties-length (no-leaf z) in rw r
 
   inv : Inv t []
-  inv = wf-inv n tallest t m w
+  inv = wf-inv m w
 
   made-law : leafSlot t v ≡ 0 → roomOf (t .arena) ≡ true → leafMissBy t v (cellFor t empties v) ≡ leafMade t v
   unfolding leafMissBy leafMade cellOf
   made-law z r =
       let room = room-yes (t .arena) r in
-      rw r (leaf-fresh t [] inv room v 1 0 (cellFor t empties v) (search-ends t [] inv room empties v (contentIs (W t) empties v) (no-leaf z)))
+      rw r (leaf-fresh [] inv room v 1 0 (cellFor t empties v) (search-ends [] inv room empties v (contentIs (W t) empties v) (no-leaf z)))
 
   full-law : roomOf (t .arena) ≡ false → leafMissBy t v (cellFor t empties v) ≡ refused 11 t
   unfolding leafMissBy
@@ -162,7 +162,7 @@ module _ (n tallest : ℕ) (t : Tables) (m : n ≤ 8) (w : WellFormed n tallest 
   pub leaf-by : internLeafBy t v ≡ internLeafOf t v
   unfolding internLeafBy internLeafOf internLeafNo
   leaf-by =
-      rw (sized-fits t (w .sized), ne-eqb v 0 some)
+      rw (sized-fits (w .sized), ne-eqb v 0 some)
       (cases (ℕ-discrete (leafSlot t v) 0)
       (λ z. split (roomOf (t .arena))
       (λ r. rw (eq-eqb (leafSlot t v) 0 z, r) (miss-law z ∙ made-law z r))
@@ -176,13 +176,13 @@ module _ (n tallest : ℕ) (t : Tables) (m : n ≤ 8) (w : WellFormed n tallest 
   made-kept : v ≤ 65535 → leafSlot t v ≡ 0 → roomOf (t .arena) ≡ true → WellFormed n tallest (leafMade t v .after)
   unfolding leafMade
   made-kept high z r =
-      let g = leaf-makes n tallest m t v 1 0 inv (wf-content n tallest t w) (room-yes (t .arena) r) some high (omega arith) (omega arith) (leaf-alone z) .grown in
-      inv-wf n tallest (leafAnew t v 1 0 .after) (g .inv) (g .content)
+      let g = leaf-makes n tallest m v 1 0 inv (wf-content w) (room-yes (t .arena) r) some high (omega arith) (omega arith) (leaf-alone z) .grown in
+      inv-wf n tallest (g .inv) (g .content)
 
   pub leaf-kept : v ≤ 65535 → WellFormed n tallest (internLeafOf t v .after)
   unfolding internLeafOf internLeafNo
   leaf-kept high =
-      rw (sized-fits t (w .sized), ne-eqb v 0 some)
+      rw (sized-fits (w .sized), ne-eqb v 0 some)
       (cases (ℕ-discrete (leafSlot t v) 0)
       (λ z. split (roomOf (t .arena))
       (λ r. rw (eq-eqb (leafSlot t v) 0 z, r) (made-kept high z r))
@@ -190,34 +190,34 @@ module _ (n tallest : ℕ) (t : Tables) (m : n ≤ 8) (w : WellFormed n tallest 
       (λ z. split (fullOf (W t) (leafSlot t v))
       (λ f. rw (ne-eqb (leafSlot t v) 0 z, f) w)
       (λ f. rw (ne-eqb (leafSlot t v) 0 z, f)
-      (let q = leaf-slot z in held-kept n tallest t (leafSlot t v) m w (leaf-in (leafSlot t v) (q .0) (q .1) .0) f))))
+      (let q = leaf-slot z in held-kept (leafSlot t v) m w (leaf-in (leafSlot t v) (q .0) (q .1) .0) f))))
 
 leaf-unsized : (t : Tables) (v : ℕ) → fits t ≡ false → internLeafBy t v ≡ internLeafOf t v
 unfolding internLeafBy internLeafOf internLeafNo
 leaf-unsized t v u = rw u
 
-leaf-nothing : (n tallest : ℕ) (t : Tables) (v : ℕ) → WellFormed n tallest t → v ≡ 0 → internLeafBy t v ≡ internLeafOf t v
+leaf-nothing : {n tallest : ℕ} {t : Tables} (v : ℕ) → WellFormed n tallest t → v ≡ 0 → internLeafBy t v ≡ internLeafOf t v
 unfolding internLeafBy internLeafOf internLeafNo
-leaf-nothing n tallest t v w z = rw (sized-fits t (w .sized), eq-eqb v 0 z)
+leaf-nothing v w z = rw (sized-fits (w .sized), eq-eqb v 0 z)
 
-leaf-nothing-is : (n tallest : ℕ) (t : Tables) (v : ℕ) → WellFormed n tallest t → v ≡ 0 → refused 6 t ≡ internLeafOf t v
+leaf-nothing-is : {n tallest : ℕ} {t : Tables} (v : ℕ) → WellFormed n tallest t → v ≡ 0 → refused 6 t ≡ internLeafOf t v
 unfolding internLeafOf internLeafNo
-leaf-nothing-is n tallest t v w z = rw (sized-fits t (w .sized), eq-eqb v 0 z)
+leaf-nothing-is v w z = rw (sized-fits (w .sized), eq-eqb v 0 z)
 
 -- ---- the two theorems
 
 -- the code's answer is the definition's
-pub leaf-law : (t : Tables) (v : ℕ) (x : Out) → x ≡ internLeafBy t v → (n tallest : ℕ) → n ≤ 8 → Fair n tallest t → x ≡ internLeafOf t v
-leaf-law t v x e n tallest m (inl u) = e ∙ unsized
+pub leaf-law : {t : Tables} (v : ℕ) (x : Out) → x ≡ internLeafBy t v → {n tallest : ℕ} → n ≤ 8 → Fair n tallest t → x ≡ internLeafOf t v
+leaf-law {t} v x e {n} {tallest} m (inl u) = e ∙ unsized
   where
     unsized : internLeafBy t v ≡ internLeafOf t v
     unsized = leaf-unsized t v u
-leaf-law t v x e n tallest m (inr w) = cases (ℕ-discrete v 0)
-    (λ z. e ∙ leaf-nothing n tallest t v w z)
-    (λ z. e ∙ leaf-by n tallest t m w v z)
+leaf-law v x e {n} {tallest} m (inr w) = cases (ℕ-discrete v 0)
+    (λ z. e ∙ leaf-nothing v w z)
+    (λ z. e ∙ leaf-by m w v z)
 
 -- and well formed stays well formed
-pub leaf-well : (n tallest : ℕ) (t : Tables) (v : ℕ) → n ≤ 8 → v ≤ 65535 → WellFormed n tallest t → WellFormed n tallest (internLeafOf t v .after)
-leaf-well n tallest t v m high w = cases (ℕ-discrete v 0)
-    (λ z. subst (λ (o : Out). WellFormed n tallest (o .after)) (leaf-nothing-is n tallest t v w z) w)
-    (λ z. leaf-kept n tallest t m w v z high)
+pub leaf-well : {n tallest : ℕ} {t : Tables} (v : ℕ) → n ≤ 8 → v ≤ 65535 → WellFormed n tallest t → WellFormed n tallest (internLeafOf t v .after)
+leaf-well {n} {tallest} v m high w = cases (ℕ-discrete v 0)
+    (λ z. subst (λ (o : Out). WellFormed n tallest (o .after)) (leaf-nothing-is v w z) w)
+    (λ z. leaf-kept m w v z high)

@@ -45,7 +45,7 @@ branch-floor ks s g e = omega (arith, none-mask ks e)
 
 -- ---- the slot given out
 
-module _ (t : Tables) (d : List ℕ) (v : Inv t d) (room : t .arena .live + 1 < cap t) where
+module _ {t : Tables} (d : List ℕ) (v : Inv t d) (room : t .arena .live + 1 < cap t) where
   pub fresh-bumps : t .arena .top ≡ 0 → (freshSlot (t .arena) ≡ t .arena .next) × (t .arena .next < cap t)
   unfolding freshSlot
   fresh-bumps e = (rw (eq-eqb (t .arena .top) 0 e), none (v .fs) (v .freed))
@@ -94,17 +94,17 @@ pub record Called (t : Tables) (id : ℕ) : Type 0 where
   pub high : floor ≤ id
   pub gen : generationOf id ≡ generationOf (W t (freshSlot (t .arena)) own)
 
-module _ (t : Tables) (d : List ℕ) (v : Inv t d) (room : t .arena .live + 1 < cap t) where
+module _ {t : Tables} (d : List ℕ) (v : Inv t d) (room : t .arena .live + 1 < cap t) where
   pub leaf-called : Called t (leafOwn t)
   leaf-called =
       let g = generationOf (W t (spot t) own) in
-      let l = fresh-small t d v room in
+      let l = fresh-small d v room in
       record { spot = leaf-slot (spot t) g (omega arith); high = leaf-floor (spot t) g; gen = leaf-gen (spot t) g (omega arith) (gen-small (W t (spot t) own)) }
 
   pub branch-called : (ks : List ℕ) → noneOf ks ≡ false → Called t (branchOwn t ks)
   branch-called ks some =
       let g = generationOf (W t (spot t) own) in
-      let l = fresh-small t d v room in
+      let l = fresh-small d v room in
       record { spot = branch-slot ks (spot t) g (omega arith); high = branch-floor ks (spot t) g some; gen = branch-gen ks (spot t) g (omega arith) (gen-small (W t (spot t) own)) }
 
 -- ---- the words written
@@ -154,7 +154,7 @@ occ-other (suc q) r y d = occ-there y r (replicate q r) d ∙ occ-other q r y d
 
 -- ---- the fresh node
 
-module _ (t : Tables) (id : ℕ) (ks : List ℕ) (v up h q : ℕ) (e : length ks ≡ 8) (i : Inv t (ks ++ [])) (room : t .arena .live + 1 < cap t)
+module _ {t : Tables} (id : ℕ) (ks : List ℕ) (v up h q : ℕ) (e : length ks ≡ 8) (i : Inv t (ks ++ [])) (room : t .arena .live + 1 < cap t)
     (called : Called t id) where
   abbrev s : ℕ
   s = freshSlot (t .arena)
@@ -169,13 +169,13 @@ module _ (t : Tables) (id : ℕ) (ks : List ℕ) (v up h q : ℕ) (e : length ks
   given = slotGiven (t .arena) (W t)
 
   low : s < cap t
-  low = fresh-free t (ks ++ []) i room .1
+  low = fresh-free (ks ++ []) i room .1
 
   dead : W t s own < floor
-  dead = fresh-free t (ks ++ []) i room .2
+  dead = fresh-free (ks ++ []) i room .2
 
   pub made-row : Row (W t) U′ s id ks v up h q
-  made-row = row-written (t .nodes) s id ks v up h q e (sized-within t s (i .sized) low)
+  made-row = row-written (t .nodes) s id ks v up h q e (sized-within s (i .sized) low)
 
   others : Others s (W t) U′
   others = made-row .others
@@ -223,13 +223,13 @@ module _ (t : Tables) (id : ℕ) (ks : List ℕ) (v up h q : ℕ) (e : length ks
   unfolding slotGiven
   made-freed = cases (ℕ-discrete (t .arena .top) 0)
       (λ z.
-      let o = fresh-bumps t (ks ++ []) i room z in
+      let o = fresh-bumps (ks ++ []) i room z in
       let b : Freed (cap t) U′ (t .arena .top) (suc (t .arena .next)) (i .fs) =
       bump U′ (i .freed) (subst (λ (k : ℕ). Others k (W t) U′) (o .0) others) (o .1) (subst (λ (k : ℕ). floor ≤ U′ k own) (o .0) made-live) in
       let n : t .arena .next + 1 ≡ suc (t .arena .next) = omega arith in
       rw (eq-eqb (t .arena .top) 0 z, n) (i .fs, subst (λ (k : ℕ). Freed (cap t) U′ k (suc (t .arena .next)) (i .fs)) z b))
       (λ z.
-      let o = fresh-pops t (ks ++ []) i room z in
+      let o = fresh-pops (ks ++ []) i room z in
       rw (ne-eqb (t .arena .top) 0 z)
       (pop-top U′ (i .freed) z (subst (λ (k : ℕ). Others k (W t) U′) (o .0) others) (subst (λ (k : ℕ). floor ≤ U′ k own) (o .0) made-live)))
 
@@ -255,7 +255,7 @@ module _ (t : Tables) (id : ℕ) (ks : List ℕ) (v up h q : ℕ) (e : length ks
       let m = i .sized .least in
       let hb = home-for-below (cap t) ks v (omega arith) in
       let hm = made-home in
-      let G = finds-insert (homeAt (cap t) U′) (LiveSlot t) (t .find) F (λ b. false) (2 * cap t) (cap t) s (fresh-free t (ks ++ []) i room .0)
+      let G = finds-insert (homeAt (cap t) U′) (LiveSlot t) (t .find) F (λ b. false) (2 * cap t) (cap t) s (fresh-free (ks ++ []) i room .0)
       (λ z. away s z refl) (λ b o z. refl) (omega arith) (let o = i .sized .cells in omega arith) (omega arith) (λ b o z. z .0) in
       subst (λ (k : ℕ). Finds (homeAt (cap t) U′) (LiveSlot (tablesOf a x f)) (insertAt (λ b. false) (t .find) k s)) made-home
       (finds-as (homeAt (cap t) U′) (homeAt (cap t) U′) (λ b. LiveSlot t b ⊎ (b ≡ s)) (LiveSlot (tablesOf a x f))

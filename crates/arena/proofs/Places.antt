@@ -61,11 +61,11 @@ module _ (x : Nodes) (k : ℕ) where
   module _ (a : Arena) (e d : List ℕ) (i : Inv (tablesOf a x e) d) (live : k ≢ 0 → Live (a .capacity) (wordOf x) k) where
     pub placed-inv : Inv (tablesOf a (placedKid x k) e) (k ∷ d)
     placed-inv = cases (ℕ-discrete k 0)
-        (λ z. rw (placed-empty z) (inv-debt (tablesOf a x e) d (k ∷ d) (λ y p. sym (occ-there y k d (λ q. p (q ∙ z)))) i))
+        (λ z. rw (placed-empty z) (inv-debt d (k ∷ d) (λ y p. sym (occ-there y k d (λ q. p (q ∙ z)))) i))
         (λ z.
         let p = wordOf x (slot k) places + 1 in
         let now : wordOf (putOf x (slot k) places p) (slot k) places ≡ p =
-        put-same x (slot k) places p (sized-within (tablesOf a x e) (slot k) (i .sized) (live z .low)) (omega arith) (omega arith) in
+        put-same x (slot k) places p (sized-within (slot k) (i .sized) (live z .low)) (omega arith) (omega arith) in
         rw (placed-node z)
         (move-inv a x (putOf x (slot k) places p) e d (k ∷ d) k i (live z) (put-recounted x (slot k) places p (inr refl)) (λ y q b. occ-there y k d b) (omega (arith, occ-here k d)) (omega arith)))
 
@@ -91,7 +91,7 @@ owing a e (k ∷ ks) x d n i h =
     let r = owing a e ks (placedKid x k) (k ∷ d) (omega arith) (placed-inv x k a e d i first)
     (λ y z o. live-same (a .capacity) (wordOf x) (wordOf (placedKid x k)) y (placed-word x k (slot y) own (omega arith)) (h y z (omega (arith, occ-cons y k ks)))) in
     record {
-      inv = inv-debt (tablesOf a (each placedKid (placedKid x k) ks) e) (ks ++ (k ∷ d)) (k ∷ (ks ++ d))
+      inv = inv-debt (ks ++ (k ∷ d)) (k ∷ (ks ++ d))
           (λ z q. omega (arith, occ-append z ks (k ∷ d), occ-append z ks d, occ-cons z k d, occ-cons z k (ks ++ d))) (r .inv);
       same = ap (λ (y : Nodes). placedBy y ks) (placed-same x k a e d i first (omega arith)) ∙ r .same;
       size = size-trans (placed-size x k) (r .size);

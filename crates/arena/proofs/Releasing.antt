@@ -223,15 +223,15 @@ pub record Released (n tallest : ℕ) (t : Tables) (id : ℕ) (t′ : Tables) : 
   pub lives : (y : ℕ) → Live (cap t) (W t′) y
       ↔ ((a : ℕ) × Live (cap t) (W t) a × (1 ≤ W (lessOf holds t id) (slot a) holds) × Under (W t) a y)
 
-module _ (n tallest : ℕ) (t : Tables) (m : n ≤ 8) (w : WellFormed n tallest t) (id : ℕ) (live : Live (cap t) (W t) id) (held : 1 ≤ W t (slot id) holds) where
+module _ {n tallest : ℕ} {t : Tables} (m : n ≤ 8) (w : WellFormed n tallest t) (id : ℕ) (live : Live (cap t) (W t) id) (held : 1 ≤ W t (slot id) holds) where
   inv : Inv t []
-  inv = wf-inv n tallest t m w
+  inv = wf-inv m w
 
   some : id ≢ 0
   some e = let p = floor-pos in let q = live .high in omega arith
 
   inside : Within (t .nodes) (slot id)
-  inside = sized-within t (slot id) (w .sized) (live .low)
+  inside = sized-within (slot id) (w .sized) (live .low)
 
   few : W t (slot id) places < (2 ^ 64 - 1)
   few = let p = inv .counts .placed id live in let q = w .sized .most in omega (arith, total-bound 8 (cap t) (W t) [] id)
@@ -270,7 +270,7 @@ module _ (n tallest : ℕ) (t : Tables) (m : n ≤ 8) (w : WellFormed n tallest 
       (λ (q : b ≡ slot id). subst (λ (z : ℕ). W (settled t (slot id)) z holds ≤ 1000000) (sym q)
       (let e = settled-holds t id some inside held few in let o2 : W t (slot id) holds ≤ 1000000 = subst (λ (z : ℕ). W t z holds ≤ 1000000) q o in omega arith))
       (λ q. let e = settled-recounted t id some inside held few .others b holds q (omega arith) in omega arith))
-      (wf-content n tallest t w)
+      (wf-content w)
 
   pub u-low : (b : ℕ) → b < cap t → floor ≤ W (settled t (slot id)) b own → W (settled t (slot id)) b height < suc tallest
   u-low b l h =
@@ -284,12 +284,12 @@ module _ (n tallest : ℕ) (t : Tables) (m : n ≤ 8) (w : WellFormed n tallest 
 
   dropped : Dropped (settled t (slot id)) (releaseBy tallest t id) []
   unfolding releaseBy
-  dropped = drop-good (suc tallest) (settled t (slot id)) id [] u-inv (λ d. u-short)
+  dropped = drop-good (suc tallest) id [] u-inv (λ d. u-short)
 
   -- to go deeper than the tallest node changes nothing
   pub release-enough : (k : ℕ) → tallest ≤ k → releaseBy k t id ≡ releaseBy tallest t id
   unfolding releaseBy
-  release-enough k l = drop-enough (suc tallest) (settled t (slot id)) id [] u-inv (λ d. u-short) (suc k) (omega arith)
+  release-enough k l = drop-enough (suc tallest) id [] u-inv (λ d. u-short) (suc k) (omega arith)
 
   -- a hold less, and a place more
   less-u : (b f : ℕ) → f ≤ spare → f ≢ places → W (settled t (slot id)) b f ≡ W (lessOf holds t id) b f
@@ -313,7 +313,7 @@ module _ (n tallest : ℕ) (t : Tables) (m : n ≤ 8) (w : WellFormed n tallest 
 
   pub release-good : Released n tallest t id (releaseBy tallest t id)
   release-good = record {
-    well = inv-wf n tallest (releaseBy tallest t id) (dropped .inv)
+    well = inv-wf n tallest (dropped .inv)
         (subst (λ (c : ℕ). Content n tallest c (W (releaseBy tallest t id))) (sym after-cap)
         (content-frame n tallest (cap t) (W (settled t (slot id))) (W (releaseBy tallest t id)) [] m after-counts after-frame u-content));
     size = after-cap;
@@ -374,28 +374,28 @@ unfolding releaseNo
 release-unsized t id u z = let y : _≡_ {A = ℕ} 1 0 = (rw u at z) in omega arith
 
 -- the code's answer, of k levels, is the definition's in every arena whose nodes are no taller
-pub release-law : (k : ℕ) (t : Tables) (id : ℕ) (x : Out) → x ≡ releaseAny k t id → (n tallest : ℕ) → n ≤ 8 → tallest ≤ k → Fair n tallest t → x ≡ releaseOf tallest t id
-release-law k t id x e n tallest m low (inl u) = e ∙ release-refused tallest t id k (release-unsized t id u)
-release-law k t id x e n tallest m low (inr w) = e ∙ cases (ℕ-discrete (releaseNo t id) 0)
+pub release-law : (k : ℕ) {t : Tables} (id : ℕ) (x : Out) → x ≡ releaseAny k t id → {n tallest : ℕ} → n ≤ 8 → tallest ≤ k → Fair n tallest t → x ≡ releaseOf tallest t id
+release-law k {t} id x e {n} {tallest} m low (inl u) = e ∙ release-refused tallest t id k (release-unsized t id u)
+release-law k {t} id x e {n} {tallest} m low (inr w) = e ∙ cases (ℕ-discrete (releaseNo t id) 0)
     (λ z. cases (ℕ-discrete id 0)
     (λ y. release-empty tallest t id k y)
     (λ y.
     let r = release-live t id z y in
     let v = live-is t id (r .0) in
-    release-done tallest t id k z y (release-enough n tallest t m w id v (r .1) k low ∙ release-by n tallest t m w id v (r .1) tallest)))
+    release-done tallest t id k z y (release-enough m w id v (r .1) k low ∙ release-by m w id v (r .1) tallest)))
     (λ z. release-refused tallest t id k z)
 
 -- an accepted release of a node
-pub release-released : (n tallest : ℕ) (t : Tables) (id : ℕ) → n ≤ 8 → WellFormed n tallest t → releaseNo t id ≡ 0 → id ≢ 0 → Released n tallest t id (releaseOf tallest t id .after)
-release-released n tallest t id m w z y =
+pub release-released : {n tallest : ℕ} {t : Tables} (id : ℕ) → n ≤ 8 → WellFormed n tallest t → releaseNo t id ≡ 0 → id ≢ 0 → Released n tallest t id (releaseOf tallest t id .after)
+release-released {n} {tallest} {t} id m w z y =
     let r = release-live t id z y in
-    subst (λ (u : Tables). Released n tallest t id u) (release-by n tallest t m w id (live-is t id (r .0)) (r .1) tallest ∙ release-after tallest t id z)
-    (release-good n tallest t m w id (live-is t id (r .0)) (r .1))
+    subst (λ (u : Tables). Released n tallest t id u) (release-by m w id (live-is t id (r .0)) (r .1) tallest ∙ release-after tallest t id z)
+    (release-good m w id (live-is t id (r .0)) (r .1))
 
 -- and well formed stays well formed
-pub release-well : (n tallest : ℕ) (t : Tables) (id : ℕ) → n ≤ 8 → WellFormed n tallest t → WellFormed n tallest (releaseOf tallest t id .after)
-release-well n tallest t id m w = cases (ℕ-discrete (releaseNo t id) 0)
+pub release-well : {n tallest : ℕ} {t : Tables} (id : ℕ) → n ≤ 8 → WellFormed n tallest t → WellFormed n tallest (releaseOf tallest t id .after)
+release-well {n} {tallest} {t} id m w = cases (ℕ-discrete (releaseNo t id) 0)
     (λ z. cases (ℕ-discrete id 0)
     (λ y. subst (λ (u : Tables). WellFormed n tallest u) (release-after-empty tallest t id z y) w)
-    (λ y. release-released n tallest t id m w z y .well))
+    (λ y. release-released id m w z y .well))
     (λ z. subst (λ (u : Tables). WellFormed n tallest u) (release-after-refused tallest t id z) w)

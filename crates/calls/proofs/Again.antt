@@ -37,16 +37,16 @@ use Rattle.calls.proofs.Living.{held-released}
 abbrev Bare : Tables → Type 0
 Bare t = (y : ℕ) → Lives t y → ⊥
 
-bare-count : (n tallest : ℕ) (t : Tables) → n ≤ kidWords → WellFormed n tallest t → Bare t → t .arena .live ≡ 0
+bare-count : {n tallest : ℕ} {t : Tables} → n ≤ kidWords → WellFormed n tallest t → Bare t → t .arena .live ≡ 0
 unfolding liveCount
-bare-count n tallest t m w none = cases (decLt 0 (t .arena .live))
+bare-count {t = t} m w none = cases (decLt 0 (t .arena .live))
     (λ h.
     let e = w .lives in
     let p = sumTo-pos (cap t) (λ s. liveBit (W t s own)) (omega arith) in
     let q = p .2 in
     absurd (cases (decLt (W t (p .0) own) floor)
     (λ l. omega (arith, live-zero (W t (p .0) own) l))
-    (λ l. none (W t (p .0) own) (slot-lives n tallest t m w (p .0) (p .1, omega arith)))))
+    (λ l. none (W t (p .0) own) (slot-lives m w (p .0) (p .1, omega arith)))))
     (λ h. omega arith)
 
 -- the leaf z of value 1 is all there is, in slot 1, with one hold
@@ -71,21 +71,21 @@ size-two = refl
 
 module _ (n tallest : ℕ) (m : n ≤ kidWords) where
   leaf-taken : (t : Tables) → WellFormed n tallest t → cap t ≡ 2 → Bare t → internLeafOf t 1 .no ≡ 0
-  leaf-taken t w two none = leaf-refusals n tallest t m (inr w) 1 .accepted .1 never
+  leaf-taken t w two none = leaf-refusals m (inr w) 1 .accepted .1 never
     where
       never : (k : ℕ) → LeafWhy t 1 k → ⊥
       never k (unsizedLeaf u) = u (w .sized)
       never k (nothing z) = omega arith
       never k (fullLeaf y h f) = none y (h .live)
-      never k (crowdedLeaf h f) = let c = bare-count n tallest t m w none in omega arith
+      never k (crowdedLeaf h f) = let c = bare-count m w none in omega arith
 
   one-leaf : (t : Tables) → WellFormed n tallest t → cap t ≡ 2 → Bare t → One n tallest (internLeafOf t 1 .after) (internLeafOf t 1 .id)
   one-leaf t w two none =
       let ok = leaf-taken t w two none in
-      let i = leaf-interned n tallest t m w 1 ok in
+      let i = leaf-interned m w 1 ok in
       let u = internLeafOf t 1 .after in
       let id = internLeafOf t 1 .id in
-      let d = leaf-does n tallest m t w 1 (omega arith) in
+      let d = leaf-does m w 1 (omega arith) in
       let well : WellFormed n tallest u = d .well in
       let size : cap u ≡ cap t = d .size in
       let v : Lives u id = i .has .live in
@@ -93,8 +93,8 @@ module _ (n tallest : ℕ) (m : n ≤ kidWords) where
         well = well;
         two = size ∙ two;
         has = i .has;
-        first = (let l = v .low in let g = not-ground n tallest u m well id v in omega arith);
-        only = λ y l. ⊎-elim (λ e. e) (λ q. absurd (none y q)) (leaf-makes-one n tallest t m w 1 y l);
+        first = (let l = v .low in let g = not-ground m well id v in omega arith);
+        only = λ y l. ⊎-elim (λ e. e) (λ q. absurd (none y q)) (leaf-makes-one m w 1 y l);
         once =
             omega (
               arith,
@@ -106,14 +106,14 @@ module _ (n tallest : ℕ) (m : n ≤ kidWords) where
       }
 
   release-taken : (t : Tables) (z : ℕ) → One n tallest t z → releaseOf tallest t z .no ≡ 0
-  release-taken t z o = held-released n tallest m t (o .well) z (inr (let k = o .once in omega arith))
+  release-taken t z o = held-released m (o .well) z (inr (let k = o .once in omega arith))
 
   module _ (t : Tables) (z : ℕ) (o : One n tallest t z) where
     abbrev after : Tables
     after = releaseOf tallest t z .after
 
     freed : Does n tallest t after (λ y. 0) (λ y. ifAccepted (releaseOf tallest t z) (on y z)) (ended t after)
-    freed = release-does n tallest m t (o .well) z
+    freed = release-does m (o .well) z
 
     after-well : WellFormed n tallest after
     after-well = freed .well
@@ -122,12 +122,12 @@ module _ (n tallest : ℕ) (m : n ≤ kidWords) where
     none-left = omega (arith, o .once, accepted (releaseOf tallest t z) (on z z) (release-taken t z o), on-same z z (live-nonzero (o .has .live)) refl)
 
     gone : Lives after z → ⊥
-    gone = gone-exactly n tallest m (o .well) freed z (o .has .live) .1 (
+    gone = gone-exactly m (o .well) freed z (o .has .live) .1 (
       none-left,
       (λ b l.
-          let e : b ≡ z = o .only b (release-makes-none n tallest t m (o .well) z .stays b l .0) in
+          let e : b ≡ z = o .only b (release-makes-none m (o .well) z .stays b l .0) in
           let lz : Lives after z = subst (λ (x : ℕ). Lives after x) e l in
-          let s = release-makes-none n tallest t m (o .well) z .stays z lz .1 in
+          let s = release-makes-none m (o .well) z .stays z lz .1 in
           let k : kidsOf kidWords (W after) (slot b) ≡ empties = ap (λ (x : ℕ). kidsOf kidWords (W after) (slot x)) e ∙ kids-same kidWords (W t) (W after) (slot z) (λ i j. sym (s i (omega arith))) ∙ o .has .kids in
           occ-bare n (W after) (slot b) z (live-nonzero (o .has .live))
           (λ i j. kid-word (W after) (slot b) i (omega arith) ∙ ap (λ (ks : List ℕ). getD ks i 0) k ∙ empties-at i (omega arith))),
@@ -135,7 +135,7 @@ module _ (n tallest : ℕ) (m : n ≤ kidWords) where
 
     after-bare : Bare after
     after-bare y l =
-        let e : y ≡ z = o .only y (release-makes-none n tallest t m (o .well) z .stays y l .0) in
+        let e : y ≡ z = o .only y (release-makes-none m (o .well) z .stays y l .0) in
         gone (subst (λ (x : ℕ). Lives after x) e l)
 
     after-two : cap after ≡ 2
@@ -147,11 +147,11 @@ module _ (n tallest : ℕ) (m : n ≤ kidWords) where
         (let v = o .has .live in let i = v .is in let h = v .high in subst (λ (s : ℕ). floor ≤ W t s own) (o .first) (omega arith))
         (cases (decLt (W after 1 own) floor) (λ l. l) (λ l.
         let two = after-two in
-        absurd (after-bare (W after 1 own) (slot-lives n tallest after m after-well 1 (omega arith, omega arith)))))
+        absurd (after-bare (W after 1 own) (slot-lives m after-well 1 (omega arith, omega arith)))))
 
     leaf-ended : ended after (internLeafOf after 1 .after) 1 ≡ 0
     leaf-ended = ended-none after (internLeafOf after 1 .after) 1
-        (λ h. let two = after-two in absurd (after-bare (W after 1 own) (slot-lives n tallest after m after-well 1 (omega arith, h))))
+        (λ h. let two = after-two in absurd (after-bare (W after 1 own) (slot-lives m after-well 1 (omega arith, h))))
 
     again : One n tallest (internLeafOf after 1 .after) (internLeafOf after 1 .id)
     again = one-leaf after after-well after-two after-bare
@@ -195,14 +195,14 @@ module _ (n tallest : ℕ) (m : n ≤ kidWords) where
         let t0 = freshOf 2 (zeros (2 * kidWords)) (zeros (2 * factWords)) (zeros (2 * slotCells)) .after in
         let w0 : WellFormed n tallest t0 = fresh-well n tallest 2 (zeros (2 * kidWords)) (zeros (2 * factWords)) (zeros (2 * slotCells)) fits-two in
         let o : One n tallest (internLeafOf t0 1 .after) (internLeafOf t0 1 .id) =
-        one-leaf t0 w0 size-two (fresh-bare n tallest 2 (zeros (2 * kidWords)) (zeros (2 * factWords)) (zeros (2 * slotCells)) w0) in
+        one-leaf t0 w0 size-two (fresh-bare 2 (zeros (2 * kidWords)) (zeros (2 * factWords)) (zeros (2 * slotCells)) w0) in
         let t = internLeafOf t0 1 .after in
         let y = internLeafOf t0 1 .id in
         let r = rounds 32766 t y o in
         let f = o .first in
         let k : r .times (slot y) ≡ 32766 = ap (r .times) f ∙ r .often in
         let p = r .one in
-        let e : r .z ≡ y = matches-again n tallest m (o .well) (since-does n tallest m Step does (o .well) (r .since)) y (o .has .live) (omega arith) (r .z) (p .has .live) (p .first ∙ sym f)
+        let e : r .z ≡ y = matches-again m (o .well) (since-does n tallest m Step does (o .well) (r .since)) y (o .has .live) (omega arith) (r .z) (p .has .live) (p .first ∙ sym f)
         (λ i l. ap (λ (s : ℕ). W (r .u) s i) (f ∙ sym (p .first)) ∙ bare-kid (r .u) (r .z) p i l ∙ sym (bare-kid t y o i l)) in
         (t, r .u, r .granted, r .taken, r .times, y, o .well, r .since, o .has .live, k, subst (λ (x : ℕ). Lives (r .u) x) e (p .has .live))
       where

@@ -23,29 +23,29 @@ use Rattle.ledger.proofs.Going.{leaf-ends-none, branch-ends-none, hold-ends-non
 use Rattle.calls.specs.Does.{Does}
 use Rattle.calls.proofs.Once.{grew-extends, grown, shrunk}
 
-module _ (n tallest : ℕ) (m : n ≤ kidWords) (t : Tables) (w : WellFormed n tallest t) where
+module _ {n tallest : ℕ} (m : n ≤ kidWords) {t : Tables} (w : WellFormed n tallest t) where
   grew : {u : Tables} {g k : ℕ → ℕ} → WellFormed n tallest u → Grew t u → Balanced t u g k → ((s : ℕ) → generationOf (W u s own) ≡ generationOf (W t s own))
       → Does n tallest t u g k (ended t u)
-  grew {u} {g} {k} v e = grown n tallest m t u w (grew-extends n m e) g k v (e .size)
+  grew {u} {g} {k} v e = grown m u w (grew-extends n m e) g k v (e .size)
 
   -- Interning a leaf grants one hold on the leaf.
   pub leaf-does : (v : ℕ) → v ≤ largestValue
       → Does n tallest t (internLeafOf t v .after) (λ y. ifAccepted (internLeafOf t v) (on y (internLeafOf t v .id))) (λ y. 0) (ended t (internLeafOf t v .after))
-  leaf-does v h = grew (leaf-well n tallest t v m h w) (leaf-ends-none n tallest t m w v) (leaf-balanced n tallest t m w v) (leaf-same-gens n tallest t m w v)
+  leaf-does v h = grew (leaf-well v m h w) (leaf-ends-none m w v) (leaf-balanced m w v) (leaf-same-gens m w v)
 
   -- Interning a branch grants one on the branch, and takes one for each child place that isn't EMPTY.
   pub branch-does : 1 ≤ n → (ks : List ℕ) → length ks ≡ kidWords → ((i : ℕ) → n ≤ i → i < kidWords → getD ks i 0 ≡ 0)
       → Does n tallest t (internBranchOf n tallest t ks .after) (λ y. ifAccepted (internBranchOf n tallest t ks) (on y (internBranchOf n tallest t ks .id)))
       (λ y. ifAccepted (internBranchOf n tallest t ks) (pick (eqb y 0) 0 (occ y ks))) (ended t (internBranchOf n tallest t ks .after))
   branch-does pos ks e z =
-      grew (branch-well n tallest t ks m pos e z w) (branch-ends-none n tallest t m w ks e) (branch-balanced n tallest t m w ks e) (branch-same-gens n tallest t m w ks e)
+      grew (branch-well ks m pos e z w) (branch-ends-none m w ks e) (branch-balanced m w ks e) (branch-same-gens m w ks e)
 
   -- A hold grants one.
   pub hold-does : (id : ℕ) → Does n tallest t (holdOf t id .after) (λ y. ifAccepted (holdOf t id) (on y id)) (λ y. 0) (ended t (holdOf t id .after))
-  hold-does id = grew (hold-well n tallest t id m w) (hold-ends-none t id) (hold-balanced n tallest t w id) (hold-same-gens t id)
+  hold-does id = grew (hold-well id m w) (hold-ends-none t id) (hold-balanced w id) (hold-same-gens t id)
 
   -- A release takes one.
   pub release-does : (id : ℕ) → Does n tallest t (releaseOf tallest t id .after) (λ y. 0) (λ y. ifAccepted (releaseOf tallest t id) (on y id)) (ended t (releaseOf tallest t id .after))
   release-does id =
-      shrunk n tallest m t (releaseOf tallest t id .after) w (λ y. 0) (λ y. ifAccepted (releaseOf tallest t id) (on y id)) (release-well n tallest t id m w)
-      (release-makes-none n tallest t m w id) (release-balanced n tallest t m w id) (release-advances n tallest t m w id)
+      shrunk m (releaseOf tallest t id .after) w (λ y. 0) (λ y. ifAccepted (releaseOf tallest t id) (on y id)) (release-well id m w)
+      (release-makes-none m w id) (release-balanced m w id) (release-advances m w id)

@@ -34,7 +34,7 @@ module _ (n tallest : ℕ) (m : n ≤ kidWords) where
   -- The same numbers, said otherwise.
   pub does-as : {t u : Tables} {g k j : ℕ → ℕ} (g′ k′ j′ : ℕ → ℕ) → Does n tallest t u g k j
       → ((y : ℕ) → g y ≡ g′ y) → ((y : ℕ) → k y ≡ k′ y) → ((s : ℕ) → s < cap t → j s ≡ j′ s) → Does n tallest t u g′ k′ j′
-  does-as {t} {u} {g} {k} {j} g′ k′ j′ d eg ek ej = record {
+  does-as {t} {g} {k} {j} g′ k′ j′ d eg ek ej = record {
     well = d .well;
     size = d .size;
     balance = λ y. let b = d .balance y in let p = eg y in let q = ek y in omega arith;
@@ -59,7 +59,7 @@ module _ (n tallest : ℕ) (m : n ≤ kidWords) where
     keeps = λ r l z.
         let p = a .keeps r l (omega arith) in
         let live : Lives u r = record { low = (let e = a .size in let h = l .low in omega arith); is = p r self l .still .is; high = l .high } in
-        keeps-trans n (cap t) (W t) (W u) (wf-made n tallest t m w) (W v) r (inr l) p
+        keeps-trans n (cap t) (W t) (W u) (wf-made m w) (W v) r (inr l) p
         (subst (λ (x : ℕ). Keeps n x (W u) (W v) r) (a .size) (b .keeps r live (omega arith)));
     spares = λ r h.
         let (x, z, p, q) = net r in

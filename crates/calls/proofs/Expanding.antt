@@ -30,10 +30,10 @@ pub answers-alike : {d : ℕ} {t u : Tables} {a b : ℕ} {c : At d} {v w : ℕ} 
 answers-alike r s e = record { number = r .accepted ∙ sym (s .accepted); value = r .value ∙ e ∙ sym (s .value) }
 
 -- what lookup answers at a cell is what the tree shows there
-pub look-at : {n tallest d : ℕ} (t : Tables) → WellFormed n tallest t → d ≤ deepest → (a : ℕ) → LiveOr0 (cap t) (W t) a → (c : At d)
+pub look-at : {n tallest d : ℕ} {t : Tables} → WellFormed n tallest t → d ≤ deepest → (a : ℕ) → LiveOr0 (cap t) (W t) a → (c : At d)
     → Answers t a c (look (W t) (way c) a)
-look-at {n} {tallest} {d} t w h a l c =
-    let r = lookup-right n tallest t w a d (c .x) (c .y) (c .z) h (c .in-x) (c .in-y) (c .in-z) l in
+look-at {d} {t} w h a l c =
+    let r = lookup-right w a d (c .x) (c .y) (c .z) h (c .in-x) (c .in-y) (c .in-z) l in
     record { accepted = r .0; value = r .1 }
 
 -- ## Expansion
@@ -72,10 +72,10 @@ one-set c v m k s x here there = cases (ℕ-discrete (standsAt s) (standsAt c))
     ap (λ (n : ℕ). getD (set m (standsAt c) v) n 0) e ∙ getD-set-same m (standsAt c) v 0 (subst (λ (n : ℕ). standsAt c < n) (sym k) (stands-lt c)) ∙ sym (here e))
     (λ n. getD-set-other m (standsAt c) (standsAt s) v 0 n ∙ sym (there n))
 
-module _ {n tallest d : ℕ} (t : Tables) (w : WellFormed n tallest t) (h : d ≤ deepestCube) (a : ℕ) (there : LiveOr0 (cap t) (W t) a) (l : List ℕ) (e : length l ≡ 8 ^ d) where
+module _ {n tallest d : ℕ} {t : Tables} (w : WellFormed n tallest t) (h : d ≤ deepestCube) (a : ℕ) (there : LiveOr0 (cap t) (W t) a) (l : List ℕ) (e : length l ≡ 8 ^ d) where
   accepts : expandNo t a d (length l) ≡ 0
   unfolding expandNo
-  accepts = rw (sized-fits t (w .sized), le-leb d deepestCube h, live-there t a there, eq-eqb (length l) (8 ^ d) e)
+  accepts = rw (sized-fits (w .sized), le-leb d deepestCube h, live-there t a there, eq-eqb (length l) (8 ^ d) e)
 
   expand-is : expandOf t a d l ≡ expanded 0 (cubeOf (W t) d a)
   unfolding expandOf
@@ -87,7 +87,7 @@ module _ {n tallest d : ℕ} (t : Tables) (w : WellFormed n tallest t) (h : d �
     accepted = ap (λ (o : Expanded). o .no) expand-is;
     size = expand-length t a d l accepts;
     cells = λ c.
-        expand-look t a d l accepts (c .x) (c .y) (c .z) (c .in-x) (c .in-y) (c .in-z) ∙ look-at t w (omega arith) a there c .value;
+        expand-look t a d l accepts (c .x) (c .y) (c .z) (c .in-x) (c .in-y) (c .in-z) ∙ look-at w (omega arith) a there c .value;
   }
 
   -- and a list of 8^d numbers that has at each cell what the tree shows there is the list that it writes
@@ -96,4 +96,4 @@ module _ {n tallest d : ℕ} (t : Tables) (w : WellFormed n tallest t) (h : d �
       ap (λ (o : Expanded). o .cube) expand-is
       ∙ sym (cube-one (W t) d a m k
       (λ x y z p q r.
-      f (record { x = x; y = y; z = z; in-x = p; in-y = q; in-z = r }) ∙ sym (cell-whole (W t) (well-small n tallest t w) d a x y z)))
+      f (record { x = x; y = y; z = z; in-x = p; in-y = q; in-z = r }) ∙ sym (cell-whole (W t) (well-small w) d a x y z)))

@@ -35,13 +35,13 @@ empty-keeps n c U U′ a z b (under i k h r) l = absurd (k .0 z)
 
 -- ## A call, or any sequence of calls
 
-module _ (n tallest : ℕ) (m : n ≤ kidWords) {t u : Tables} {granted taken times : ℕ → ℕ} (w : WellFormed n tallest t) (d : Does n tallest t u granted taken times) where
+module _ {n tallest : ℕ} (m : n ≤ kidWords) {t u : Tables} {granted taken times : ℕ → ℕ} (w : WellFormed n tallest t) (d : Does n tallest t u granted taken times) where
   -- A node goes exactly if nobody holds it afterwards, that is, all holds that it had or was granted are taken, and no node that is there afterwards has it
   -- as a child.
   pub gone-exactly : (y : ℕ) → Lives t y
       → (Lives u y → ⊥) ↔ ((holdsOn t y + granted y ≡ taken y) × ((b : ℕ) → Lives u b → occ y (kidsOf n (W u) (slot b)) ≡ 0))
   gone-exactly y v =
-      let r = unlive-exactly n tallest u m (d .well) y (live-nonzero v) in
+      let r = unlive-exactly m (d .well) y (live-nonzero v) in
       let e = d .balance y in
       ((λ g. let p = r .0 g in ((let q = p .0 in omega arith), p .1)), (λ q. r .1 ((let p = q .0 in omega arith), q .1)))
 
@@ -120,7 +120,7 @@ module _ (n tallest : ℕ) (m : n ≤ kidWords) where
   fresh-made (fresh c k f e z) =
       let w : WellFormed n tallest (freshOf c k f e .after) = fresh-ways c k f e
       (λ r q. fresh-well n tallest c k f e r) (λ r q. absurd (let x : _≡_ {A = ℕ} 1 0 = (sym (ap (λ (o : Out). o .no) q) ∙ z) in omega arith)) in
-      (w, (λ y. holds-dead (freshOf c k f e .after) y (fresh-bare n tallest c k f e w y)))
+      (w, (λ y. holds-dead (freshOf c k f e .after) y (fresh-bare c k f e w y)))
 
   module _ (Step : Stepping) (does : (t u : Tables) (g k j : ℕ → ℕ) → WellFormed n tallest t → Step t u g k j → Does n tallest t u g k j)
       {t : Tables} {granted taken : ℕ → ℕ} (h : History Step t granted taken) where
@@ -142,4 +142,4 @@ module _ (n tallest : ℕ) (m : n ≤ kidWords) where
 
     -- So it is what counts answers: the holds granted are those returned or used, and those that counts names.
     pub ledger-counts : (y : ℕ) → granted y ≡ taken y + countsOf t y .holds
-    ledger-counts y = let r = holds-ledger y in omega (arith, counts-holds t y (reached-well .sized))
+    ledger-counts y = let r = holds-ledger y in omega (arith, counts-holds y (reached-well .sized))

@@ -95,12 +95,12 @@ ids-once U (suc k) slots =
       o,
     ))
 
-module _ (n tallest : ℕ) (m : n ≤ kidWords) (t : Tables) (w : WellFormed n tallest t) where
+module _ {n tallest : ℕ} (m : n ≤ kidWords) {t : Tables} (w : WellFormed n tallest t) where
   -- A release of EMPTY or of an id that someone holds is accepted.
   pub held-released : (a : ℕ) → Held t a → releaseOf tallest t a .no ≡ 0
   held-released a h =
       release-ways tallest t a
-      (λ f e. absurd (let s = sized-fits t (w .sized) in true≢false (sym s ∙ f)))
+      (λ f e. absurd (let s = sized-fits (w .sized) in true≢false (sym s ∙ f)))
       (λ f z e. ap (λ (o : Out). o .no) e)
       (λ f z l e. absurd (⊎-elim z (λ k. true≢false (sym (live-true t a (held-lives t a k)) ∙ l)) h))
       (λ f z l r e. absurd (⊎-elim z (λ k. let s = holds-live t a (held-lives t a k) in omega arith) h))
@@ -137,8 +137,8 @@ module _ (n tallest : ℕ) (m : n ≤ kidWords) (t : Tables) (w : WellFormed n t
   -- A node is live exactly if it is at or below one that someone holds.
   pub lives-below : (y : ℕ) → Lives t y ↔ ((a : ℕ) × (1 ≤ holdsOn t a) × NodeOf n t a y)
   lives-below y = (
-    (λ l. let (a, v, h, u) = lives-exactly n tallest t m w y .0 l in (a, h, (live-nonzero l, under-below a v u .0))),
-    (λ (a, h, q). live (below-live (wf-made n tallest t m w) (inr (held-lives t a h)) (q .1)) (q .0)),
+    (λ l. let (a, v, h, u) = lives-exactly m w y .0 l in (a, h, (live-nonzero l, under-below a v u .0))),
+    (λ (a, h, q). live (below-live (wf-made m w) (inr (held-lives t a h)) (q .1)) (q .0)),
   )
 
   module _ (a : ℕ) (alone : HeldAlone t a) where
@@ -159,8 +159,8 @@ module _ (n tallest : ℕ) (m : n ≤ kidWords) (t : Tables) (w : WellFormed n t
       nodes = idsTo (W t) (cap t);
       many = ids-many (W t) (cap t) ∙ sym (w .lives);
       these = λ y. (
-        (λ q. let (s, low, high, e) = ids-from (W t) (cap t) y q in alone-lives y .0 (subst (λ (x : ℕ). Lives t x) (sym e) (slot-lives n tallest t m w s (low, high)))),
+        (λ q. let (s, low, high, e) = ids-from (W t) (cap t) y q in alone-lives y .0 (subst (λ (x : ℕ). Lives t x) (sym e) (slot-lives m w s (low, high)))),
         (λ q. let l = alone-lives y .1 q in let s = lives-slot t y l in ids-have (W t) (cap t) y (slot y, s .0, s .1, sym (l .is))),
       );
-      once = ids-once (W t) (cap t) (λ s low high. slot-own n tallest t m w s (low, high));
+      once = ids-once (W t) (cap t) (λ s low high. slot-own m w s (low, high));
     }

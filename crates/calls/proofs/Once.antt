@@ -44,7 +44,7 @@ ended-small t u s = cases (decLt (W t s own) floor)
     (λ l. rw (le-leb floor (W t s own) (omega arith)) (cases (decLt (W u s own) floor)
     (λ k. rw (lt-ltb (W u s own) floor k) (omega arith)) (λ k. rw (le-ltb (W u s own) floor (omega arith)) (omega arith))))
 
-module _ (n tallest : ℕ) (m : n ≤ kidWords) (t u : Tables) (w : WellFormed n tallest t) where
+module _ {n tallest : ℕ} (m : n ≤ kidWords) {t : Tables} (u : Tables) (w : WellFormed n tallest t) where
   -- ## No node ends
 
   module _ (grows : Extends n (cap t) (W t) (W u)) where
@@ -52,8 +52,8 @@ module _ (n tallest : ℕ) (m : n ≤ kidWords) (t u : Tables) (w : WellFormed n
     pub grown-ends-none : (s : ℕ) → s < cap t → ended t u s ≡ 0
     grown-ends-none s low = ended-none t u s (λ h.
         let live : LiveSlot t s = (low, h) in
-        let q = slot-own n tallest t m w s live in
-        let z : W u s own ≡ W t s own = sym (ap (λ (i : ℕ). W u i own) q) ∙ grows (W t s own) (slot-lives n tallest t m w s live) .still .is in
+        let q = slot-own m w s live in
+        let z : W u s own ≡ W t s own = sym (ap (λ (i : ℕ). W u i own) q) ∙ grows (W t s own) (slot-lives m w s live) .still .is in
         omega arith)
 
     -- Each stays as it was, and every slot keeps its generation.
@@ -90,7 +90,7 @@ module _ (n tallest : ℕ) (m : n ≤ kidWords) (t u : Tables) (w : WellFormed n
   }
     where
       made : WellMade n (cap t) (W u)
-      made = subst (λ (c : ℕ). WellMade n c (W u)) (sym (old .size)) (wf-made n tallest u m w′)
+      made = subst (λ (c : ℕ). WellMade n c (W u)) (sym (old .size)) (wf-made m w′)
 
       back : Extends n (cap t) (W u) (W t)
       back = subst (λ (c : ℕ). Extends n c (W u) (W t)) (sym (old .size)) (grew-extends n m old)
@@ -102,6 +102,6 @@ module _ (n tallest : ℕ) (m : n ≤ kidWords) (t u : Tables) (w : WellFormed n
           let e = old .size in
           let b = l .low in
           let s : LiveSlot u (slot a) = (omega arith, omega arith) in
-          let v = slot-lives n tallest u m w′ (slot a) s in
-          let o : W u (slot a) own ≡ a = live-inj (old .stays (W u (slot a) own) v .0) l (slot-own n tallest u m w′ (slot a) s) in
+          let v = slot-lives m w′ (slot a) s in
+          let o : W u (slot a) own ≡ a = live-inj (old .stays (W u (slot a) own) v .0) l (slot-own m w′ (slot a) s) in
           record { low = b; is = o; high = l .high })

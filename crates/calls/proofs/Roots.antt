@@ -20,10 +20,10 @@ use Rattle.calls.proofs.Expanding.{look-at, answers-alike, expand-at, e
 
 module _ {n tallest : ℕ} (m : n ≤ kidWords) {t u : Tables} {a : ℕ} (w : WellFormed n tallest t) (there : LiveOr0 (cap t) (W t) a) (k : Kept n tallest t u a) where
   pub kept-there : LiveOr0 (cap u) (W u) a
-  kept-there = subst (λ (c : ℕ). LiveOr0 c (W u) a) (sym (k .size)) (there-later n (cap t) (W t) (W u) (wf-made n tallest t m w) a there (k .keeps))
+  kept-there = subst (λ (c : ℕ). LiveOr0 c (W u) a) (sym (k .size)) (there-later n (cap t) (W t) (W u) (wf-made m w) a there (k .keeps))
 
   pub kept-cell : {e : ℕ} {p : List ℕ} → Cell n e p → look (W u) p a ≡ look (W t) p a
-  kept-cell c = sym (look-later n (cap t) (W t) (W u) (wf-made n tallest t m w) a there (k .keeps) c)
+  kept-cell c = sym (look-later n (cap t) (W t) (W u) (wf-made m w) a there (k .keeps) c)
 
 -- ## Cubes
 
@@ -35,9 +35,9 @@ module _ {tallest : ℕ} {t u : Tables} {a : ℕ} (w : WellFormed cubeKids talle
   kept-look {e} s = kept-cell (omega arith) w there k (cube-cell e (s .x) (s .y) (s .z))
 
   pub kept-reads : {e : ℕ} → e ≤ deepest → (s : At e) → Alike u a t a s
-  kept-reads h s = answers-alike (look-at u (k .well) h a stays s) (look-at t w h a there s) (kept-look s)
+  kept-reads h s = answers-alike (look-at (k .well) h a stays s) (look-at w h a there s) (kept-look s)
 
   pub kept-cube : {e : ℕ} → e ≤ deepestCube → (l m : List ℕ) → length l ≡ 8 ^ e → length m ≡ 8 ^ e → expandOf u a e l .cube ≡ expandOf t a e m .cube
   kept-cube h l m el em =
-      let x = expand-at t w h a there m em in
-      expand-list u (k .well) h a stays l el (expandOf t a _ m .cube) (x .size) (λ c. x .cells c ∙ sym (kept-look c))
+      let x = expand-at w h a there m em in
+      expand-list (k .well) h a stays l el (expandOf t a _ m .cube) (x .size) (λ c. x .cells c ∙ sym (kept-look c))

@@ -39,7 +39,7 @@ Tallied t = (s : ℕ) → s < cap t → floor ≤ W t s own → W t s places ≡
 
 -- ---- well formed tables pass
 
-module _ (n tallest : ℕ) (t : Tables) (w : WellFormed n tallest t) where
+module _ {n tallest : ℕ} {t : Tables} (w : WellFormed n tallest t) where
   own-zero : (s : ℕ) → s < cap t → (s ≡ 0) ⊎ (t .arena .next ≤ s) → W t s own ≡ 0
   own-zero s l (inl z) = subst (λ (k : ℕ). W t k own ≡ 0) (sym z) (w .chain .ground)
   own-zero s l (inr z) = w .chain .unused s z l
@@ -49,7 +49,7 @@ module _ (n tallest : ℕ) (t : Tables) (w : WellFormed n tallest t) where
       (λ z. absurd (let f = w .linked s l (omega arith) in let g = f .given in let b = f .below in ⊎-elim (λ q. omega arith) (λ q. omega arith) k))
 
   searched : Searched (cap t) (W t) (LiveSlot t) (t .find)
-  searched = well-searched n tallest t w
+  searched = well-searched w
 
   pub well-sound : Sound n tallest t
   well-sound = record {
@@ -82,7 +82,7 @@ kids-alike : (X : Words) (s b : ℕ) → ((i : ℕ) → i < 8 → X s i ≡ X b 
 unfolding kidsOf
 kids-alike X s b e = tabFrom-ext 8 0 (X s) (X b) (λ j p q. e j (omega arith))
 
-module _ (n tallest : ℕ) (t : Tables) (c : Sound n tallest t) (tallied : Tallied t) where
+module _ {n tallest : ℕ} {t : Tables} (c : Sound n tallest t) (tallied : Tallied t) where
   ground : W t 0 own ≡ 0
   ground = c .slots 0 (let p = c .sized .least in omega arith) .blank (inl refl) .0
 

@@ -53,7 +53,7 @@ module _ (a : Arena) (k f e : List ℕ) where
         found = r .1 .1 .1 .1 .1;
       })
       (λ w. (w .sized, ((w .some, w .fits), (w .slots, ((w .lives, (w .room, w .walk)), (w .seated, w .found))))))
-      (tells-and (fits-sized t, sized-fits t)
+      (tells-and (fits-sized t, sized-fits)
       (λ z. tells-and (tells-and (tells-le 1 (a .next)) (λ l. tells-le (a .next) c))
       (λ l. tells-and (slots-tell k f c (a .next) (z .most)) (λ g. tells-and (state-tells a k f) (λ s. find-tells a k f e)))))
 
@@ -85,7 +85,7 @@ module _ (a : Arena) (k f e : List ℕ) where
   pub check-tells : Tells (checkBy a k f e) (WellFormed cubeKids deepest t)
   unfolding checkBy
   check-tells =
-      tells-map (λ r. sound-well cubeKids deepest t (r .0) (r .1)) (λ v. (well-sound cubeKids deepest t v, (λ s l h. v .tallied s (l, h)))) (tells-and sound-tells tally-tells)
+      tells-map (λ r. sound-well (r .0) (r .1)) (λ v. (well-sound v, (λ s l h. v .tallied s (l, h)))) (tells-and sound-tells tally-tells)
 
   -- ---- as the code meets it
 

@@ -34,9 +34,9 @@ same-grows : (n : ℕ) (t : Tables) → Grows n t t
 same-grows n t = (refl, (λ a l. record { still = l; kids = λ i k. refl; value = refl; height = refl }))
 
 -- a refusal grants none
-refused-does : (n tallest : ℕ) → n ≤ kidWords → (t : Tables) → WellFormed n tallest t → (k : ℕ) → k ≢ 0 → Grants n tallest t (refused k t)
-refused-does n tallest m t w k z =
-    grown n tallest m t t w (same-grows n t .1) (λ y. ifAccepted (refused k t) (on y (refused k t .id))) (λ y. 0) w refl
+refused-does : {n tallest : ℕ} → n ≤ kidWords → {t : Tables} → WellFormed n tallest t → (k : ℕ) → k ≢ 0 → Grants n tallest t (refused k t)
+refused-does {n} m {t} w k z =
+    grown m t w (same-grows n t .1) (λ y. ifAccepted (refused k t) (on y (refused k t .id))) (λ y. 0) w refl
     (λ y. omega (arith, unaccepted (refused k t) (on y (refused k t .id)) z)) (λ s. refl)
 
 -- ## An edit of a cell
@@ -52,15 +52,15 @@ module _ {n tallest : ℕ} {t : Tables} {root d : ℕ} {cell : List ℕ} {v : �
   pub cell-does : Grants n tallest t (editCell n t root d cell v)
   cell-does =
       let o = editCell n t root d cell v in
-      grown n tallest (q .words) t (o .after) (q .well) (cell-grows .1) (λ y. ifAccepted o (on y (o .id))) (λ y. 0) (cell-well q high) (cell-grows .0)
+      grown (q .words) (o .after) (q .well) (cell-grows .1) (λ y. ifAccepted o (on y (o .id))) (λ y. 0) (cell-well q high) (cell-grows .0)
       (λ y. let z = cell-balance q high y in omega arith) (cell-gens q high)
 
 -- ## An edit of a cube
 
 -- at any depth, of any root
-module _ (t : Tables) (w : WellFormed cubeKids deepest t) (b e : ℕ) (p : IVec3) (v : ℕ) (h : v ≤ largestValue) where
+module _ {t : Tables} (w : WellFormed cubeKids deepest t) (b e : ℕ) (p : IVec3) (v : ℕ) (h : v ≤ largestValue) where
   pub edit-grows : Grows cubeKids t (editOf t b e p v .after)
   edit-grows = by-cell t b e p v w (λ o. Grows cubeKids t (o .after)) (λ k z. same-grows cubeKids t) (λ q. cell-grows q h)
 
   pub edit-does : Grants cubeKids deepest t (editOf t b e p v)
-  edit-does = by-cell t b e p v w (Grants cubeKids deepest t) (refused-does cubeKids deepest (omega arith) t w) (λ q. cell-does q h)
+  edit-does = by-cell t b e p v w (Grants cubeKids deepest t) (refused-does (omega arith) w) (λ q. cell-does q h)

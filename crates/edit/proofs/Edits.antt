@@ -74,8 +74,8 @@ granted-cap t r = ap (λ (a : Arena). a .capacity) (granted-arena t r)
 pub granted-live : (t : Tables) (r : ℕ) → granted t r .arena .live ≡ t .arena .live
 granted-live t r = ap (λ (a : Arena). a .live) (granted-arena t r)
 
-granted-effect : {n tallest : ℕ} (t : Tables) (r : ℕ) → WellFormed n tallest t → LiveOr0 (cap t) (W t) r → Effect n t (granted t r) r
-granted-effect t r w there = record {
+granted-effect : {n tallest : ℕ} {t : Tables} (r : ℕ) → WellFormed n tallest t → LiveOr0 (cap t) (W t) r → Effect n t (granted t r) r
+granted-effect {t} r w there = record {
   granted-one = λ d. rw (granted-node t r d) (held-here t (slot r) (within there d));
   no-other = λ s l o. other s o;
   only = λ y l. inl (live-same (cap t) (W (granted t r)) (W t) y (sym (granted-word t r (slot y) own (omega arith))) l);
@@ -86,7 +86,7 @@ granted-effect t r w there = record {
   where
     within : LiveOr0 (cap t) (W t) r → r ≢ 0 → Within (t .nodes) (slot r)
     within (inl z) d = absurd (d z)
-    within (inr l) d = sized-within t (slot r) (w .sized) (l .low)
+    within (inr l) d = sized-within (slot r) (w .sized) (l .low)
 
     other : (s : ℕ) → (r ≡ 0) ⊎ (s ≢ slot r) → W (granted t r) s holds ≡ W t s holds
     other s (inl z) = rw (granted-empty t r z)
@@ -115,14 +115,14 @@ unfolding grantNo
 grant-room t k e = cases (decLe k (cap t - 1 - t .arena .live)) (λ l. l)
     (λ l. absurd (let z : _≡_ {A = ℕ} 11 0 = (rw (lt-leb k (cap t - 1 - t .arena .live) (omega arith)) at e) in omega arith))
 
-granted-well : {n tallest : ℕ} → n ≤ kidWords → (t : Tables) (r : ℕ) → WellFormed n tallest t → LiveOr0 (cap t) (W t) r → grantNo t (have r) ≡ 0
+granted-well : {n tallest : ℕ} → n ≤ kidWords → {t : Tables} (r : ℕ) → WellFormed n tallest t → LiveOr0 (cap t) (W t) r → grantNo t (have r) ≡ 0
     → WellFormed n tallest (granted t r)
-granted-well m t r w (inl z) e = rw (granted-empty t r z) w
-granted-well {n} {tallest} m t r w (inr l) e =
+granted-well m {t} r w (inl z) e = rw (granted-empty t r z) w
+granted-well m {t} r w (inr l) e =
     let d = live-nonzero l in
     let o = l .is in
     let h = l .high in
-    rw (granted-node t r d) (held-kept n tallest t (slot r) m w (l .low, omega arith) (not-full t r d e))
+    rw (granted-node t r d) (held-kept (slot r) m w (l .low, omega arith) (not-full t r d e))
 
 -- ---- the number, on any tables
 
@@ -163,7 +163,7 @@ module _ {n tallest : ℕ} {t : Tables} {root d : ℕ} {cell : List ℕ} {v : �
   new = makeOf n t v cell root 1 0
 
   made-t : WellMade n (cap t) (W t)
-  made-t = wf-made n tallest t (q .words) (q .well)
+  made-t = wf-made (q .words) (q .well)
 
   module _ (low : heightAt (W t) root ≤ d) where
     right : (u : Tables) (r : ℕ) → WellFormed n tallest u → cap u ≡ cap t → Extends n (cap t) (W t) (W u) → Answer n (cap t) (W t) (W u) root cell v r → Effect n t u r
@@ -171,7 +171,7 @@ module _ {n tallest : ℕ} {t : Tables} {root d : ℕ} {cell : List ℕ} {v : �
     right u r wu size ext ans eff = record {
       well = wu;
       size = size;
-      edited = edited (omega arith) made-t (q .there) low (q .cell-is) ext (subst (λ (c : ℕ). WellMade n c (W u)) size (wf-made n tallest u (q .words) wu)) ans;
+      edited = edited (omega arith) made-t (q .there) low (q .cell-is) ext (subst (λ (c : ℕ). WellMade n c (W u)) size (wf-made (q .words) wu)) ans;
       effect = eff;
       answer = ans;
     }
@@ -180,24 +180,24 @@ module _ {n tallest : ℕ} {t : Tables} {root d : ℕ} {cell : List ℕ} {v : �
     there-right : (r : ℕ) → LiveOr0 (cap t) (W t) r → grantNo t (have r) ≡ 0 → Answer n (cap t) (W t) (W (granted t r)) root cell v r
         → Right n tallest t root d cell v (granted t r) r
     there-right r l g ans =
-        right (granted t r) r (granted-well (q .words) t r (q .well) l g) (granted-cap t r) (granted-extends n t r (q .words)) ans (granted-effect t r (q .well) l)
+        right (granted t r) r (granted-well (q .words) r (q .well) l g) (granted-cap t r) (granted-extends n t r (q .words)) ans (granted-effect r (q .well) l)
 
     have-right : (r : ℕ) → look (W t) cell root ≢ v → planOf n t v cell root ≡ have r → grantNo t (have r) ≡ 0 → Right n tallest t root d cell v (granted t r) r
     have-right r e pl g =
-        let a : Anew n (cap t) (W t) v cell root r = plan-have (rw pl at (plan-is n tallest t (q .words) (omega arith) (q .well) v root (q .there) low (q .cell-is))) in
+        let a : Anew n (cap t) (W t) v cell root r = plan-have (rw pl at (plan-is (q .words) (omega arith) (q .well) v root (q .there) low (q .cell-is))) in
         let z = renewed n (cap t) (omega arith) (W t) made-t v (q .there) low (q .cell-is) a in
         there-right r (z .there) g (made e (anew-later made-t (granted-extends n t r (q .words)) (q .there) (q .cell-is) a))
 
     -- an answer that is made
     module _ (k : ℕ) (pl : planOf n t v cell root ≡ lack k) where
       plan-lacks : Plan n (cap t) (W t) v cell root (lack k)
-      plan-lacks = rw pl at (plan-is n tallest t (q .words) (omega arith) (q .well) v root (q .there) low (q .cell-is))
+      plan-lacks = rw pl at (plan-is (q .words) (omega arith) (q .well) v root (q .there) low (q .cell-is))
 
       pub lack-done : grantNo t (lack k) ≡ 0 → Done n tallest t v cell root k 1 0 new
       lack-done g =
           let l = grant-room t k g in
           let one = plan-some plan-lacks in
-          make-done n tallest t (q .words) (q .several) (q .well) v high root k 1 0 (q .there) low (q .deep) (q .cell-is) pl (omega arith) (omega arith) (omega arith)
+          make-done (q .words) (q .several) (q .well) v high root k 1 0 (q .there) low (q .deep) (q .cell-is) pl (omega arith) (omega arith) (omega arith)
 
       lack-effect : Done n tallest t v cell root k 1 0 new → Effect n t (new .after) (new .id)
       lack-effect r =
@@ -216,7 +216,7 @@ module _ {n tallest : ℕ} {t : Tables} {root d : ℕ} {cell : List ℕ} {v : �
       lack-right : look (W t) cell root ≢ v → grantNo t (lack k) ≡ 0 → Right n tallest t root d cell v (new .after) (new .id)
       lack-right e g =
           let r = lack-done g in
-          right (new .after) (new .id) (inv-wf n tallest (new .after) (r .grown .inv) (r .grown .content)) (r .grown .caps) (grown-extends (r .grown) (q .words)) (made e (r .anew)) (lack-effect r)
+          right (new .after) (new .id) (inv-wf n tallest (r .grown .inv) (r .grown .content)) (r .grown .caps) (grown-extends (r .grown) (q .words)) (made e (r .anew)) (lack-effect r)
 
     answer-right : (r : Need) → look (W t) cell root ≢ v → planOf n t v cell root ≡ r → grantNo t r ≡ 0
         → Right n tallest t root d cell v (answerOf t r new .after) (answerOf t r new .id)
@@ -249,8 +249,8 @@ module _ {n tallest : ℕ} {t : Tables} {root d : ℕ} {cell : List ℕ} {v : �
 
 -- ---- the cube
 
-pub posed : (t : Tables) → WellFormed cubeKids deepest t → (root d : ℕ) (p : IVec3) → lookNo t root d p ≡ 0 → Posed cubeKids deepest t root d (cellAt d p)
-posed t w root d p n = record {
+pub posed : {t : Tables} → WellFormed cubeKids deepest t → (root d : ℕ) (p : IVec3) → lookNo t root d p ≡ 0 → Posed cubeKids deepest t root d (cellAt d p)
+posed {t} w root d p n = record {
   words = omega arith;
   several = omega arith;
   well = w;
@@ -293,16 +293,16 @@ module _ (t : Tables) (root d : ℕ) (p : IVec3) (v : ℕ) where
   pub by-cell : WellFormed cubeKids deepest t → (P : Out → Type 0) → ((k : ℕ) → k ≢ 0 → P (refused k t))
       → (Posed cubeKids deepest t root d (cellAt d p) → P (editCell cubeKids t root d (cellAt d p) v)) → P (editOf t root d p v)
   by-cell w P none some = cases (ℕ-discrete (lookNo t root d p) 0)
-      (λ n. subst P (sym (past-look n .1)) (some (posed t w root d p n)))
+      (λ n. subst P (sym (past-look n .1)) (some (posed w root d p n)))
       (λ n. subst P (sym (not-past n .1)) (none (lookNo t root d p) n))
 
-module _ (t : Tables) (w : WellFormed cubeKids deepest t) (root d : ℕ) (p : IVec3) (v : ℕ) (high : v ≤ largestValue) where
+module _ {t : Tables} (w : WellFormed cubeKids deepest t) (root d : ℕ) (p : IVec3) (v : ℕ) (high : v ≤ largestValue) where
   -- an accepted edit of well-formed tables is right
   pub edit-right : editNo t root d p v ≡ 0 → Right cubeKids deepest t root d (cellAt d p) v (editOf t root d p v .after) (editOf t root d p v .id)
   edit-right z =
       let n = accepted-past t root d p v z .0 in
       let e = past-look t root d p v n in
-      subst (λ (o : Out). Right cubeKids deepest t root d (cellAt d p) v (o .after) (o .id)) (sym (e .1)) (cell-right (posed t w root d p n) high (sym (e .0) ∙ z))
+      subst (λ (o : Out). Right cubeKids deepest t root d (cellAt d p) v (o .after) (o .id)) (sym (e .1)) (cell-right (posed w root d p n) high (sym (e .0) ∙ z))
 
   -- so every edit keeps well-formed tables well formed
   pub edit-well : WellFormed cubeKids deepest (editOf t root d p v .after)

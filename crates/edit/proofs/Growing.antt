@@ -31,7 +31,7 @@ module _ {n tallest : ℕ} {t u : Tables} {d : List ℕ} {k : ℕ} (g : Grown n 
 
   pub grown-debt : (d′ : List ℕ) → ((y : ℕ) → y ≢ 0 → occ y d ≡ occ y d′) → Grown n tallest t u d′ k
   grown-debt d′ e =
-      record { inv = inv-debt u d d′ e (g .inv); content = g .content; caps = g .caps; lives = g .lives; old = g .old }
+      record { inv = inv-debt d d′ e (g .inv); content = g .content; caps = g .caps; lives = g .lives; old = g .old }
 
   pub grown-trans : {v : Tables} {d′ : List ℕ} {j : ℕ} → Grown n tallest u v d′ j → Grown n tallest t v d′ (k + j)
   grown-trans h = record {
@@ -60,7 +60,7 @@ grown-none {t = t} i c =
 
 -- ---- places that are owed
 
-module _ (n tallest : ℕ) (m : n ≤ kidWords) (t : Tables) (d : List ℕ) (i : Inv t d) (c : Content n tallest (cap t) (W t)) where
+module _ (n tallest : ℕ) (m : n ≤ kidWords) {t : Tables} (d : List ℕ) (i : Inv t d) (c : Content n tallest (cap t) (W t)) where
   pub owed-grown : (s : ℕ) → LiveOr0 (cap t) (W t) s → Grown n tallest t (owed t s) (s ∷ d) 0
   unfolding owed
   owed-grown s l = record {
@@ -117,9 +117,9 @@ module _ (n tallest : ℕ) (t : Tables) (k : ℕ) (ks d : List ℕ) where
   rest-live g h y a b = grown-live g y (h y a (omega (arith, occ-cons y k ks)))
 
 -- each of the list gets one place more
-pub each-grown : (n tallest : ℕ) → n ≤ kidWords → (ks : List ℕ) (t : Tables) (d : List ℕ) → Inv t d → Content n tallest (cap t) (W t)
+pub each-grown : (n tallest : ℕ) → n ≤ kidWords → (ks : List ℕ) {t : Tables} (d : List ℕ) → Inv t d → Content n tallest (cap t) (W t)
     → ((y : ℕ) → y ≢ 0 → 1 ≤ occ y ks → Live (cap t) (W t) y) → Grown n tallest t (each owed t ks) (ks ++ d) 0
-each-grown n tallest m [] t d i c h = rw (each-nil t) (grown-none i c)
-each-grown n tallest m (k ∷ ks) t d i c h =
-    let g = owed-grown n tallest m t d i c k (first-there n tallest t k ks d h) in
-    each-step n tallest t k ks d g (each-grown n tallest m ks (owed t k) (k ∷ d) (g .inv) (g .content) (rest-live n tallest t k ks d g h))
+each-grown n tallest m [] {t} d i c h = rw (each-nil t) (grown-none i c)
+each-grown n tallest m (k ∷ ks) {t} d i c h =
+    let g = owed-grown n tallest m d i c k (first-there n tallest t k ks d h) in
+    each-step n tallest t k ks d g (each-grown n tallest m ks (k ∷ d) (g .inv) (g .content) (rest-live n tallest t k ks d g h))

@@ -40,8 +40,8 @@ module _ {n tallest : ℕ} (m : n ≤ kidWords) {t u : Tables} {r root d : ℕ} 
       (λ q. w .cleared (slot y) in-t q .words holds (omega arith) (omega arith) (omega arith))
       (λ q.
       let s : LiveSlot t (slot y) = (in-t, omega arith) in
-      let x = slot-lives n tallest t m w (slot y) s in
-      let same : W t (slot y) own ≡ y = live-inj (later (W t (slot y) own) x) l (slot-own n tallest t m w (slot y) s) in
+      let x = slot-lives m w (slot y) s in
+      let same : W t (slot y) own ≡ y = live-inj (later (W t (slot y) own) x) l (slot-own m w (slot y) s) in
       absurd (d (subst (λ (k : ℕ). Lives t k) same x)))
 
   apart : LiveOr0 (cap u) (W u) r → (y : ℕ) → Lives u y → y ≢ r → (r ≡ 0) ⊎ (slot y ≢ slot r)
@@ -83,9 +83,9 @@ module _ {n tallest : ℕ} {t : Tables} {root d : ℕ} {cell : List ℕ} {v : �
       let same : holdsOn (o .after) y ≡ holdsOn t y = ap (λ (x : Out). holdsOn (x .after) y) (cell-refused n t root d cell v z) in
       omega (arith, unaccepted o (on y (o .id)) (λ i. z (sym k ∙ i))))
 
-pub edit-balance : (t : Tables) → WellFormed cubeKids deepest t → (b e : ℕ) (p : IVec3) (v : ℕ) → v ≤ largestValue → (y : ℕ)
+pub edit-balance : {t : Tables} → WellFormed cubeKids deepest t → (b e : ℕ) (p : IVec3) (v : ℕ) → v ≤ largestValue → (y : ℕ)
     → holdsOn (editOf t b e p v .after) y ≡ holdsOn t y + ifAccepted (editOf t b e p v) (on y (editOf t b e p v .id))
-edit-balance t w b e p v h y =
+edit-balance {t} w b e p v h y =
     by-cell t b e p v w (λ o. holdsOn (o .after) y ≡ holdsOn t y + ifAccepted o (on y (o .id)))
     (λ k z. omega (arith, unaccepted (refused k t) (on y (refused k t .id)) z))
     (λ q. cell-balance q h y)

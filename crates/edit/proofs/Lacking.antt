@@ -36,13 +36,13 @@ module _ {n c : ℕ} {U U′ : Words} {root x r : ℕ} {p : List ℕ} where
 
 module _ {n tallest : ℕ} {t : Tables} {root d : ℕ} {cell : List ℕ} (q : Posed n tallest t root d cell) (v : ℕ) (low : heightAt (W t) root ≤ d) where
   abbrev well : WellMade n (cap t) (W t)
-  well = wf-made n tallest t (q .words) (q .well)
+  well = wf-made (q .words) (q .well)
 
   abbrev bare : Bare (cap t) (W t)
   bare = tables-bare (t .nodes) (cap t) (q .well .sized .facts)
 
   abbrev plan : Plan n (cap t) (W t) v cell root (planOf n t v cell root)
-  plan = plan-is n tallest t (q .words) (omega arith) (q .well) v root (q .there) low (q .cell-is)
+  plan = plan-is (q .words) (omega arith) (q .well) v root (q .there) low (q .cell-is)
 
   had : (r : ℕ) → planOf n t v cell root ≡ have r → Anew n (cap t) (W t) v cell root r × LiveOr0 (cap t) (W t) r
   had r e =

@@ -129,12 +129,12 @@ module _ (t : Tables) (root d v : ℕ) (p : IVec3) (high : v ≤ largestValue) w
   unfolding resultBy rootPlan resultOf
   result-same w n low =
       let l = le-leb d deepest (deep t root d p n) in
-      let whole-look : look (W t) (cellAt d p) root % 2 ^ 16 ≡ look (W t) (cellAt d p) root = cell-whole (W t) (well-small cubeKids deepest t w) d root (C .x) (C .y) (C .z) in
+      let whole-look : look (W t) (cellAt d p) root % 2 ^ 16 ≡ look (W t) (cellAt d p) root = cell-whole (W t) (well-small w) d root (C .x) (C .y) (C .z) in
       cases (ℕ-discrete (look (W t) (cellAt d p) root) v)
       (λ z. rw (l, whole-look, eq-eqb (look (W t) (cellAt d p) root) v z) (have-end t v C root root (makeOf cubeKids t v (cellAt d p) root 1 0)))
       (λ z. rw (l, whole-look, ne-eqb (look (W t) (cellAt d p) root) v z)
       (go w n low (planBy t v (cellAt d p) root) (planOf cubeKids t v (cellAt d p) root) refl refl
-      (plan-agree deepest t w v high root (let h = deep t root d p n in omega arith) (cube-cell d (C .x) (C .y) (C .z)))))
+      (plan-agree w v high root (let h = deep t root d p n in omega arith) (cube-cell d (C .x) (C .y) (C .z)))))
     where
       go : WellFormed cubeKids deepest t → lookNo t root d p ≡ 0 → heightAt (W t) root ≤ d → (b : planning.Plan) (r : Need) → planBy t v (cellAt d p) root ≡ b
           → planOf cubeKids t v (cellAt d p) root ≡ r → Agree (suc d) b r → editPast t v C root b ≡ ended t r (makeOf cubeKids t v (cellAt d p) root 1 0)
@@ -143,7 +143,7 @@ module _ (t : Tables) (root d v : ℕ) (p : IVec3) (high : v ≤ largestValue) w
           lack-end t v C k s root (makeOf cubeKids t v (cellAt d p) root 1 0) one
           (λ l. make-path t v C root (planned k s) 1 0 (deep t root d p n)
           ∙ ap (λ (i : planning.Plan). makeBy t v (cellAt d p) root i 1 0) (sym eb)
-          ∙ make-same deepest (omega arith) t w v high root k 1 0 (root-there t root d p n) low (deep t root d p n) (cube-cell d (C .x) (C .y) (C .z)) er
+          ∙ make-same (omega arith) w v high root k 1 0 (root-there t root d p n) low (deep t root d p n) (cube-cell d (C .x) (C .y) (C .z)) er
           (let z = w .sized .least in omega arith) (omega arith) (omega arith))
 
   -- a cell that is not refused is inside, where a coordinate's number is the coordinate
@@ -163,5 +163,5 @@ module _ (t : Tables) (root d v : ℕ) (p : IVec3) (high : v ≤ largestValue) w
   edit-same (inr w) = well-same w
 
 -- the contract of the code
-pub voxel-law : (t : Tables) (root d : ℕ) (p : IVec3) (v : ℕ) (c : Cell) (r : Out) → v < 65536 → c ≡ toCell p d → r ≡ editBy t root c v → Fair cubeKids deepest t → r ≡ editOf t root d p v
-voxel-law t root d p v c r hv ec er fair = er ∙ ap (λ (i : Cell). editBy t root i v) ec ∙ edit-same t root d v p (omega arith) fair
+pub voxel-law : {t : Tables} (root d : ℕ) (p : IVec3) (v : ℕ) (c : Cell) (r : Out) → v < 65536 → c ≡ toCell p d → r ≡ editBy t root c v → Fair cubeKids deepest t → r ≡ editOf t root d p v
+voxel-law {t} root d p v c r hv ec er fair = er ∙ ap (λ (i : Cell). editBy t root i v) ec ∙ edit-same t root d v p (omega arith) fair

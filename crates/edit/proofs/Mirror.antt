@@ -83,7 +83,7 @@ pub data Agree (B : ℕ) : planning.Plan → Need → Type 0 where
   agree-have : {r : ℕ} → Agree B (planned 0 r) (have r)
   agree-lack : {k s : ℕ} → 1 ≤ k → k ≤ B → Agree B (planned k s) (lack k)
 
-module _ (tallest : ℕ) (t : Tables) (w : WellFormed cubeKids tallest t) where
+module _ {tallest : ℕ} {t : Tables} (w : WellFormed cubeKids tallest t) where
   abbrev m : cubeKids ≤ kidWords
   m = omega arith
 
@@ -92,7 +92,7 @@ module _ (tallest : ℕ) (t : Tables) (w : WellFormed cubeKids tallest t) where
 
   value-low : (y : ℕ) → valueAt (W t) y ≤ largestValue
   unfolding valueAt
-  value-low y = split (eqb y 0) (λ e. rw e (omega arith)) (λ e. rw e (let z = well-small cubeKids tallest t w (slot y) in omega arith))
+  value-low y = split (eqb y 0) (λ e. rw e (omega arith)) (λ e. rw e (let z = well-small w (slot y) in omega arith))
 
   value-by : (ks : List ℕ) → valueBy cubeKids (W t) ks ≡ valueFor cubeKids (W t) ks
   unfolding valueBy valueFor
@@ -102,10 +102,10 @@ module _ (tallest : ℕ) (t : Tables) (w : WellFormed cubeKids tallest t) where
   find-leaf : (x : ℕ) → x ≢ 0 → foundBy t empties x ≡ leafSlot t x
   unfolding foundBy
   find-leaf x d = cases (ℕ-discrete (leafSlot t x) 0)
-      (λ z. search-miss cubeKids tallest t w empties x empties-length (no-leaf cubeKids tallest t m w x d z) ∙ sym z)
+      (λ z. search-miss w empties x empties-length (no-leaf m w x d z) ∙ sym z)
       (λ z.
-      let q = leaf-slot cubeKids tallest t m w x d z in
-      search-hit cubeKids tallest t w empties x empties-length (leafSlot t x) (leaf-in cubeKids tallest t m w x d (leafSlot t x) (q .0) (q .1) .0) (leaf-content cubeKids tallest t m w x d (leafSlot t x) (q .0) (q .1)))
+      let q = leaf-slot m w x d z in
+      search-hit w empties x empties-length (leafSlot t x) (leaf-in m w x d (leafSlot t x) (q .0) (q .1) .0) (leaf-content m w x d (leafSlot t x) (q .0) (q .1)))
 
   module _ (f : ℕ → ℕ) (e : allOf (eqb 0) (tabFrom cubeKids 0 f) ≡ false) where
     -- a live slot with those children has their value
@@ -119,7 +119,7 @@ module _ (tallest : ℕ) (t : Tables) (w : WellFormed cubeKids tallest t) where
     find-branch : foundBy t (wordsOf cubeKids f) (valueBy cubeKids (W t) (wordsOf cubeKids f)) ≡ branchSlot t (wordsOf cubeKids f)
     unfolding foundBy
     find-branch = rw (value-by (wordsOf cubeKids f)) (cases (ℕ-discrete (branchSlot t (wordsOf cubeKids f)) 0)
-        (λ z. search-miss cubeKids tallest t w (wordsOf cubeKids f) (valueFor cubeKids (W t) (wordsOf cubeKids f)) (words-length cubeKids f) (none z) ∙ sym z)
+        (λ z. search-miss w (wordsOf cubeKids f) (valueFor cubeKids (W t) (wordsOf cubeKids f)) (words-length cubeKids f) (none z) ∙ sym z)
         (λ z. hit z))
       where
         none : branchSlot t (wordsOf cubeKids f) ≡ 0 → (s : ℕ) → 0 < s → LiveSlot t s → contentIs (W t) (wordsOf cubeKids f) (valueFor cubeKids (W t) (wordsOf cubeKids f)) s ≡ false
@@ -135,7 +135,7 @@ module _ (tallest : ℕ) (t : Tables) (w : WellFormed cubeKids tallest t) where
             let l : LiveSlot t (branchSlot t (wordsOf cubeKids f)) = (r .1, b .0) in
             let k : (j : ℕ) → j < kidWords → W t (branchSlot t (wordsOf cubeKids f)) j ≡ getD (wordsOf cubeKids f) j 0 =
             (λ j h. let q : 0 + j ≡ j = omega arith in rw q at (b .1 j (omega arith))) in
-            search-hit cubeKids tallest t w (wordsOf cubeKids f) (valueFor cubeKids (W t) (wordsOf cubeKids f)) n (branchSlot t (wordsOf cubeKids f)) l
+            search-hit w (wordsOf cubeKids f) (valueFor cubeKids (W t) (wordsOf cubeKids f)) n (branchSlot t (wordsOf cubeKids f)) l
             (content-true (W t) (wordsOf cubeKids f) (valueFor cubeKids (W t) (wordsOf cubeKids f)) (branchSlot t (wordsOf cubeKids f)) n k (slot-value (branchSlot t (wordsOf cubeKids f)) l k))
 
   -- what eight parts come to, by the code
@@ -197,22 +197,22 @@ unfolding each owed
 owed-all [] t = refl
 owed-all (k ∷ ks) t = owed-all ks (owed t k)
 
-pub each-same : (ks : List ℕ) (t : Tables) (d : List ℕ) → length d + length ks ≤ 1000 → Inv t d → ((y : ℕ) → y ≢ 0 → 1 ≤ occ y ks → Live (cap t) (W t) y) → owedBy t ks ≡ each owed t ks
-each-same ks t d n i h = ap (λ (x : Nodes). tablesOf (t .arena) x (t .find)) (owing (t .arena) (t .find) ks (t .nodes) d n i h .same) ∙ owed-all ks t
+pub each-same : (ks : List ℕ) {t : Tables} (d : List ℕ) → length d + length ks ≤ 1000 → Inv t d → ((y : ℕ) → y ≢ 0 → 1 ≤ occ y ks → Live (cap t) (W t) y) → owedBy t ks ≡ each owed t ks
+each-same ks {t} d n i h = ap (λ (x : Nodes). tablesOf (t .arena) x (t .find)) (owing (t .arena) (t .find) ks (t .nodes) d n i h .same) ∙ owed-all ks t
 
 -- ---- a fresh node
 
-leaf-same : (t : Tables) (d : List ℕ) (x h q : ℕ) → Inv t d → t .arena .live + 1 < cap t → leafAnewBy t x h q ≡ leafAnew t x h q
+leaf-same : {t : Tables} (d : List ℕ) (x h q : ℕ) → Inv t d → t .arena .live + 1 < cap t → leafAnewBy t x h q ≡ leafAnew t x h q
 unfolding leafAnewBy
-leaf-same t d x h q i room = leaf-fresh t d i room x h q _ (number-ends t d i room empties x)
+leaf-same d x h q i room = leaf-fresh d i room x h q _ (number-ends d i room empties x)
 
-branch-same : (t : Tables) (d ks : List ℕ) (h q : ℕ) → Inv t d → t .arena .live + 1 < cap t
+branch-same : {t : Tables} (d ks : List ℕ) (h q : ℕ) → Inv t d → t .arena .live + 1 < cap t
     → valueBy cubeKids (W t) ks ≡ valueFor cubeKids (W t) ks → heightFor cubeKids (W t) ks ≤ 1000
     → branchAnewBy t ks h q ≡ branchAnew cubeKids t ks h q
 unfolding branchAnewBy
-branch-same t d ks h q i room ev low =
-    branch-fresh t d i room cubeKids ks (valueBy cubeKids (W t) ks) (moreOf (topFor (W t) ks cubeKids)) h q _ ev
-    (let g = height-top cubeKids t ks in let b = more-few (topFor (W t) ks cubeKids) (omega arith) in omega arith) (number-ends t d i room ks (valueBy cubeKids (W t) ks))
+branch-same {t} d ks h q i room ev low =
+    branch-fresh d i room cubeKids ks (valueBy cubeKids (W t) ks) (moreOf (topFor (W t) ks cubeKids)) h q _ ev
+    (let g = height-top cubeKids t ks in let b = more-few (topFor (W t) ks cubeKids) (omega arith) in omega arith) (number-ends d i room ks (valueBy cubeKids (W t) ks))
 
 kids-fit : cubeKids ≤ kidWords
 kids-fit = omega arith
@@ -221,9 +221,9 @@ kids-some : 1 ≤ cubeKids
 kids-some = omega arith
 
 -- no live leaf of the value
-lack-plan : (tallest : ℕ) (t : Tables) (w : WellFormed cubeKids tallest t) (x : ℕ) → x ≢ 0 → leafSlot t x ≡ 0 → cellPlan t x ≡ planned 1 0
+lack-plan : {tallest : ℕ} {t : Tables} (w : WellFormed cubeKids tallest t) (x : ℕ) → x ≢ 0 → leafSlot t x ≡ 0 → cellPlan t x ≡ planned 1 0
 unfolding cellPlan slotPlan
-lack-plan tallest t w x d z = rw (ne-eqb x 0 d, find-leaf tallest t w x d, eq-eqb (leafSlot t x) 0 z)
+lack-plan {t = t} w x d z = rw (ne-eqb x 0 d, find-leaf w x d, eq-eqb (leafSlot t x) 0 z)
 
 -- ---- the making
 
@@ -240,36 +240,36 @@ make-leaf : (t : Tables) (x a k s h q : ℕ) → makeBy t x [] a (planned (suc k
 unfolding makeBy
 make-leaf t x a k s h q = rw (ne-eqb (suc k) 0 (omega arith))
 
-module _ (tallest : ℕ) (high : tallest ≤ 900) (t : Tables) (w : WellFormed cubeKids tallest t) (x : ℕ) (small : x ≤ largestValue) where
+module _ {tallest : ℕ} (high : tallest ≤ 900) {t : Tables} (w : WellFormed cubeKids tallest t) (x : ℕ) (small : x ≤ largestValue) where
   two : 1 < cubeKids
   two = omega arith
 
   inv : Inv t []
-  inv = wf-inv cubeKids tallest t kids-fit w
+  inv = wf-inv kids-fit w
 
   made : WellMade cubeKids (cap t) (W t)
-  made = wf-made cubeKids tallest t kids-fit w
+  made = wf-made kids-fit w
 
   -- the branch over a part
   over-same : (d c a j h q : ℕ) (p : List ℕ) (o : Out) → LiveOr0 (cap t) (W t) a → heightAt (W t) a ≤ suc d → c < cubeKids → Cell cubeKids d p → suc d ≤ tallest
       → t .arena .live + suc j < cap t → h ≤ mostHolds → 1 ≤ h + q → Low cubeKids tallest t x p a c j o
-      → upBy o (eightParts (W t) a) c h q ≡ over cubeKids tallest t kids-fit two w x small c a h q o
+      → upBy o (eightParts (W t) a) c h q ≡ over kids-fit two w x small c a h q o
   unfolding upBy
   over-same d c a j h q p o l low b cell tall room few held r =
       let ks = wordsOf cubeKids (replace (part (W t) a) c (o .id)) in
       let e : set (eightParts (W t) a) c (o .id) ≡ ks = words-set (W t) a c (o .id) b in
       let z : set (eightParts (W t) a) c 0 ≡ set ks c 0 = sym (set-twice (eightParts (W t) a) c (o .id) 0) ∙ ap (λ (l : List ℕ). set l c 0) e in
-      let n = eight cubeKids tallest t kids-fit two w x small d c a j h q p o l low b cell tall room few held r in
-      let live = others-live cubeKids tallest t kids-fit two w x small d c a j h q p o l low b cell tall room few held r in
-      let g = placed cubeKids tallest t kids-fit two w x small d c a j h q p o l low b cell tall room few held r in
+      let n = eight kids-fit two w x small d c a j h q p o l low b cell tall room few held r in
+      let live = others-live kids-fit two w x small d c a j h q p o l low b cell tall room few held r in
+      let g = placed kids-fit two w x small d c a j h q p o l low b cell tall room few held r in
       let same : owedBy (o .after) (set ks c 0) ≡ each owed (o .after) (set ks c 0) =
-      each-same (set ks c 0) (o .after) (o .id ∷ []) (omega (arith, length-set ks c 0)) (r .grown .inv) live in
+      each-same (set ks c 0) (o .id ∷ []) (omega (arith, length-set ks c 0)) (r .grown .inv) live in
       let v = each owed (o .after) (set ks c 0) in
       let ev : valueBy cubeKids (W v) ks ≡ valueFor cubeKids (W v) ks =
       kids-value cubeKids tallest kids-fit kids-some v ks n (g .content) (λ y a b. g .inv .counts .named y a (omega (arith, total-append kidWords (cap v) (W v) y ks []))) in
-      let hl = lowers cubeKids tallest t kids-fit two w x small d c a j h q p o l low b cell tall room few held r in
+      let hl = lowers kids-fit two w x small d c a j h q p o l low b cell tall room few held r in
       rw (e, z, same)
-      (branch-same v (ks ++ []) ks h q (g .inv) (let y = g .lives in let k = r .grown .lives in let u = g .caps in let f = r .grown .caps in omega arith) ev
+      (branch-same (ks ++ []) ks h q (g .inv) (let y = g .lives in let k = r .grown .lives in let u = g .caps in let f = r .grown .caps in omega arith) ev
       (omega arith))
 
   -- the code's making is the definition's
@@ -277,7 +277,7 @@ module _ (tallest : ℕ) (high : tallest ≤ 900) (t : Tables) (w : WellFormed c
       (room : t .arena .live + k < cap t) (few : h ≤ mostHolds) (held : 1 ≤ h + q) (new : Out) where
     part-s : (s : ℕ) → Plan cubeKids (cap t) (W t) x p (part (W t) a c) (have s) → LiveOr0 (cap t) (W t) s
     part-s s u =
-        subst (λ (y : ℕ). LiveOr0 (cap t) (W t) y) (replace-same (part (W t) a) c s c refl) (parts-there cubeKids tallest t kids-fit kids-some w x d c a s p l low b cell u c b)
+        subst (λ (y : ℕ). LiveOr0 (cap t) (W t) y) (replace-same (part (W t) a) c s c refl) (parts-there kids-fit kids-some w x d c a s p l low b cell u c b)
 
     owed-live : (s : ℕ) → LiveOr0 (cap t) (W t) s → (y : ℕ) → y ≢ 0 → 1 ≤ occ y (s ∷ []) → Live (cap t) (W t) y
     owed-live s (inl z) y e o = absurd (omega (arith, occ-there y s [] (λ q. e (q ∙ z)), occ-nil y))
@@ -285,30 +285,30 @@ module _ (tallest : ℕ) (high : tallest ≤ 900) (t : Tables) (w : WellFormed c
 
     step-have : (s : ℕ) → Plan cubeKids (cap t) (W t) x p (part (W t) a c) (have s) → needOf cubeKids t (replace (part (W t) a) c s) ≡ lack k
         → makeBy t x (c ∷ p) a (upPlan t (eightParts (W t) a) c (planned 0 s)) h q
-        ≡ over cubeKids tallest t kids-fit two w x small c a h q (said 0 s (owed t s))
+        ≡ over kids-fit two w x small c a h q (said 0 s (owed t s))
     step-have s u e =
-        let r = low-have cubeKids tallest t kids-fit two w x small d c a s k p l low b cell u e in
+        let r = low-have kids-fit two w x small d c a s k p l low b cell u e in
         let one = r .1 in
         let f = replace (part (W t) a) c s in
-        let z : upPlan t (eightParts (W t) a) c (planned 0 s) ≡ planned 1 s = up-have tallest t w x small a c s b ∙ ⊎-elim (λ y. absurd (have-lack (sym (y .1) ∙ e))) (λ y. y .1) (need-by tallest t w f s) in
+        let z : upPlan t (eightParts (W t) a) c (planned 0 s) ≡ planned 1 s = up-have w x small a c s b ∙ ⊎-elim (λ y. absurd (have-lack (sym (y .1) ∙ e))) (λ y. y .1) (need-by w f s) in
         let o : makeBy t x p (part (W t) a c) (planned 0 s) 0 1 ≡ said 0 s (owed t s) =
         make-zero t x p (part (W t) a c) s 0 1
-        ∙ ap (said 0 s) (each-same (s ∷ []) t [] (omega arith) inv (owed-live s (part-s s u)) ∙ each-cons t s [] ∙ each-nil (owed t s)) in
+        ∙ ap (said 0 s) (each-same (s ∷ []) [] (omega arith) inv (owed-live s (part-s s u)) ∙ each-cons t s [] ∙ each-nil (owed t s)) in
         rw z (make-more t x c p a 0 s h q ∙ ap (λ (y : Out). upBy y (eightParts (W t) a) c h q) o
         ∙ over-same d c a 0 h q p (said 0 s (owed t s)) l low b cell tall (omega arith) few held (r .0))
 
     step-lack : (j s : ℕ) → 1 ≤ j → j ≤ 1000 → suc j ≡ k → Done cubeKids tallest t x p (part (W t) a c) j 0 1 new → makeBy t x p (part (W t) a c) (planned j s) 0 1 ≡ new
         → makeBy t x (c ∷ p) a (upPlan t (eightParts (W t) a) c (planned j s)) h q
-        ≡ over cubeKids tallest t kids-fit two w x small c a h q new
+        ≡ over kids-fit two w x small c a h q new
     step-lack j s one top e done ih =
-        rw (up-lack tallest t w x small a c j s one top) (make-more t x c p a j s h q ∙ ap (λ (y : Out). upBy y (eightParts (W t) a) c h q) ih
-        ∙ over-same d c a j h q p new l low b cell tall (omega arith) few held (low-lack cubeKids tallest t kids-fit two w x small d c a j p new l b done))
+        rw (up-lack w x small a c j s one top) (make-more t x c p a j s h q ∙ ap (λ (y : Out). upBy y (eightParts (W t) a) c h q) ih
+        ∙ over-same d c a j h q p new l low b cell tall (omega arith) few held (low-lack kids-fit two w x small d c a j p new l b done))
 
     step-same : (B : ℕ) (bp : planning.Plan) (r : Need) → B ≤ 1000 → Agree B bp r → Plan cubeKids (cap t) (W t) x p (part (W t) a c) r
         → ((j : ℕ) → r ≡ lack j → t .arena .live + j < cap t → Done cubeKids tallest t x p (part (W t) a c) j 0 1 new)
         → ((j : ℕ) → r ≡ lack j → t .arena .live + j < cap t → makeBy t x p (part (W t) a c) bp 0 1 ≡ new)
         → upNeed (λ s. needOf cubeKids t (replace (part (W t) a) c s)) r ≡ lack k
-        → makeBy t x (c ∷ p) a (upPlan t (eightParts (W t) a) c bp) h q ≡ over cubeKids tallest t kids-fit two w x small c a h q (lowOf t r new)
+        → makeBy t x (c ∷ p) a (upPlan t (eightParts (W t) a) c bp) h q ≡ over kids-fit two w x small c a h q (lowOf t r new)
     unfolding upNeed lowOf
     step-same B bp r top (agree-have {r = s}) u done ih e = step-have s u e
     step-same B bp r top (agree-lack {k = j} {s = s} one most) u done ih e =
@@ -316,14 +316,14 @@ module _ (tallest : ℕ) (high : tallest ≤ 900) (t : Tables) (w : WellFormed c
         step-lack j s one (omega arith) z (done j refl (omega arith)) (ih j refl (omega arith))
 
   leaf-case : (a k h q : ℕ) → cellNeed t x ≡ lack k → t .arena .live + k < cap t → makeBy t x [] a (cellPlan t x) h q ≡ leafAnew t x h q
-  leaf-case a k h q e room = go (cell-came cubeKids tallest t kids-fit kids-some w x) (cell-agree tallest t w x small)
+  leaf-case a k h q e room = go (cell-came kids-fit kids-some w x) (cell-agree w x small)
     where
       go : Cell-came cubeKids t x → Agree 1 (cellPlan t x) (cellNeed t x) → makeBy t x [] a (cellPlan t x) h q ≡ leafAnew t x h q
       go (cell-none z r) g = absurd (have-lack (sym r ∙ e))
       go (cell-leaf r d y s) g = absurd (have-lack (sym s ∙ e))
       go (cell-lack d z y s) g =
           let one : 1 ≡ k = lack-inj (sym s ∙ e) in
-          rw (lack-plan tallest t w x d z) (make-leaf t x a 0 0 h q ∙ leaf-same t [] x h q inv (omega arith))
+          rw (lack-plan w x d z) (make-leaf t x a 0 0 h q ∙ leaf-same [] x h q inv (omega arith))
 
   pub make-same : {d : ℕ} {p : List ℕ} (a k h q : ℕ) → LiveOr0 (cap t) (W t) a → heightAt (W t) a ≤ d → d ≤ tallest → Cell cubeKids d p
       → planOf cubeKids t x p a ≡ lack k → t .arena .live + k < cap t → h ≤ mostHolds → 1 ≤ h + q
@@ -334,7 +334,7 @@ module _ (tallest : ℕ) (high : tallest ≤ 900) (t : Tables) (w : WellFormed c
       let lb = part-there cubeKids (cap t) (W t) made a c l b in
       let hb = part-low cubeKids (cap t) (W t) made a c l b d low in
       step-same d c a k h q p l low b cell tall room few held (makeOf cubeKids t x p (part (W t) a c) 0 1)
-      (suc d) (planBy t x p (part (W t) a c)) (planOf cubeKids t x p (part (W t) a c)) (omega arith) (plan-agree tallest t w x small (part (W t) a c) (omega arith) cell)
-      (plan-is cubeKids tallest t kids-fit kids-some w x (part (W t) a c) lb hb cell)
-      (λ j z y. make-done cubeKids tallest t kids-fit two w x small (part (W t) a c) j 0 1 lb hb (omega arith) cell z y (omega arith) (omega arith))
+      (suc d) (planBy t x p (part (W t) a c)) (planOf cubeKids t x p (part (W t) a c)) (omega arith) (plan-agree w x small (part (W t) a c) (omega arith) cell)
+      (plan-is kids-fit kids-some w x (part (W t) a c) lb hb cell)
+      (λ j z y. make-done kids-fit two w x small (part (W t) a c) j 0 1 lb hb (omega arith) cell z y (omega arith) (omega arith))
       (λ j z y. make-same (part (W t) a c) j 0 1 lb hb (omega arith) cell z y (omega arith) (omega arith)) e

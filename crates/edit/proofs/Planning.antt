@@ -77,7 +77,7 @@ pub data Came (n : ℕ) (t : Tables) (f : ℕ → ℕ) : Type 0 where
   came-node : (r : ℕ) → Mixed n f → Has n (cap t) (W t) f r → needOf n t f ≡ have r → Came n t f
   came-lack : Mixed n f → branchSlot t (wordsOf n f) ≡ 0 → ((r : ℕ) → ¬ (Has n (cap t) (W t) f r)) → needOf n t f ≡ lack 1 → Came n t f
 
-module _ (n tallest : ℕ) (t : Tables) (m : n ≤ kidWords) (pos : 1 ≤ n) (w : WellFormed n tallest t) where
+module _ {n tallest : ℕ} {t : Tables} (m : n ≤ kidWords) (pos : 1 ≤ n) (w : WellFormed n tallest t) where
   -- a live id has the leaf flag exactly if it is a leaf's
   flag-leaf : (a : ℕ) → LiveOr0 (cap t) (W t) a → isLeaf a ≡ true → Leaf a
   flag-leaf a (inl z) e = absurd (true≢false (sym e ∙ ap isLeaf z ∙ nothing-flag))
@@ -90,7 +90,7 @@ module _ (n tallest : ℕ) (t : Tables) (m : n ≤ kidWords) (pos : 1 ≤ n) (w 
 
       branch-no : Branch a → isLeaf a ≡ false
       branch-no b =
-          let v = branch-node n tallest (cap t) (W t) m (w .sized .most) (wf-content n tallest t w) a l b in
+          let v = branch-node n tallest (cap t) (W t) m (w .sized .most) (wf-content w) a l b in
           let low = l .low in
           let most = w .sized .most in
           ap isLeaf (sym (l .is) ∙ v .id) ∙ branch-flag (W t) (slot a) (generationOf (W t (slot a) own)) (omega arith) (gen-small (W t (slot a) own))
@@ -98,14 +98,14 @@ module _ (n tallest : ℕ) (t : Tables) (m : n ≤ kidWords) (pos : 1 ≤ n) (w 
   leaf-flagged : (a : ℕ) → LiveOr0 (cap t) (W t) a → Leaf a → isLeaf a ≡ true
   leaf-flagged a (inl z) h = absurd (omega arith)
   leaf-flagged a (inr l) h =
-      let v = leaf-node n tallest (cap t) (W t) m (w .sized .most) (wf-content n tallest t w) a l h in
+      let v = leaf-node n tallest (cap t) (W t) m (w .sized .most) (wf-content w) a l h in
       let low = l .low in
       let most = w .sized .most in
       ap isLeaf (sym (l .is) ∙ v .id) ∙ leaf-flag (slot a) (generationOf (W t (slot a) own)) (omega arith) (gen-small (W t (slot a) own))
 
   own-live : (s : ℕ) → LiveSlot t s → Live (cap t) (W t) (W t s own) × (slot (W t s own) ≡ s)
   own-live s l =
-      let i = wf-inv n tallest t m w in
+      let i = wf-inv m w in
       (live-own kidWords (cap t) (W t) [] (i .counts) s (l .0) (l .1), i .counts .ids s (l .0) (l .1))
 
   module _ (f : ℕ → ℕ) (there : (i : ℕ) → i < n → LiveOr0 (cap t) (W t) (f i)) where
@@ -127,7 +127,7 @@ module _ (n tallest : ℕ) (t : Tables) (m : n ≤ kidWords) (pos : 1 ≤ n) (w 
         kids-branch : (a : ℕ) → Live (cap t) (W t) a → ((i : ℕ) → i < n → W t (slot a) i ≡ f i) → ¬ (All n f 0) → Branch a
         kids-branch a l at d = ⊎-elim
             (λ z. absurd (d z))
-            (λ z. let b = z .1 in is-branch n tallest (cap t) (W t) m (w .sized .most) (wf-content n tallest t w) a (z .0) l (omega arith) (λ q. z .2 (sym (at (z .0) (z .1)) ∙ q)))
+            (λ z. let b = z .1 in is-branch n tallest (cap t) (W t) m (w .sized .most) (wf-content w) a (z .0) l (omega arith) (λ q. z .2 (sym (at (z .0) (z .1)) ∙ q)))
             (first n)
 
     mixed : allOf (eqb 0) (tabFrom n 0 f) ≡ false → oneLeaf n f ≡ false → Mixed n f
@@ -145,7 +145,7 @@ module _ (n tallest : ℕ) (t : Tables) (m : n ≤ kidWords) (pos : 1 ≤ n) (w 
     -- and the branch that has the parts is a live slot with those eight words
     slot-lack : Mixed n f → branchSlot t (wordsOf n f) ≡ 0 → (r : ℕ) → ¬ (Has n (cap t) (W t) f r)
     slot-lack x z r h =
-        let v = branch-node n tallest (cap t) (W t) m (w .sized .most) (wf-content n tallest t w) r (h .live) (h .isBranch) in
+        let v = branch-node n tallest (cap t) (W t) m (w .sized .most) (wf-content w) r (h .live) (h .isBranch) in
         let o = h .live .is in
         let g = h .live .high in
         let ground = w .chain .ground in
@@ -187,13 +187,13 @@ pub data Cell-came (n : ℕ) (t : Tables) (x : ℕ) : Type 0 where
   cell-leaf : (r : ℕ) → x ≢ 0 → HasValue (cap t) (W t) x r → cellNeed t x ≡ have r → Cell-came n t x
   cell-lack : x ≢ 0 → leafSlot t x ≡ 0 → ((r : ℕ) → ¬ (HasValue (cap t) (W t) x r)) → cellNeed t x ≡ lack 1 → Cell-came n t x
 
-module _ (n tallest : ℕ) (t : Tables) (m : n ≤ kidWords) (pos : 1 ≤ n) (w : WellFormed n tallest t) (x : ℕ) where
+module _ {n tallest : ℕ} {t : Tables} (m : n ≤ kidWords) (pos : 1 ≤ n) (w : WellFormed n tallest t) (x : ℕ) where
   slot-value : x ≢ 0 → leafSlot t x ≢ 0 → HasValue (cap t) (W t) x (W t (leafSlot t x) own)
   unfolding valueAt
   slot-value d z =
-      let q = leaf-slot n tallest t m w x d z in
-      let b = leaf-in n tallest t m w x d (leafSlot t x) (q .0) (q .1) in
-      let o = own-live n tallest t m pos w (leafSlot t x) (b .0) in
+      let q = leaf-slot m w x d z in
+      let b = leaf-in m w x d (leafSlot t x) (q .0) (q .1) in
+      let o = own-live m pos w (leafSlot t x) (b .0) in
       let f = b .1 in
       record {
         live = o .0;
@@ -211,7 +211,7 @@ module _ (n tallest : ℕ) (t : Tables) (m : n ≤ kidWords) (pos : 1 ≤ n) (w 
       (λ (q : slot r ≡ 0). let y : W t (slot r) own ≡ 0 = ap (λ (b : ℕ). W t b own) q ∙ ground in let p = floor-pos in omega arith))
     where
       value-in : (r : ℕ) → HasValue (cap t) (W t) x r → leafIn t x (slot r) ≡ true
-      value-in r h = leaf-found t x r (h .live .is) (live-nonzero (h .live)) (leaf-flagged n tallest t m pos w r (inr (h .live)) (h .isLeaf)) (h .value)
+      value-in r h = leaf-found t x r (h .live .is) (live-nonzero (h .live)) (leaf-flagged m pos w r (inr (h .live)) (h .isLeaf)) (h .value)
 
   pub cell-came : Cell-came n t x
   unfolding cellNeed
@@ -236,7 +236,7 @@ module _ (n tallest : ℕ) (t : Tables) (m : n ≤ kidWords) (pos : 1 ≤ n) (w 
   need-plan c a s p u (came-lack x z h e) = rw e (plan-branch u x h)
 
   abbrev made : WellMade n (cap t) (W t)
-  made = wf-made n tallest t m w
+  made = wf-made m w
 
   -- the parts with one replaced are EMPTY or live
   pub parts-there : (d c a s : ℕ) (p : List ℕ) → LiveOr0 (cap t) (W t) a → heightAt (W t) a ≤ suc d → c < n → Cell n d p
@@ -251,7 +251,7 @@ module _ (n tallest : ℕ) (t : Tables) (m : n ≤ kidWords) (pos : 1 ≤ n) (w 
       → Plan n (cap t) (W t) x (c ∷ p) a (upNeed (λ s. needOf n t (replace (part (W t) a) c s)) r)
   unfolding upNeed
   plan-up d c a p l h k q (have s) u =
-      need-plan c a s p u (need-came n tallest t m pos w (replace (part (W t) a) c s) (parts-there d c a s p l h k q u))
+      need-plan c a s p u (need-came m pos w (replace (part (W t) a) c s) (parts-there d c a s p l h k q u))
   plan-up d c a p l h k q (lack j) u = plan-more u
 
   -- the dry run of the definition is the plan

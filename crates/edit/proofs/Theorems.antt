@@ -60,8 +60,8 @@ module _ {n tallest : ℕ} {t : Tables} {root d : ℕ} {cell : List ℕ} (q : Po
       → Anew n c W′ v cell root r → Lacks n c (W t) W′ r k
   lack-right k r c W′ e h w′ g a =
       let bare = tables-bare (t .nodes) (cap t) (q .well .sized .facts) in
-      plan-lack n c (q .several) (W t) W′ (made-more h bare (wf-made n tallest t (q .words) (q .well))) w′ g v (there-more h (q .there)) low (q .cell-is)
-      (plan-wider h bare (rw e at (plan-is n tallest t (q .words) (omega arith) (q .well) v root (q .there) low (q .cell-is)))) a
+      plan-lack n c (q .several) (W t) W′ (made-more h bare (wf-made (q .words) (q .well))) w′ g v (there-more h (q .there)) low (q .cell-is)
+      (plan-wider h bare (rw e at (plan-is (q .words) (omega arith) (q .well) v root (q .there) low (q .cell-is)))) a
 
   pub past-no : cellNo n t root d cell v ≡ grantNo t (resultOf n t v cell root)
   unfolding cellNo
@@ -90,36 +90,36 @@ module _ {n tallest : ℕ} {t : Tables} {root d : ℕ} {cell : List ℕ} (q : Po
 
 -- ## Canonicity: what shows the same cube is the same id
 
-pub one-id : {tallest d : ℕ} (t : Tables) → WellFormed cubeKids tallest t → d ≤ deepest → (a b : ℕ) → Root cubeKids (cap t) d (W t) a → Root cubeKids (cap t) d (W t) b
+pub one-id : {tallest d : ℕ} {t : Tables} → WellFormed cubeKids tallest t → d ≤ deepest → (a b : ℕ) → Root cubeKids (cap t) d (W t) a → Root cubeKids (cap t) d (W t) b
     → ((c : At d) → lookOf t a d (spot c) .value ≡ lookOf t b d (spot c) .value) → a ≡ b
-one-id {tallest} {d} t w h a b ra rb same = canon cubeKids (cap t) (W t) (wf-made cubeKids tallest t (omega arith) w) (omega arith) d a b ra rb
+one-id {d} {t} w h a b ra rb same = canon cubeKids (cap t) (W t) (wf-made (omega arith) w) (omega arith) d a b ra rb
     (λ q c.
     let k = cube-onto c in
     let at : At d = record { x = k .x; y = k .y; z = k .z; in-x = k .small-x; in-y = k .small-y; in-z = k .small-z } in
     subst (λ (l : List ℕ). look (W t) l a ≡ look (W t) l b) (k .path)
-    (sym (look-at t w h a (ra .there) at .value) ∙ same at ∙ look-at t w h b (rb .there) at .value))
+    (sym (look-at w h a (ra .there) at .value) ∙ same at ∙ look-at w h b (rb .there) at .value))
 
 -- ## An edit of a cell of a cube
 
 -- an accepted edit, with the capacity that the tables had at the start
-pub cell-edited : {d : ℕ} (c₀ : ℕ) (t : Tables) → WellFormed cubeKids deepest t → cap t ≡ c₀ → (a : ℕ) (c : At d) (v : ℕ) → v ≤ largestValue → editNo t a d (spot c) v ≡ 0
+pub cell-edited : {d : ℕ} (c₀ : ℕ) {t : Tables} → WellFormed cubeKids deepest t → cap t ≡ c₀ → (a : ℕ) (c : At d) (v : ℕ) → v ≤ largestValue → editNo t a d (spot c) v ≡ 0
     → Edited cubeKids c₀ d (W t) a (way c) v (W (then t a c v)) (gives t a c v)
 unfolding whole
-cell-edited {d} c₀ t w e a c v h ok =
-    subst (λ (k : ℕ). Edited cubeKids k d (W t) a (way c) v (W (then t a c v)) (gives t a c v)) e (edit-right t w a d (spot c) v h ok .edited)
+cell-edited {d} c₀ {t} w e a c v h ok =
+    subst (λ (k : ℕ). Edited cubeKids k d (W t) a (way c) v (W (then t a c v)) (gives t a c v)) e (edit-right w a d (spot c) v h ok .edited)
 
 apart-way : {d : ℕ} (c e : At d) → Apart c e → way c ≢ way e
 apart-way {d} c e h k = h (cube-one d (c .in-x) (c .in-y) (c .in-z) (e .in-x) (e .in-y) (e .in-z) k)
 
 -- ## Lookup after an accepted edit
 
-pub edit-reads : {d : ℕ} (t : Tables) → WellFormed cubeKids deepest t → (a : ℕ) (c : At d) (v : ℕ) → v ≤ largestValue → editNo t a d (spot c) v ≡ 0
+pub edit-reads : {d : ℕ} {t : Tables} → WellFormed cubeKids deepest t → (a : ℕ) (c : At d) (v : ℕ) → v ≤ largestValue → editNo t a d (spot c) v ≡ 0
     → Reads t a c v (then t a c v) (gives t a c v)
-edit-reads {d} t w a c v high ok =
-    let s = edit-right t w a d (spot c) v high ok in
+edit-reads {d} {t} w a c v high ok =
+    let s = edit-right w a d (spot c) v high ok in
     let u = then t a c v in
     let r = gives t a c v in
-    let e = cell-edited (cap t) t w refl a c v high ok in
+    let e = cell-edited (cap t) w refl a c v high ok in
     let z = s .size in
     let past = accepted-past t a d (spot c) v ok in
     let h = deep t a d (spot c) (past .0) in
@@ -128,12 +128,12 @@ edit-reads {d} t w a c v high ok =
     let elsewhere : (i : At d) → Apart i c → look (W u) (way i) r ≡ look (W t) (way i) a =
     (λ i q. e .others (way i) (cube-cell d (i .x) (i .y) (i .z)) (apart-way i c q)) in
     record {
-      at = answers-as (look-at u (s .well) h r there′ c) (e .changed);
-      elsewhere = λ i q. answers-alike (look-at u (s .well) h r there′ i) (look-at t w h a there i) (elsewhere i q);
+      at = answers-as (look-at (s .well) h r there′ c) (e .changed);
+      elsewhere = λ i q. answers-alike (look-at (s .well) h r there′ i) (look-at w h a there i) (elsewhere i q);
       cube = λ g l m el em.
-          let x = expand-at t w g a there m em in
+          let x = expand-at w g a there m em in
           let old = expandOf t a d m .cube in
-          expand-list u (s .well) g r there′ l el (set old (standsAt c) v) (length-set old (standsAt c) v ∙ x .size)
+          expand-list (s .well) g r there′ l el (set old (standsAt c) v) (length-set old (standsAt c) v ∙ x .size)
           (λ i.
           one-set c v old (x .size) i (look (W u) (way i) r) (λ q. ap (λ (y : List ℕ). look (W u) y r) (way-one i c q) ∙ e .changed)
           (λ q. elsewhere i (stands-apart i c q) ∙ sym (x .cells i)));

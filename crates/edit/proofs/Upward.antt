@@ -102,18 +102,18 @@ pub record Low (n tallest : ℕ) (t : Tables) (x : ℕ) (p : List ℕ) (a c j : 
   pub only : (y : ℕ) → Live (cap t) (W (o .after)) y → Live (cap t) (W t) y ⊎ Below n (W (o .after)) (o .id) y
   pub lone : (s : ℕ) → LiveSlot (o .after) s → ((i : ℕ) → i < kidWords → W (o .after) s i ≡ getD (wordsOf n (replace (part (W t) a) c (o .id))) i 0) → ⊥
 
-module _ (n tallest : ℕ) (t : Tables) (m : n ≤ kidWords) (two : 1 < n) (w : WellFormed n tallest t) (x : ℕ) (small : x ≤ largestValue) where
+module _ {n tallest : ℕ} {t : Tables} (m : n ≤ kidWords) (two : 1 < n) (w : WellFormed n tallest t) (x : ℕ) (small : x ≤ largestValue) where
   pos : 1 ≤ n
   pos = omega arith
 
   made : WellMade n (cap t) (W t)
-  made = wf-made n tallest t m w
+  made = wf-made m w
 
   inv : Inv t []
-  inv = wf-inv n tallest t m w
+  inv = wf-inv m w
 
   con : Content n tallest (cap t) (W t)
-  con = wf-content n tallest t w
+  con = wf-content w
 
   -- every state on the way is well made
   grown-made : {u : Tables} {d : List ℕ} {k : ℕ} → Grown n tallest t u d k → WellMade n (cap t) (W u)
@@ -122,14 +122,14 @@ module _ (n tallest : ℕ) (t : Tables) (m : n ≤ kidWords) (two : 1 < n) (w : 
   -- ---- the leaf
   leaf-done : (a k h q : ℕ) → planOf n t x [] a ≡ lack k → t .arena .live + k < cap t → h ≤ mostHolds → 1 ≤ h + q → Done n tallest t x [] a k h q (makeOf n t x [] a h q)
   unfolding planOf makeOf
-  leaf-done a k h q e room few held = go (cell-came n tallest t m pos w x)
+  leaf-done a k h q e room few held = go (cell-came m pos w x)
     where
       go : Cell-came n t x → Done n tallest t x [] a k h q (leafAnew t x h q)
       go (cell-none z r) = absurd (have-lack (sym r ∙ e))
       go (cell-leaf r d g s) = absurd (have-lack (sym s ∙ e))
       go (cell-lack d z g s) =
           let one : 1 ≡ k = lack-inj (sym s ∙ e) in
-          let r = leaf-makes n tallest m t x h q inv con (omega arith) d small few held (leaf-alone n tallest t m w x d z) in
+          let r = leaf-makes n tallest m x h q inv con (omega arith) d small few held (leaf-alone m w x d z) in
           let g = r .grown in
           let f = r .fresh in
           let lu : Live (cap (leafAnew t x h q .after)) (W (leafAnew t x h q .after)) (leafAnew t x h q .id) =
@@ -153,19 +153,19 @@ module _ (n tallest : ℕ) (t : Tables) (m : n ≤ kidWords) (two : 1 < n) (w : 
   pub low-have : (d c a s k : ℕ) (p : List ℕ) → LiveOr0 (cap t) (W t) a → heightAt (W t) a ≤ suc d → c < n → Cell n d p
       → Plan n (cap t) (W t) x p (part (W t) a c) (have s) → needOf n t (replace (part (W t) a) c s) ≡ lack k
       → Low n tallest t x p a c 0 (said 0 s (owed t s)) × (1 ≡ k)
-  low-have d c a s k p l h b q u e = go (need-came n tallest t m pos w f there)
+  low-have d c a s k p l h b q u e = go (need-came m pos w f there)
     where
       f : ℕ → ℕ
       f = replace (part (W t) a) c s
 
       there : (i : ℕ) → i < n → LiveOr0 (cap t) (W t) (f i)
-      there = parts-there n tallest t m pos w x d c a s p l h b q u
+      there = parts-there m pos w x d c a s p l h b q u
 
       part-s : LiveOr0 (cap t) (W t) s
       part-s = subst (λ (y : ℕ). LiveOr0 (cap t) (W t) y) (replace-same (part (W t) a) c s c refl) (there c b)
 
       g : Grown n tallest t (owed t s) (s ∷ []) 0
-      g = owed-grown n tallest m t [] inv con s part-s
+      g = owed-grown n tallest m [] inv con s part-s
 
       go : Came n t f → Low n tallest t x p a c 0 (said 0 s (owed t s)) × (1 ≡ k)
       go (came-none y z) = absurd (have-lack (sym z ∙ e))
@@ -190,7 +190,7 @@ module _ (n tallest : ℕ) (t : Tables) (m : n ≤ kidWords) (two : 1 < n) (w : 
               let a = lv .0 in
               let b = lv .1 in
               let lt : LiveSlot t i = (omega arith, omega arith) in
-              let ground = not-ground n tallest t w empties x empties-length i lt in
+              let ground = not-ground w empties x empties-length i lt in
               slot-lone t (wordsOf n f) (words-length n f) z i lt (omega arith) (λ j k. sym (owed-word t s i j (omega arith)) ∙ same j k)
 
   -- ---- the part below was made
@@ -290,7 +290,7 @@ module _ (n tallest : ℕ) (t : Tables) (m : n ≤ kidWords) (two : 1 < n) (w : 
 
     pub placed : Grown n tallest u v (ks ++ []) 0
     placed =
-        grown-debt (each-grown n tallest m (set ks c 0) u (o .id ∷ []) (r .grown .inv) (r .grown .content) others-live) (ks ++ [])
+        grown-debt (each-grown n tallest m (set ks c 0) (o .id ∷ []) (r .grown .inv) (r .grown .content) others-live) (ks ++ [])
         (λ y e. omega (arith, occ-append y (set ks c 0) (o .id ∷ []), occ-append y ks [], occ-nil y, occ-set ks c (o .id) y (omega (arith, eight)) at-c e))
 
     pub some : noneOf ks ≡ false
@@ -323,7 +323,7 @@ module _ (n tallest : ℕ) (t : Tables) (m : n ≤ kidWords) (two : 1 < n) (w : 
 
     one : Makes-one n tallest v ks (valueFor n (W v) ks) h q (branchAnew n v ks h q)
     one =
-        branch-makes n tallest m pos v ks h q eight (words-past n f) some (placed .inv) (placed .content)
+        branch-makes n tallest m pos ks h q eight (words-past n f) some (placed .inv) (placed .content)
         (let e = placed .lives in let g = r .grown .lives in let y = placed .caps in let z = r .grown .caps in omega arith) lowers few held lone-v
 
     abbrev end : Out
@@ -357,7 +357,7 @@ module _ (n tallest : ℕ) (t : Tables) (m : n ≤ kidWords) (two : 1 < n) (w : 
     dead-end = cases (decLt (W t (slot (end .id)) own) floor) (λ z. z)
         (λ z.
         let s = slot (end .id) in
-        let i = wf-inv n tallest t m w in
+        let i = wf-inv m w in
         let low = live-end .low in
         let lv = live-own kidWords (cap t) (W t) [] (i .counts) s low (omega arith) in
         let e = i .counts .ids s low (omega arith) in
@@ -421,6 +421,6 @@ module _ (n tallest : ℕ) (t : Tables) (m : n ≤ kidWords) (two : 1 < n) (w : 
   make-done a k h q l low tall here e room few held = leaf-done a k h q e room few held
   make-done a k h q l low tall (down {d = d} {c = c} {p = p} b cell) e room few held =
       up-step d c a k h q p l low b cell tall (planOf n t x p (part (W t) a c)) (makeOf n t x p (part (W t) a c) 0 1)
-      (plan-is n tallest t m pos w x (part (W t) a c) (part-there n (cap t) (W t) made a c l b) (part-low n (cap t) (W t) made a c l b d low) cell)
+      (plan-is m pos w x (part (W t) a c) (part-there n (cap t) (W t) made a c l b) (part-low n (cap t) (W t) made a c l b d low) cell)
       (λ j z y. make-done (part (W t) a c) j 0 1 (part-there n (cap t) (W t) made a c l b) (part-low n (cap t) (W t) made a c l b d low) (omega arith) cell z y (omega arith) (omega arith))
       e room few held

@@ -40,17 +40,17 @@ module _ (s : State) (w : WellFormed cubeKids deepest (s .tables)) (alone : Alon
 
   edited-well : WellFormed cubeKids deepest (edited .after)
   unfolding edited editIn
-  edited-well = edit-does (s .tables) w (s .root) recordDepth p v small .well
+  edited-well = edit-does w (s .root) recordDepth p v small .well
 
   edited-holds : (y : ℕ) → holdsOn (edited .after) y ≡ on y (s .root) + ifAccepted edited (on y (edited .id))
   unfolding edited editIn
-  edited-holds y = omega (arith, edit-does (s .tables) w (s .root) recordDepth p v small .balance y, alone y)
+  edited-holds y = omega (arith, edit-does w (s .root) recordDepth p v small .balance y, alone y)
 
   still-held : Held (edited .after) (s .root)
   still-held = cases (ℕ-discrete (s .root) 0) (λ z. inl z) (λ z. inr (omega (arith, edited-holds (s .root), on-same (s .root) (s .root) z refl)))
 
   old-released : releaseOf deepest (edited .after) (s .root) .no ≡ 0
-  old-released = held-released cubeKids deepest m8 (edited .after) edited-well (s .root) still-held
+  old-released = held-released m8 edited-well (s .root) still-held
 
   step-alone : Alone (stepTo s edited)
   step-alone = cases (ℕ-discrete (edited .no) 0)
@@ -58,7 +58,7 @@ module _ (s : State) (w : WellFormed cubeKids deepest (s .tables)) (alone : Alon
       let o = releaseOf deepest (edited .after) (s .root) in
       omega (
         arith,
-        release-does cubeKids deepest m8 (edited .after) edited-well (s .root) .balance y,
+        release-does m8 edited-well (s .root) .balance y,
         accepted o (on y (s .root)) old-released,
         edited-holds y,
         accepted edited (on y (edited .id)) z,
@@ -78,7 +78,7 @@ module _ (s : State) (w : WellFormed cubeKids deepest (s .tables)) (alone : Alon
       let t = stateAt s b n in
       let u = records-well s b bytes w n in
       let a = records-alone n in
-      record { alone = a; lives = alone-lives cubeKids deepest m8 (t .tables) u (t .root) a; counted = alone-counted cubeKids deepest m8 (t .tables) u (t .root) a }
+      record { alone = a; lives = alone-lives m8 u (t .root) a; counted = alone-counted m8 u (t .root) a }
 
   releases : (n : ℕ) → OldReleased (stateAt s b n) (cellIn b n) (valueIn b n)
   unfolding edited

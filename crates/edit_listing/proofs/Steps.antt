@@ -34,13 +34,13 @@ release-unsized : (t : Tables) (id : ℕ) → fits t ≡ false → releaseOf dee
 unfolding releaseOf releaseNo
 release-unsized t id f = rw f
 
-pub edit-fair : (t : Tables) (root d : ℕ) (p : IVec3) (v : ℕ) → v < 65536 → Fair cubeKids deepest t → Fair cubeKids deepest (editOf t root d p v .after)
-edit-fair t root d p v h (inl f) = inl (ap (λ (o : Out). fits (o .after)) (edit-unfit t root d p v f) ∙ f)
-edit-fair t root d p v h (inr w) = inr (edit-well t w root d p v (omega arith))
+pub edit-fair : {t : Tables} (root d : ℕ) (p : IVec3) (v : ℕ) → v < 65536 → Fair cubeKids deepest t → Fair cubeKids deepest (editOf t root d p v .after)
+edit-fair {t} root d p v h (inl f) = inl (ap (λ (o : Out). fits (o .after)) (edit-unfit t root d p v f) ∙ f)
+edit-fair root d p v h (inr w) = inr (edit-well w root d p v (omega arith))
 
-pub release-fair : (t : Tables) (id : ℕ) → Fair cubeKids deepest t → Fair cubeKids deepest (releaseOf deepest t id .after)
-release-fair t id (inl f) = inl (ap fits (release-unsized t id f) ∙ f)
-release-fair t id (inr w) = inr (release-well cubeKids deepest t id (omega arith) w)
+pub release-fair : {t : Tables} (id : ℕ) → Fair cubeKids deepest t → Fair cubeKids deepest (releaseOf deepest t id .after)
+release-fair {t} id (inl f) = inl (ap fits (release-unsized t id f) ∙ f)
+release-fair id (inr w) = inr (release-well id (omega arith) w)
 
 -- ---- accepted, and refused
 
@@ -69,7 +69,7 @@ module _ (run : Run) (k f e : List ℕ) (p : IVec3) (v : ℕ) (small : v < 65536
     (edited : Fair cubeKids deepest (tables (run .arena) k f e) → madeOf m k₁ f₁ e₁ ≡ editOf (tables (run .arena) k f e) (run .root .0) recordDepth p v)
     (j : ℕ) (more : j ≡ (run .count + 1) % 2 ^ 64) where
   after-edit : Fair cubeKids deepest (tables (run .arena) k f e) → Fair cubeKids deepest (tables (m .arena) k₁ f₁ e₁)
-  after-edit fair = subst (λ (o : Out). Fair cubeKids deepest (o .after)) (sym (edited fair)) (edit-fair (tables (run .arena) k f e) (run .root .0) recordDepth p v small fair)
+  after-edit fair = subst (λ (o : Out). Fair cubeKids deepest (o .after)) (sym (edited fair)) (edit-fair (run .root .0) recordDepth p v small fair)
 
   pub once-refused : (m .no ≡ 0 → ⊥) → Fair cubeKids deepest (tables (run .arena) k f e)
       → Fair cubeKids deepest (tables (m .arena) k₁ f₁ e₁)
@@ -89,7 +89,7 @@ module _ (run : Run) (k f e : List ℕ) (p : IVec3) (v : ℕ) (small : v < 65536
   once-accepted z r k₂ f₂ e₂ released fair =
       let t = tables (m .arena) k₁ f₁ e₁ in
       let q = released cubeKids deepest (omega arith) (omega arith) (after-edit fair) in (
-        subst (λ (o : Out). Fair cubeKids deepest (o .after)) (sym q) (release-fair t (run .root .0) (after-edit fair)),
+        subst (λ (o : Out). Fair cubeKids deepest (o .after)) (sym q) (release-fair (run .root .0) (after-edit fair)),
         ap (λ (o : Out). record { state = record { tables = o .after; root = m .id .0; count = j }; no = 0 }) q
             ∙ ap (λ (i : ℕ). record { state = record { tables = releaseOf deepest t (run .root .0) .after; root = m .id .0; count = i }; no = 0 }) (count-by (run .count) j more)
             ∙ ap (λ (s : State). record { state = s; no = 0 }) (sym (step-accepted (stateOf run k f e) (madeOf m k₁ f₁ e₁) z))

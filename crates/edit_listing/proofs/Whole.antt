@@ -32,7 +32,7 @@ value-small b h i = omega (arith, h (8 * i + 6), h (8 * i + 6 + 1))
 
 pub step-well : (s : State) (o : Out) → WellFormed cubeKids deepest (o .after) → WellFormed cubeKids deepest (stepTo s o .tables)
 step-well s o w = cases (ℕ-discrete (o .no) 0)
-    (λ z. subst (λ (t : State). WellFormed cubeKids deepest (t .tables)) (sym (step-accepted s o z)) (release-well cubeKids deepest (o .after) (s .root) (omega arith) w))
+    (λ z. subst (λ (t : State). WellFormed cubeKids deepest (t .tables)) (sym (step-accepted s o z)) (release-well (s .root) (omega arith) w))
     (λ z. subst (λ (t : State). WellFormed cubeKids deepest (t .tables)) (sym (step-refused s o z)) w)
 
 -- well-formed tables are well formed after any number of records
@@ -41,7 +41,7 @@ unfolding stateAt stepOf editIn
 records-well s b h w zero = w
 records-well s b h w (suc n) =
     let t = stateAt s b n in
-    step-well t (editOf (t .tables) (t .root) recordDepth (cellIn b n) (valueIn b n)) (edit-well (t .tables) (records-well s b h w n) (t .root) recordDepth (cellIn b n) (valueIn b n) (value-small b h n))
+    step-well t (editOf (t .tables) (t .root) recordDepth (cellIn b n) (valueIn b n)) (edit-well (records-well s b h w n) (t .root) recordDepth (cellIn b n) (valueIn b n) (value-small b h n))
 
 -- so are those of a fresh arena over tables that fit
 pub start-well : (c : ℕ) (k f e : List ℕ) → fitOf c (length k) (length f) (length e) ≡ true → WellFormed cubeKids deepest (startOf c k f e .state .tables)

@@ -57,37 +57,37 @@ no-effect t g k eg ek y = omega (arith, eg y, ek y)
 hold-nothing : (t : Tables) (id k : ℕ) → ((y : ℕ) → ifAccepted (said k empty t) (on y id) ≡ 0) → HoldBalance id t (said k empty t)
 hold-nothing t id k z = no-effect t (λ y. ifAccepted (said k empty t) (on y id)) (λ y. 0) z (λ y. refl)
 
-node-held : (t : Tables) (id : ℕ) → Sized t → Lives t id → HoldBalance id t (said 0 empty (heldAt t (slot id)))
-node-held t id z v y = omega (arith, accepted (said 0 empty (heldAt t (slot id))) (on y id) refl, held-balance t (slot id) id z v refl y)
+node-held : {t : Tables} (id : ℕ) → Sized t → Lives t id → HoldBalance id t (said 0 empty (heldAt t (slot id)))
+node-held {t} id z v y = omega (arith, accepted (said 0 empty (heldAt t (slot id))) (on y id) refl, held-balance (slot id) id z v refl y)
 
-pub hold-balanced : (n tallest : ℕ) (t : Tables) → WellFormed n tallest t → (id : ℕ) → HoldBalance id t (holdOf t id)
-hold-balanced n tallest t w id =
+pub hold-balanced : {n tallest : ℕ} {t : Tables} → WellFormed n tallest t → (id : ℕ) → HoldBalance id t (holdOf t id)
+hold-balanced {t = t} w id =
     hold-ways (HoldBalance id t) t id (λ k d. hold-nothing t id k (λ y. unaccepted (said k empty t) (on y id) d))
-    (λ z. hold-nothing t id 0 (λ y. accepted (said 0 empty t) (on y id) refl ∙ on-zero y id z)) (λ z l. node-held t id (w .sized) (live-is t id l))
+    (λ z. hold-nothing t id 0 (λ y. accepted (said 0 empty t) (on y id) refl ∙ on-zero y id z)) (λ z l. node-held id (w .sized) (live-is t id l))
 
 -- ---- intern leaf
 
 -- the leaf that is there, held
-there-held : (t : Tables) (s id : ℕ) → Sized t → Lives t id → slot id ≡ s → LeafBalance t (said 0 id (heldAt t s))
-there-held t s id z l e y = omega (arith, accepted (said 0 id (heldAt t s)) (on y id) refl, held-balance t s id z l e y)
+there-held : {t : Tables} (s id : ℕ) → Sized t → Lives t id → slot id ≡ s → LeafBalance t (said 0 id (heldAt t s))
+there-held {t} s id z l e y = omega (arith, accepted (said 0 id (heldAt t s)) (on y id) refl, held-balance s id z l e y)
 
-module _ (n tallest : ℕ) (t : Tables) (m : n ≤ 8) (w : WellFormed n tallest t) (room : t .arena .live + 1 < cap t) where
+module _ {n tallest : ℕ} {t : Tables} (m : n ≤ 8) (w : WellFormed n tallest t) (room : t .arena .live + 1 < cap t) where
   pub leaf-one : (v : ℕ) → Fresh t (leafMade t v .after) (leafMade t v .id) empties v 1 0
   unfolding leafMade
-  leaf-one v = leaf-new t (wf-inv n tallest t m w) room v 1 0
+  leaf-one v = leaf-new (wf-inv m w) room v 1 0
 
   pub leaf-grew : (v : ℕ) → Grew t (leafMade t v .after)
-  leaf-grew v = new-grew t t (leafMade t v .after) (leafMade t v .id) empties v empties-length refl (λ b f l. refl) (leaf-one v)
+  leaf-grew v = new-grew t t (leafMade t v .id) empties v empties-length refl (λ b f l. refl) (leaf-one v)
 
   leaf-balance : (v y : ℕ) → holdsOn (leafMade t v .after) y + 0 ≡ holdsOn t y + on y (leafMade t v .id)
-  leaf-balance v y = new-balance t t (leafMade t v .after) (leafMade t v .id) empties v empties-length refl (λ b f l. refl) (leaf-one v) y 0 (λ l. omega arith) (λ d. refl)
+  leaf-balance v y = new-balance t t (leafMade t v .id) empties v empties-length refl (λ b f l. refl) (leaf-one v) y 0 (λ l. omega arith) (λ d. refl)
 
   -- the only new one; its content; and it was not there before
   pub leaf-adds : (v y : ℕ) → Lives (leafMade t v .after) y → (y ≡ leafMade t v .id) ⊎ Lives t y
-  leaf-adds v = new-only t t (leafMade t v .after) (leafMade t v .id) empties v empties-length refl (λ b f l. refl) (leaf-one v)
+  leaf-adds v = new-only t t (leafMade t v .id) empties v empties-length refl (λ b f l. refl) (leaf-one v)
 
   pub leaf-has : (v : ℕ) → HasContent (leafMade t v .after) (leafMade t v .id) empties v × (Lives t (leafMade t v .id) → ⊥)
-  leaf-has v = new-has t t (leafMade t v .after) (leafMade t v .id) empties v empties-length refl (λ b f l. refl) (leaf-one v)
+  leaf-has v = new-has t t (leafMade t v .id) empties v empties-length refl (λ b f l. refl) (leaf-one v)
 
   pub leaf-gens : (v b : ℕ) → generationOf (W (leafMade t v .after) b own) ≡ generationOf (W t b own)
   leaf-gens v = fresh-gens (leaf-one v)
@@ -99,16 +99,16 @@ leaf-nothing : (t : Tables) (k : ℕ) → k ≢ 0 → LeafBalance t (said k inva
 leaf-nothing t k d =
     no-effect t (λ y. ifAccepted (said k invalid t) (on y invalid)) (λ y. 0) (λ y. unaccepted (said k invalid t) (on y invalid) d) (λ y. refl)
 
-pub leaf-balanced : (n tallest : ℕ) (t : Tables) → n ≤ 8 → WellFormed n tallest t → (v : ℕ) → LeafBalance t (internLeafOf t v)
-leaf-balanced n tallest t m w v =
-    leaf-ways (LeafBalance t) t v (leaf-nothing t) (λ s r. leaf-made n tallest t m w (room-yes (t .arena) r) v)
+pub leaf-balanced : {n tallest : ℕ} {t : Tables} → n ≤ 8 → WellFormed n tallest t → (v : ℕ) → LeafBalance t (internLeafOf t v)
+leaf-balanced {t = t} m w v =
+    leaf-ways (LeafBalance t) t v (leaf-nothing t) (λ s r. leaf-made m w (room-yes (t .arena) r) v)
     (λ s.
-    let h = leaf-found n tallest t m w v s in
-    there-held t (leafSlot t v) (W t (leafSlot t v) own) (w .sized) (h .1 .live) (slot-own n tallest t m w (leafSlot t v) (h .0)))
+    let h = leaf-found m w v s in
+    there-held (leafSlot t v) (W t (leafSlot t v) own) (w .sized) (h .1 .live) (slot-own m w (leafSlot t v) (h .0)))
 
 -- ---- intern branch
 
-module _ (n tallest : ℕ) (t : Tables) (m : n ≤ 8) (w : WellFormed n tallest t) (ks : List ℕ) (e : length ks ≡ 8) (fine : Fine n tallest t ks) where
+module _ {n tallest : ℕ} {t : Tables} (m : n ≤ 8) (w : WellFormed n tallest t) (ks : List ℕ) (e : length ks ≡ 8) (fine : Fine n tallest t ks) where
   pub kid-lives : (y : ℕ) → y ≢ 0 → 1 ≤ occ y ks → Lives t y
   kid-lives y d o = live-is t y (alive t ks (fine .live) y d o)
 
@@ -168,7 +168,7 @@ module _ (n tallest : ℕ) (t : Tables) (m : n ≤ 8) (w : WellFormed n tallest 
 
   branch-held : branchSlot t ks ≢ 0 → BranchBalance ks t (branchHeld t ks)
   branch-held d =
-      let h = branch-found n tallest t m w ks e (fine .some) d in
+      let h = branch-found m w ks e (fine .some) d in
       let u = tablesOf (t .arena) (unheld (t .nodes) ks) (t .find) in
       let id = W t spotted own in
       λ y.
@@ -176,13 +176,13 @@ module _ (n tallest : ℕ) (t : Tables) (m : n ≤ 8) (w : WellFormed n tallest 
         arith,
         accepted (branchHeld t ks) (on y id) refl,
         accepted (branchHeld t ks) (used y) refl,
-        held-balance u spotted id eased-sized (eased-grew .stays id (h .1 .live) .0) (slot-own n tallest t m w spotted (h .0)) y,
+        held-balance spotted id eased-sized (eased-grew .stays id (h .1 .live) .0) (slot-own m w spotted (h .0)) y,
         eased-balance y,
       )
 
   -- on a fresh node they become places
   pub placings : Placing (t .arena) (t .nodes) (t .find) ks
-  placings = placing (t .arena) (t .find) ks (t .nodes) (omega arith) (wf-inv n tallest t m w) kid-lives
+  placings = placing (t .arena) (t .find) ks (t .nodes) (omega arith) (wf-inv m w) kid-lives
 
   abbrev put : Tables
   put = tablesOf (t .arena) (placed (t .nodes) ks) (t .find)
@@ -195,25 +195,25 @@ module _ (n tallest : ℕ) (t : Tables) (m : n ≤ 8) (w : WellFormed n tallest 
     unfolding branchMade
     branch-one =
         subst (λ (v : ℕ). Fresh put (branchAnew n put ks 1 0 .after) (branchAnew n put ks 1 0 .id) ks v 1 0)
-        (value-same n (W t) (W put) ks (λ b. placed-word b value (omega arith))) (branch-new n put ks e (fine .some) (placings .inv) room 1 0)
+        (value-same n (W t) (W put) ks (λ b. placed-word b value (omega arith))) (branch-new n ks e (fine .some) (placings .inv) room 1 0)
 
     pub branch-grew : Grew t (branchMade n t ks .after)
-    branch-grew = new-grew t put (branchMade n t ks .after) (branchMade n t ks .id) ks (valueFor n (W t) ks) e refl placed-word branch-one
+    branch-grew = new-grew t put (branchMade n t ks .id) ks (valueFor n (W t) ks) e refl placed-word branch-one
 
     branch-balance : (y : ℕ) → holdsOn (branchMade n t ks .after) y + used y ≡ holdsOn t y + on y (branchMade n t ks .id)
     branch-balance y =
-        new-balance t put (branchMade n t ks .after) (branchMade n t ks .id) ks (valueFor n (W t) ks) e refl placed-word branch-one y (used y)
+        new-balance t put (branchMade n t ks .id) ks (valueFor n (W t) ks) e refl placed-word branch-one y (used y)
         (λ v. let h = kid-held y v in omega (arith, used-live y v, placings .held (slot y), unheld-holds y (live-nonzero v) ks (each placedKid (t .nodes) ks) (apart y v)))
         (used-dead y)
 
     pub branch-adds : (y : ℕ) → Lives (branchMade n t ks .after) y → (y ≡ branchMade n t ks .id) ⊎ Lives t y
-    branch-adds = new-only t put (branchMade n t ks .after) (branchMade n t ks .id) ks (valueFor n (W t) ks) e refl placed-word branch-one
+    branch-adds = new-only t put (branchMade n t ks .id) ks (valueFor n (W t) ks) e refl placed-word branch-one
 
     pub branch-has : HasContent (branchMade n t ks .after) (branchMade n t ks .id) ks (valueFor n (W t) ks) × (Lives t (branchMade n t ks .id) → ⊥)
-    branch-has = new-has t put (branchMade n t ks .after) (branchMade n t ks .id) ks (valueFor n (W t) ks) e refl placed-word branch-one
+    branch-has = new-has t put (branchMade n t ks .id) ks (valueFor n (W t) ks) e refl placed-word branch-one
 
     pub branch-gens : (b : ℕ) → generationOf (W (branchMade n t ks .after) b own) ≡ generationOf (W t b own)
-    branch-gens = new-gens t put (branchMade n t ks .after) (branchMade n t ks .id) ks (valueFor n (W t) ks) e refl placed-word branch-one
+    branch-gens = new-gens t put (branchMade n t ks .id) ks (valueFor n (W t) ks) e refl placed-word branch-one
 
     branch-made : BranchBalance ks t (branchMade n t ks)
     branch-made y =
@@ -229,10 +229,10 @@ branch-nothing t ks k d =
     no-effect t (λ y. ifAccepted (said k invalid t) (on y invalid)) (λ y. ifAccepted (said k invalid t) (pick (eqb y 0) 0 (occ y ks)))
     (λ y. unaccepted (said k invalid t) (on y invalid) d) (λ y. unaccepted (said k invalid t) (pick (eqb y 0) 0 (occ y ks)) d)
 
-pub branch-balanced : (n tallest : ℕ) (t : Tables) → n ≤ 8 → WellFormed n tallest t → (ks : List ℕ) → length ks ≡ 8 → BranchBalance ks t (internBranchOf n tallest t ks)
-branch-balanced n tallest t m w ks e8 =
-    branch-ways (BranchBalance ks t) n tallest t ks (branch-nothing t ks) (λ f s r. branch-made n tallest t m w ks e8 f (room-yes (t .arena) r))
-    (branch-held n tallest t m w ks e8)
+pub branch-balanced : {n tallest : ℕ} {t : Tables} → n ≤ 8 → WellFormed n tallest t → (ks : List ℕ) → length ks ≡ 8 → BranchBalance ks t (internBranchOf n tallest t ks)
+branch-balanced {n} {tallest} {t} m w ks e8 =
+    branch-ways (BranchBalance ks t) n tallest t ks (branch-nothing t ks) (λ f s r. branch-made m w ks e8 f (room-yes (t .arena) r))
+    (branch-held m w ks e8)
 
 -- ---- release
 
@@ -251,7 +251,7 @@ less-there t id b d = put-slot (t .nodes) (slot id) holds (W t (slot id) holds -
 release-nothing : (t : Tables) (id k : ℕ) → ((y : ℕ) → ifAccepted (said k empty t) (on y id) ≡ 0) → ReleaseBalance id t (said k empty t)
 release-nothing t id k z = no-effect t (λ y. 0) (λ y. ifAccepted (said k empty t) (on y id)) (λ y. refl) z
 
-module _ (n tallest : ℕ) (t u : Tables) (id : ℕ) (r : Released n tallest t id u) (v : Lives t id) (held : W t (slot id) holds ≢ 0) where
+module _ {n tallest : ℕ} {t u : Tables} (id : ℕ) (r : Released n tallest t id u) (v : Lives t id) (held : W t (slot id) holds ≢ 0) where
   -- the hold given back, as many are left
   pub less-on : (y : ℕ) → Lives t y → W (lessOf holds t id) (slot y) holds + on y id ≡ W t (slot y) holds
   less-on y l = cases (ℕ-discrete (slot y) (slot id))
@@ -308,16 +308,16 @@ module _ (n tallest : ℕ) (t u : Tables) (id : ℕ) (r : Released n tallest t i
   node-released : ReleaseBalance id t (said 0 empty u)
   node-released y = omega (arith, accepted (said 0 empty u) (on y id) refl, released-balance y)
 
-pub release-balanced : (n tallest : ℕ) (t : Tables) → n ≤ 8 → WellFormed n tallest t → (id : ℕ) → ReleaseBalance id t (releaseOf tallest t id)
-release-balanced n tallest t m w id =
+pub release-balanced : {n tallest : ℕ} {t : Tables} → n ≤ 8 → WellFormed n tallest t → (id : ℕ) → ReleaseBalance id t (releaseOf tallest t id)
+release-balanced {n} {tallest} {t} m w id =
     release-ways tallest t id
     (λ f e. to e (release-nothing t id 1 (λ y. unaccepted (said 1 empty t) (on y id) (omega arith))))
     (λ f z e. to e (release-nothing t id 0 (λ y. accepted (said 0 empty t) (on y id) refl ∙ on-zero y id z)))
     (λ f z l e. to e (release-nothing t id 4 (λ y. unaccepted (said 4 empty t) (on y id) (omega arith))))
     (λ f z l r e. to e (release-nothing t id 5 (λ y. unaccepted (said 5 empty t) (on y id) (omega arith))))
     (λ f z l r k e.
-    let d : Released n tallest t id (takes (suc tallest) holds t id) = subst (λ (o : Out). Released n tallest t id (o .after)) e (release-released n tallest t id m w k z) in
-    to e (node-released n tallest t (takes (suc tallest) holds t id) id d (live-is t id l) r))
+    let d : Released n tallest t id (takes (suc tallest) holds t id) = subst (λ (o : Out). Released n tallest t id (o .after)) e (release-released id m w k z) in
+    to e (node-released id d (live-is t id l) r))
   where
     to : {o : Out} → releaseOf tallest t id ≡ o → ReleaseBalance id t o → ReleaseBalance id t (releaseOf tallest t id)
     to e x = subst (λ (o : Out). ReleaseBalance id t o) (sym e) x
@@ -325,10 +325,10 @@ release-balanced n tallest t m w id =
 -- ---- what a call of counts says
 
 -- The holds that counts answers are the holds on that id: of a live node, and 0 of EMPTY or where it refuses.
-pub counts-holds : (t : Tables) (y : ℕ) → Sized t → countsOf t y .holds ≡ holdsOn t y
+pub counts-holds : {t : Tables} (y : ℕ) → Sized t → countsOf t y .holds ≡ holdsOn t y
 unfolding countsOf
-counts-holds t y z =
-    let f = sized-fits t z in
+counts-holds {t} y z =
+    let f = sized-fits z in
     cases (ℕ-discrete y 0)
     (λ e. rw (f, eq-eqb y 0 e) (sym (holds-dead t y (λ v. live-nonzero v e))))
     (λ e. split (liveOf (cap t) (W t) y)
@@ -336,12 +336,12 @@ counts-holds t y z =
     (λ l. rw (f, ne-eqb y 0 e, l) (sym (holds-dead t y (λ v. true≢false (sym (live-true t y v) ∙ l))))))
 
 -- The places that counts answers of a live node are the true tally of the child places that name it.
-pub counts-places : (n tallest : ℕ) (t : Tables) → WellFormed n tallest t → (y : ℕ) → Lives t y → countsOf t y .places ≡ tally 8 (cap t) (W t) y
+pub counts-places : {n tallest : ℕ} {t : Tables} → WellFormed n tallest t → (y : ℕ) → Lives t y → countsOf t y .places ≡ tally 8 (cap t) (W t) y
 unfolding countsOf
-counts-places n tallest t w y v =
+counts-places {t = t} w y v =
     let i = v .is in
     let h = v .high in
-    rw (sized-fits t (w .sized), ne-eqb y 0 (live-nonzero v), live-true t y v) (w .tallied (slot y) (v .low, omega arith) ∙ ap (tally 8 (cap t) (W t)) i)
+    rw (sized-fits (w .sized), ne-eqb y 0 (live-nonzero v), live-true t y v) (w .tallied (slot y) (v .low, omega arith) ∙ ap (tally 8 (cap t) (W t)) i)
 
 -- ---- a fresh arena has no node
 
@@ -349,8 +349,8 @@ pub fresh-next : (c : ℕ) (k f e : List ℕ) → freshOf c k f e .after .arena 
 unfolding freshOf
 fresh-next c k f e = split (fitOf c (length k) (length f) (length e)) (λ r. rw r) (λ r. rw r)
 
-pub fresh-bare : (n tallest c : ℕ) (k f e : List ℕ) → WellFormed n tallest (freshOf c k f e .after) → (y : ℕ) → Lives (freshOf c k f e .after) y → ⊥
-fresh-bare n tallest c k f e w y v =
+pub fresh-bare : {n tallest : ℕ} (c : ℕ) (k f e : List ℕ) → WellFormed n tallest (freshOf c k f e .after) → (y : ℕ) → Lives (freshOf c k f e .after) y → ⊥
+fresh-bare c k f e w y v =
     let u = freshOf c k f e .after in
     let o : W u (slot y) own ≡ 0 = cases (ℕ-discrete (slot y) 0)
     (λ q. ap (λ (b : ℕ). W u b own) q ∙ w .chain .ground)

@@ -38,7 +38,7 @@ kids-length U s = tabFrom-length 8 0 (U s)
 pub lives-slot : (t : Tables) (y : ℕ) → Lives t y → LiveSlot t (slot y)
 lives-slot t y v = let i = v .is in let h = v .high in (v .low, omega arith)
 
-module _ (n tallest : ℕ) (t : Tables) (m : n ≤ 8) (w : WellFormed n tallest t) where
+module _ {n tallest : ℕ} {t : Tables} (m : n ≤ 8) (w : WellFormed n tallest t) where
   pub slot-own : (s : ℕ) → LiveSlot t s → slot (W t s own) ≡ s
   slot-own s l = node-slot m (l .0) (w .sized .most) (w .nodes s l)
 

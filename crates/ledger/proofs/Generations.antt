@@ -88,24 +88,24 @@ abbrev Gens : Tables → ℕ → Out → Type 0
 Gens t b o = generationOf (W (o .after) b own) ≡ generationOf (W t b own)
 
 -- interning and holding leave the generation of every slot, also of one that is given out
-pub leaf-same-gens : (n tallest : ℕ) (t : Tables) → n ≤ 8 → WellFormed n tallest t → (v b : ℕ) → generationOf (W (internLeafOf t v .after) b own) ≡ generationOf (W t b own)
-leaf-same-gens n tallest t m w v b =
-    leaf-ways (Gens t b) t v (λ k d. refl) (λ s r. leaf-gens n tallest t m w (room-yes (t .arena) r) v b) (λ s. ap generationOf (held-word t (leafSlot t v) b own (omega arith)))
+pub leaf-same-gens : {n tallest : ℕ} {t : Tables} → n ≤ 8 → WellFormed n tallest t → (v b : ℕ) → generationOf (W (internLeafOf t v .after) b own) ≡ generationOf (W t b own)
+leaf-same-gens {t = t} m w v b =
+    leaf-ways (Gens t b) t v (λ k d. refl) (λ s r. leaf-gens m w (room-yes (t .arena) r) v b) (λ s. ap generationOf (held-word t (leafSlot t v) b own (omega arith)))
 
-pub branch-same-gens : (n tallest : ℕ) (t : Tables) → n ≤ 8 → WellFormed n tallest t → (ks : List ℕ) → length ks ≡ 8 → (b : ℕ)
+pub branch-same-gens : {n tallest : ℕ} {t : Tables} → n ≤ 8 → WellFormed n tallest t → (ks : List ℕ) → length ks ≡ 8 → (b : ℕ)
     → generationOf (W (internBranchOf n tallest t ks .after) b own) ≡ generationOf (W t b own)
-branch-same-gens n tallest t m w ks e8 b =
-    branch-ways (Gens t b) n tallest t ks (λ k d. refl) (λ f s r. branch-gens n tallest t m w ks e8 f (room-yes (t .arena) r) b)
-    (λ f s. ap generationOf (held-word (tablesOf (t .arena) (unheld (t .nodes) ks) (t .find)) (branchSlot t ks) b own (omega arith) ∙ eased-word n tallest t m w ks e8 f b own (omega arith)))
+branch-same-gens {n} {tallest} {t} m w ks e8 b =
+    branch-ways (Gens t b) n tallest t ks (λ k d. refl) (λ f s r. branch-gens m w ks e8 f (room-yes (t .arena) r) b)
+    (λ f s. ap generationOf (held-word (tablesOf (t .arena) (unheld (t .nodes) ks) (t .find)) (branchSlot t ks) b own (omega arith) ∙ eased-word m w ks e8 f b own (omega arith)))
 
 pub hold-same-gens : (t : Tables) (id b : ℕ) → generationOf (W (holdOf t id .after) b own) ≡ generationOf (W t b own)
 hold-same-gens t id b = hold-ways (Gens t b) t id (λ k d. refl) (λ z. refl) (λ z l. ap generationOf (held-word t (slot id) b own (omega arith)))
 
 -- A slot whose node ends in a release, which is then recycled, has the generation one higher, or 0 where that would reach 0x7FFE; every other slot keeps its own.
-pub release-advances : (n tallest : ℕ) (t : Tables) → n ≤ 8 → WellFormed n tallest t → (id s : ℕ) → s < cap t → Advances t (releaseOf tallest t id .after) s
-release-advances n tallest t m w id s l =
+pub release-advances : {n tallest : ℕ} {t : Tables} → n ≤ 8 → WellFormed n tallest t → (id s : ℕ) → s < cap t → Advances t (releaseOf tallest t id .after) s
+release-advances {tallest = tallest} {t = t} m w id s l =
     release-ways tallest t id (λ f e. to e stay) (λ f z e. to e stay) (λ f z v e. to e stay) (λ f z v r e. to e stay)
-    (λ f z v r k e. to e (recycles-advances t (takes (suc tallest) holds t id) (takes-recycles n tallest t m w id (live-is t id v) (omega arith)) s l))
+    (λ f z v r k e. to e (recycles-advances t (takes (suc tallest) holds t id) (takes-recycles m w id (live-is t id v) (omega arith)) s l))
   where
     to : {o : Out} → releaseOf tallest t id ≡ o → Advances t (o .after) s → Advances t (releaseOf tallest t id .after) s
     to e x = subst (λ (o : Out). Advances t (o .after) s) (sym e) x

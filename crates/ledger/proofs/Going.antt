@@ -26,9 +26,9 @@ use Rattle.ledger.proofs.Ladders.{leaf-ways, branch-ways, hold-ways, re
 use Rattle.ledger.proofs.Writes.{held-cap, held-word, held-grew}
 
 -- In well-formed tables an id other than EMPTY is not live exactly if it has no hold and no live node has it as a child.
-pub unlive-exactly : (n tallest : ℕ) (t : Tables) → n ≤ 8 → WellFormed n tallest t → (y : ℕ) → y ≢ 0
+pub unlive-exactly : {n tallest : ℕ} {t : Tables} → n ≤ 8 → WellFormed n tallest t → (y : ℕ) → y ≢ 0
     → (Lives t y → ⊥) ↔ ((holdsOn t y ≡ 0) × ((b : ℕ) → Lives t b → occ y (kidsOf n (W t) (slot b)) ≡ 0))
-unlive-exactly n tallest t m w y d = (
+unlive-exactly {n = n} {t = t} m w y d = (
   (λ gone. (
     holds-dead t y gone,
     (λ b l. cases (decLt 0 (occ y (kidsOf n (W t) (slot b))))
@@ -54,7 +54,7 @@ unlive-exactly n tallest t m w y d = (
 )
   where
     c : Counts 8 (cap t) (W t) []
-    c = wf-counts n tallest t m w
+    c = wf-counts m w
 
     -- child words from n on are EMPTY
     fewer : (b : ℕ) → LiveSlot t b → occ y (kidsOf 8 (W t) b) ≡ occ y (kidsOf n (W t) b)
@@ -63,15 +63,15 @@ unlive-exactly n tallest t m w y d = (
 -- ---- interning and holding end no node
 
 -- Interning a leaf ends no node: each stays, as it was.
-pub leaf-ends-none : (n tallest : ℕ) (t : Tables) → n ≤ 8 → WellFormed n tallest t → (v : ℕ) → Grew t (internLeafOf t v .after)
-leaf-ends-none n tallest t m w v =
-    leaf-ways (λ o. Grew t (o .after)) t v (λ k d. grew-refl t) (λ s r. leaf-grew n tallest t m w (room-yes (t .arena) r) v) (λ s. held-grew t (leafSlot t v))
+pub leaf-ends-none : {n tallest : ℕ} {t : Tables} → n ≤ 8 → WellFormed n tallest t → (v : ℕ) → Grew t (internLeafOf t v .after)
+leaf-ends-none {t = t} m w v =
+    leaf-ways (λ o. Grew t (o .after)) t v (λ k d. grew-refl t) (λ s r. leaf-grew m w (room-yes (t .arena) r) v) (λ s. held-grew t (leafSlot t v))
 
 -- Interning a branch ends no node: each stays, as it was.
-pub branch-ends-none : (n tallest : ℕ) (t : Tables) → n ≤ 8 → WellFormed n tallest t → (ks : List ℕ) → length ks ≡ 8 → Grew t (internBranchOf n tallest t ks .after)
-branch-ends-none n tallest t m w ks e8 =
-    branch-ways (λ o. Grew t (o .after)) n tallest t ks (λ k d. grew-refl t) (λ f s r. branch-grew n tallest t m w ks e8 f (room-yes (t .arena) r))
-    (λ f s. branch-held-grew n tallest t m w ks e8 f)
+pub branch-ends-none : {n tallest : ℕ} {t : Tables} → n ≤ 8 → WellFormed n tallest t → (ks : List ℕ) → length ks ≡ 8 → Grew t (internBranchOf n tallest t ks .after)
+branch-ends-none {n} {tallest} {t} m w ks e8 =
+    branch-ways (λ o. Grew t (o .after)) n tallest t ks (λ k d. grew-refl t) (λ f s r. branch-grew m w ks e8 f (room-yes (t .arena) r))
+    (λ f s. branch-held-grew m w ks e8 f)
 
 -- Holding ends no node: each stays, as it was. On any tables.
 pub hold-ends-none : (t : Tables) (id : ℕ) → Grew t (holdOf t id .after)
@@ -86,17 +86,17 @@ held-none-new : (t : Tables) (s y : ℕ) → Lives (heldAt t s) y → Lives t y
 held-none-new t s y l = was-live t (heldAt t s) (held-cap t s) y (held-word t s (slot y) own (omega arith)) l
 
 -- Interning a leaf makes no node but the one that it answers.
-pub leaf-makes-one : (n tallest : ℕ) (t : Tables) → n ≤ 8 → WellFormed n tallest t → (v y : ℕ) → Lives (internLeafOf t v .after) y → (y ≡ internLeafOf t v .id) ⊎ Lives t y
-leaf-makes-one n tallest t m w v y =
-    leaf-ways (New t y) t v (λ k d l. inr l) (λ s r. leaf-adds n tallest t m w (room-yes (t .arena) r) v y) (λ s l. inr (held-none-new t (leafSlot t v) y l))
+pub leaf-makes-one : {n tallest : ℕ} {t : Tables} → n ≤ 8 → WellFormed n tallest t → (v y : ℕ) → Lives (internLeafOf t v .after) y → (y ≡ internLeafOf t v .id) ⊎ Lives t y
+leaf-makes-one {t = t} m w v y =
+    leaf-ways (New t y) t v (λ k d l. inr l) (λ s r. leaf-adds m w (room-yes (t .arena) r) v y) (λ s l. inr (held-none-new t (leafSlot t v) y l))
 
 -- Interning a branch makes no node but the one that it answers.
-pub branch-makes-one : (n tallest : ℕ) (t : Tables) → n ≤ 8 → WellFormed n tallest t → (ks : List ℕ) → length ks ≡ 8 → (y : ℕ)
+pub branch-makes-one : {n tallest : ℕ} {t : Tables} → n ≤ 8 → WellFormed n tallest t → (ks : List ℕ) → length ks ≡ 8 → (y : ℕ)
     → Lives (internBranchOf n tallest t ks .after) y → (y ≡ internBranchOf n tallest t ks .id) ⊎ Lives t y
-branch-makes-one n tallest t m w ks e8 y =
-    branch-ways (New t y) n tallest t ks (λ k d l. inr l) (λ f s r. branch-adds n tallest t m w ks e8 f (room-yes (t .arena) r) y)
+branch-makes-one {n} {tallest} {t} m w ks e8 y =
+    branch-ways (New t y) n tallest t ks (λ k d l. inr l) (λ f s r. branch-adds m w ks e8 f (room-yes (t .arena) r) y)
     (λ f s l. inr (
-    live-same (cap t) (wordOf (unheld (t .nodes) ks)) (W t) y (sym (eased-word n tallest t m w ks e8 f (slot y) own (omega arith)))
+    live-same (cap t) (wordOf (unheld (t .nodes) ks)) (W t) y (sym (eased-word m w ks e8 f (slot y) own (omega arith)))
     (held-none-new (tablesOf (t .arena) (unheld (t .nodes) ks) (t .find)) (branchSlot t ks) y l)))
 
 -- Holding makes no node. On any tables.
@@ -104,14 +104,14 @@ pub hold-makes-none : (t : Tables) (id y : ℕ) → Lives (holdOf t id .after) y
 hold-makes-none t id y = hold-ways (λ o. Lives (o .after) y → Lives t y) t id (λ k d l. l) (λ z l. l) (λ z l. held-none-new t (slot id) y)
 
 -- Releasing makes no node: each that is there afterwards was there before, as it is.
-pub release-makes-none : (n tallest : ℕ) (t : Tables) → n ≤ 8 → WellFormed n tallest t → (id : ℕ) → Grew (releaseOf tallest t id .after) t
-release-makes-none n tallest t m w id =
+pub release-makes-none : {n tallest : ℕ} {t : Tables} → n ≤ 8 → WellFormed n tallest t → (id : ℕ) → Grew (releaseOf tallest t id .after) t
+release-makes-none {tallest = tallest} {t = t} m w id =
     release-ways tallest t id (λ f e. to e (grew-refl t)) (λ f z e. to e (grew-refl t)) (λ f z l e. to e (grew-refl t)) (λ f z l r e. to e (grew-refl t))
     (λ f z l r k e.
     let u = releaseOf tallest t id .after in
-    let d = release-released n tallest t id m w k z in
+    let d = release-released id m w k z in
     let v = live-is t id l in
-    record { size = sym (d .size); stays = λ y a. (released-old n tallest t u id d v r y a, (λ g b. sym (released-kept n tallest t u id d v r y a g b))) })
+    record { size = sym (d .size); stays = λ y a. (released-old id d v r y a, (λ g b. sym (released-kept id d v r y a g b))) })
   where
     to : {o : Out} → releaseOf tallest t id ≡ o → Grew (o .after) t → Grew (releaseOf tallest t id .after) t
     to e x = subst (λ (o : Out). Grew (o .after) t) (sym e) x
@@ -119,9 +119,9 @@ release-makes-none n tallest t m w id =
 -- ---- what a release leaves, said of the tables before it
 
 -- In well-formed tables a node is live exactly if it is held, or stands below one that is.
-pub lives-exactly : (n tallest : ℕ) (t : Tables) → n ≤ 8 → WellFormed n tallest t → (y : ℕ) → Lives t y ↔ ((a : ℕ) × Lives t a × (1 ≤ holdsOn t a) × Under (W t) a y)
-lives-exactly n tallest t m w y =
-    let r = lives-iff (cap t) (W t) (W t) (wf-counts n tallest t m w) (frame-refl (cap t) (W t)) (suc tallest)
+pub lives-exactly : {n tallest : ℕ} {t : Tables} → n ≤ 8 → WellFormed n tallest t → (y : ℕ) → Lives t y ↔ ((a : ℕ) × Lives t a × (1 ≤ holdsOn t a) × Under (W t) a y)
+lives-exactly {tallest = tallest} {t = t} m w y =
+    let r = lives-iff (cap t) (W t) (W t) (wf-counts m w) (frame-refl (cap t) (W t)) (suc tallest)
     (λ b l h. let p = node-low m l (w .sized .most) (w .nodes b (l, h)) in omega arith) y in (
       (λ v. let q = r .0 v in (q .0, q .1, (let h = q .2 in omega (arith, holds-live t (q .0) (q .1))), q .3)),
       (λ q. r .1 (q .0, q .1, (let h = q .2 in omega (arith, holds-live t (q .0) (q .1))), q .3)),
@@ -131,16 +131,16 @@ lives-exactly n tallest t m w y =
 abbrev Left : Tables → ℕ → ℕ → Out → Type 0
 Left t id y o = Lives (o .after) y ↔ ((a : ℕ) × Lives t a × (ifAccepted o (on a id) < holdsOn t a) × Under (W t) a y)
 
-unchanged-left : (n tallest : ℕ) (t : Tables) → n ≤ 8 → WellFormed n tallest t → (id y k e : ℕ) → ((a : ℕ) → ifAccepted (record { no = k; id = e; after = t }) (on a id) ≡ 0)
+unchanged-left : {n tallest : ℕ} {t : Tables} → n ≤ 8 → WellFormed n tallest t → (id y k e : ℕ) → ((a : ℕ) → ifAccepted (record { no = k; id = e; after = t }) (on a id) ≡ 0)
     → Left t id y (record { no = k; id = e; after = t })
-unchanged-left n tallest t m w id y k e none =
-    let r = lives-exactly n tallest t m w y in (
+unchanged-left m w id y k e none =
+    let r = lives-exactly m w y in (
       (λ v. let q = r .0 v in (q .0, q .1, (let h = q .2 in let z = none (q .0) in omega arith), q .3)),
       (λ q. r .1 (q .0, q .1, (let h = q .2 in let z = none (q .0) in omega arith), q .3)),
     )
 
-released-left : (n tallest : ℕ) (t u : Tables) (id : ℕ) → Released n tallest t id u → Lives t id → W t (slot id) holds ≢ 0 → (y : ℕ) → Left t id y (record { no = 0; id = 0; after = u })
-released-left n tallest t u id r v held y =
+released-left : {n tallest : ℕ} {t u : Tables} (id : ℕ) → Released n tallest t id u → Lives t id → W t (slot id) holds ≢ 0 → (y : ℕ) → Left t id y (record { no = 0; id = 0; after = u })
+released-left {t = t} {u = u} id r v held y =
     let l = r .lives y in (
       (λ s.
           let q = l .0 (subst (λ (c : ℕ). Live c (W u) y) (r .size) s) in
@@ -149,19 +149,19 @@ released-left n tallest t u id r v held y =
     )
   where
     left : (a : ℕ) → Lives t a → W (lessOf holds t id) (slot a) holds + ifAccepted (record { no = 0; id = 0; after = u }) (on a id) ≡ W t (slot a) holds
-    left a w = ap (λ (k : ℕ). W (lessOf holds t id) (slot a) holds + k) (accepted (record { no = 0; id = 0; after = u }) (on a id) refl) ∙ less-on n tallest t u id r v held a w
+    left a w = ap (λ (k : ℕ). W (lessOf holds t id) (slot a) holds + k) (accepted (record { no = 0; id = 0; after = u }) (on a id) refl) ∙ less-on id r v held a w
 
 -- After a release a node is live exactly if, before it, it was at or below a node on which a hold is left once the one is given back.
-pub release-leaves : (n tallest : ℕ) (t : Tables) → n ≤ 8 → WellFormed n tallest t → (id y : ℕ)
+pub release-leaves : {n tallest : ℕ} {t : Tables} → n ≤ 8 → WellFormed n tallest t → (id y : ℕ)
     → Lives (releaseOf tallest t id .after) y ↔ ((a : ℕ) × Lives t a × (ifAccepted (releaseOf tallest t id) (on a id) < holdsOn t a) × Under (W t) a y)
-release-leaves n tallest t m w id y =
+release-leaves {n} {tallest} {t} m w id y =
     release-ways tallest t id
-    (λ f e. to e (unchanged-left n tallest t m w id y 1 0 (λ a. unaccepted (record { no = 1; id = 0; after = t }) (on a id) (omega arith))))
-    (λ f z e. to e (unchanged-left n tallest t m w id y 0 0 (λ a. accepted (record { no = 0; id = 0; after = t }) (on a id) refl ∙ on-zero a id z)))
-    (λ f z l e. to e (unchanged-left n tallest t m w id y 4 0 (λ a. unaccepted (record { no = 4; id = 0; after = t }) (on a id) (omega arith))))
-    (λ f z l r e. to e (unchanged-left n tallest t m w id y 5 0 (λ a. unaccepted (record { no = 5; id = 0; after = t }) (on a id) (omega arith))))
-    (λ f z l r k e. to e (released-left n tallest t (takes (suc tallest) holds t id) id
-    (subst (λ (o : Out). Released n tallest t id (o .after)) e (release-released n tallest t id m w k z)) (live-is t id l) r y))
+    (λ f e. to e (unchanged-left m w id y 1 0 (λ a. unaccepted (record { no = 1; id = 0; after = t }) (on a id) (omega arith))))
+    (λ f z e. to e (unchanged-left m w id y 0 0 (λ a. accepted (record { no = 0; id = 0; after = t }) (on a id) refl ∙ on-zero a id z)))
+    (λ f z l e. to e (unchanged-left m w id y 4 0 (λ a. unaccepted (record { no = 4; id = 0; after = t }) (on a id) (omega arith))))
+    (λ f z l r e. to e (unchanged-left m w id y 5 0 (λ a. unaccepted (record { no = 5; id = 0; after = t }) (on a id) (omega arith))))
+    (λ f z l r k e. to e (released-left id
+    (subst (λ (o : Out). Released n tallest t id (o .after)) e (release-released id m w k z)) (live-is t id l) r y))
   where
     to : {o : Out} → releaseOf tallest t id ≡ o → Left t id y o → Left t id y (releaseOf tallest t id)
     to e x = subst (λ (o : Out). Left t id y o) (sym e) x

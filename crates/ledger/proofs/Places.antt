@@ -18,9 +18,9 @@ use Rattle.ledger.specs.Fates.{Lives}
 use Rattle.ledger.proofs.Balance.{counts-places}
 
 -- On well-formed tables the tally over all slots is the tally over live branches alone.
-pub tally-live : (n tallest : ℕ) (t : Tables) → n ≤ 8 → WellFormed n tallest t → (y : ℕ) → y ≢ 0 → tally 8 (cap t) (W t) y ≡ tallyLive 8 (cap t) (W t) y
+pub tally-live : {n tallest : ℕ} {t : Tables} → n ≤ 8 → WellFormed n tallest t → (y : ℕ) → y ≢ 0 → tally 8 (cap t) (W t) y ≡ tallyLive 8 (cap t) (W t) y
 unfolding tally tallyLive
-tally-live n tallest t m w y d = sumTo-ext (cap t) _ _ (λ b l. cases (decLt (W t b own) floor)
+tally-live {t = t} m w y d = sumTo-ext (cap t) _ _ (λ b l. cases (decLt (W t b own) floor)
     (λ h. rw (lt-leb floor (W t b own) h) (occ-bare 8 (W t) b y d (λ i j. w .cleared b l h .words i (omega arith) (omega arith) (omega arith))))
     (λ h.
     let k : floor ≤ W t b own = omega arith in
@@ -29,5 +29,5 @@ tally-live n tallest t m w y d = sumTo-ext (cap t) _ _ (λ b l. cases (decLt (W 
     (λ f. rw (le-leb floor (W t b own) k, f))))
 
 -- The places that counts answers of a live node: the child places of live branches that name it.
-pub counts-live-places : (n tallest : ℕ) (t : Tables) → n ≤ 8 → WellFormed n tallest t → (y : ℕ) → Lives t y → countsOf t y .places ≡ tallyLive 8 (cap t) (W t) y
-counts-live-places n tallest t m w y v = counts-places n tallest t w y v ∙ tally-live n tallest t m w y (live-nonzero v)
+pub counts-live-places : {n tallest : ℕ} {t : Tables} → n ≤ 8 → WellFormed n tallest t → (y : ℕ) → Lives t y → countsOf t y .places ≡ tallyLive 8 (cap t) (W t) y
+counts-live-places m w y v = counts-places w y v ∙ tally-live m w y (live-nonzero v)

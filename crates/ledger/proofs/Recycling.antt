@@ -42,15 +42,15 @@ recycles-trans c U U′ X p q b l =
 
 -- ---- one step
 
-recycled-recycles : (t : Tables) (x : ℕ) (debt : List ℕ) → Inv t (x ∷ debt) → x ≢ 0 → Recycles (cap t) (W t) (W (recycled t (slot x)))
-recycled-recycles t x debt v d b l = cases (ℕ-discrete b (slot x))
+recycled-recycles : {t : Tables} (x : ℕ) (debt : List ℕ) → Inv t (x ∷ debt) → x ≢ 0 → Recycles (cap t) (W t) (W (recycled t (slot x)))
+recycled-recycles {t} x debt v d b l = cases (ℕ-discrete b (slot x))
     (λ q.
-    let live = debtor t x debt v d in
+    let live = debtor x debt v d in
     let i = live .is in
     let h = live .high in
     let g : floor ≤ W t (slot x) own = omega arith in
-    inr (subst (λ (z : ℕ). (floor ≤ W t z own) × (W (recycled t (slot x)) z own ≡ nextGeneration (generationOf (W t z own)) * 2 ^ 32)) (sym q) (g, recycle-own t x debt v d)))
-    (λ q. inl (recycle-others t x debt v d b own q (omega arith)))
+    inr (subst (λ (z : ℕ). (floor ≤ W t z own) × (W (recycled t (slot x)) z own ≡ nextGeneration (generationOf (W t z own)) * 2 ^ 32)) (sym q) (g, recycle-own x debt v d)))
+    (λ q. inl (recycle-others x debt v d b own q (omega arith)))
 
 -- ---- the recursion
 
@@ -71,8 +71,8 @@ unused-is : (t : Tables) (x : ℕ) → unusedOf t x ≡ true → (W t (slot x) h
 unfolding unusedOf
 unused-is t x e = let b = both (eqb (W t (slot x) holds) 0) (eqb (W t (slot x) places) 0) e in (eqb-true (W t (slot x) holds) 0 (b .0), eqb-true (W t (slot x) places) 0 (b .1))
 
-took : (k : ℕ) (t : Tables) (x : ℕ) (debt : List ℕ) → Inv t (x ∷ debt) → (x ≢ 0 → W t (slot x) height < k) → Dropped t (takes k places t x) debt
-took k t x debt v h = subst (λ (u : Tables). Dropped t u debt) (sym (takes-drop k t x)) (drop-good k t x debt v h)
+took : (k : ℕ) {t : Tables} (x : ℕ) (debt : List ℕ) → Inv t (x ∷ debt) → (x ≢ 0 → W t (slot x) height < k) → Dropped t (takes k places t x) debt
+took k {t} x debt v h = subst (λ (u : Tables). Dropped t u debt) (sym (takes-drop k t x)) (drop-good k x debt v h)
 
 -- R t u ss: from t to u the slots ss were recycled, in that order. What holds of nothing done, of a count taken and of a slot recycled, and goes on
 -- from each to the next, holds of a release.
@@ -90,7 +90,7 @@ module _ (R : Tables → Tables → List ℕ → Type 0)
   each-goes k g [] t debt v h = stay t
   each-goes k g (y ∷ ys) t debt v h =
       let u = takes k places t y in
-      let r : Dropped t u (ys ++ debt) = took k t y (ys ++ debt) v (λ z. h y z (omega (arith, occ-here y ys))) in
+      let r : Dropped t u (ys ++ debt) = took k y (ys ++ debt) v (λ z. h y z (omega (arith, occ-here y ys))) in
       let low : (z : ℕ) → z ≢ 0 → 1 ≤ occ z ys → W u (slot z) height < k = (λ z d m.
       let w = r .inv .counts .named z d (omega (arith, total-append 8 (cap u) (W u) z ys debt)) in
       frame-low (cap t) (W t) (W u) k z (r .frame) (subst (λ (c : ℕ). Live c (W u) z) (r .size) w) (h z d (omega (arith, occ-cons z y ys)))) in
@@ -101,9 +101,9 @@ module _ (R : Tables → Tables → List ℕ → Type 0)
       → x ≢ 0 → W t (slot x) holds ≡ 0 → W t (slot x) places ≤ 1
       → R t (each (takes k places) (recycled t (slot x)) (kidsOf 8 (W t) (slot x))) (slot x ∷ eachGoes (takes k places) (goes k places) (recycled t (slot x)) (kidsOf 8 (W t) (slot x)))
   last-goes k g t x debt v h d u one =
-      let live = debtor t x debt v d in
-      let i = recycled-inv t x debt v d one in
-      let f = recycled-frame t x debt v d u in
+      let live = debtor x debt v d in
+      let i = recycled-inv x debt v d one in
+      let f = recycled-frame x debt v d u in
       let e = recycled-cap t (slot x) in
       let low : (y : ℕ) → y ≢ 0 → 1 ≤ occ y (kidsOf 8 (W t) (slot x)) → W (recycled t (slot x)) (slot y) height < k = (λ y z m.
       let w = i .counts .named y z (omega (arith, total-append 8 (cap (recycled t (slot x))) (W (recycled t (slot x))) y (kidsOf 8 (W t) (slot x)) debt)) in
@@ -143,9 +143,9 @@ module _ (R : Tables → Tables → List ℕ → Type 0)
   unfolding takes goes
   release-goes n tallest t m w id v held =
       let s = settled t (slot id) in
-      let e : lessOf places s id ≡ lessOf holds t id = u-less n tallest t m w id v held in
+      let e : lessOf places s id ≡ lessOf holds t id = u-less m w id v held in
       let d = ne-eqb id 0 (live-nonzero v) in
-      let r = all-goes (suc tallest) s id [] (u-inv n tallest t m w id v held) (λ d. u-short n tallest t m w id v held) in
+      let r = all-goes (suc tallest) s id [] (u-inv m w id v held) (λ d. u-short m w id v held) in
       rw d (rw (d, e) at r)
 
 -- ---- a release
@@ -162,14 +162,14 @@ less-cap : (f : ℕ) (t : Tables) (x : ℕ) → cap (lessOf f t x) ≡ cap t
 unfolding lessOf
 less-cap f t x = refl
 
-pub takes-recycles : (n tallest : ℕ) (t : Tables) → n ≤ 8 → WellFormed n tallest t → (id : ℕ) → Lives t id → 1 ≤ W t (slot id) holds
+pub takes-recycles : {n tallest : ℕ} {t : Tables} → n ≤ 8 → WellFormed n tallest t → (id : ℕ) → Lives t id → 1 ≤ W t (slot id) holds
     → Recycles (cap t) (W t) (W (takes (suc tallest) holds t id))
-takes-recycles n tallest t m w id v held =
+takes-recycles {n} {tallest} {t} m w id v held =
     let s = settled t (slot id) in
     let r = release-goes Recycled (λ t. (refl, λ b l. inl refl))
     (λ t u v ss rs p q. (q .0 ∙ p .0, recycles-trans (cap t) (W t) (W u) (W v) (p .1) (subst (λ (c : ℕ). Recycles c (W u) (W v)) (p .0) (q .1))))
     (λ t x. (less-cap places t x, λ b l. inl (less-word places t x b own (omega arith))))
-    (λ t x debt v d. (recycled-cap t (slot x), recycled-recycles t x debt v d)) n tallest t m w id v held in
+    (λ t x debt v d. (recycled-cap t (slot x), recycled-recycles x debt v d)) n tallest t m w id v held in
     recycles-trans (cap t) (W t) (W s) (W (takes (suc tallest) holds t id))
-    (λ b l. inl (u-word n tallest t m w id v held b own (omega arith) (omega arith) (omega arith)))
+    (λ b l. inl (u-word m w id v held b own (omega arith) (omega arith) (omega arith)))
     (subst (λ (c : ℕ). Recycles c (W s) (W (takes (suc tallest) holds t id))) (settled-cap t (slot id)) (r .1))

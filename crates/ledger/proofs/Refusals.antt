@@ -70,15 +70,15 @@ fresh-refused c k f e d = fresh-ways c k f e (λ r q. absurd (d q)) (λ r q. ap 
 
 -- ---- what the tests say
 
-not-sized : (t : Tables) → fits t ≡ false → Sized t → ⊥
-not-sized t f s = true≢false (sym (sized-fits t s) ∙ f)
+not-sized : {t : Tables} → fits t ≡ false → Sized t → ⊥
+not-sized f s = true≢false (sym (sized-fits s) ∙ f)
 
 not-lives : (t : Tables) (y : ℕ) → liveOf (cap t) (W t) y ≡ false → Lives t y → ⊥
 not-lives t y f v = true≢false (sym (live-true t y v) ∙ f)
 
 -- refusal 1
 pub unsized : (t : Tables) → Decides (not (fits t)) (Sized t → ⊥)
-unsized t = denies (fits t) (not-sized t) (λ f n. n (fits-sized t f))
+unsized t = denies (fits t) (not-sized) (λ f n. n (fits-sized t f))
 
 -- EMPTY passes
 past-empty : (b : Bool) (y : ℕ) → pick (eqb y 0) true b ≡ false → (y ≢ 0) × (b ≡ false)
@@ -295,11 +295,11 @@ module _ (t : Tables) (s : ℕ) where
 -- ---- intern leaf
 
 -- tables that fit, of those that a contract speaks of, are well formed
-fair-well : (n tallest : ℕ) (t : Tables) → Fair n tallest t → fits t ≡ true → WellFormed n tallest t
-fair-well n tallest t (inl u) f = absurd (true≢false (sym f ∙ u))
-fair-well n tallest t (inr w) f = w
+fair-well : {n tallest : ℕ} {t : Tables} → Fair n tallest t → fits t ≡ true → WellFormed n tallest t
+fair-well (inl u) f = absurd (true≢false (sym f ∙ u))
+fair-well (inr w) f = w
 
-module _ (n tallest : ℕ) (t : Tables) (m : n ≤ 8) (fair : Fair n tallest t) (v : ℕ) where
+module _ {n tallest : ℕ} {t : Tables} (m : n ≤ 8) (fair : Fair n tallest t) (v : ℕ) where
   abbrev Leaf : ℕ → Type 0
   Leaf = LeafWhy t v
 
@@ -315,9 +315,9 @@ module _ (n tallest : ℕ) (t : Tables) (m : n ≤ 8) (fair : Fair n tallest t) 
 
   leaf-at : WellFormed n tallest t → leafSlot t v ≢ 0 → (y : ℕ) × (slot y ≡ leafSlot t v) × HasContent t y empties v × ((x : ℕ) → HasContent t x empties v → x ≡ y)
   leaf-at w s =
-      let h = leaf-found n tallest t m w v s in
+      let h = leaf-found m w v s in
       let y = W t (leafSlot t v) own in
-      (y, slot-own n tallest t m w (leafSlot t v) (h .0), h .1, λ x p. one-has n tallest t m w x y v empties p (h .1))
+      (y, slot-own m w (leafSlot t v) (h .0), h .1, λ x p. one-has m w x y v empties p (h .1))
 
   -- Intern leaf: refusals 1, 6, 10, 11, each given exactly if it is the lowest that applies.
   pub leaf-refusals : Exactly (LeafWhy t v) (internLeafOf t v .no)
@@ -343,10 +343,10 @@ module _ (n tallest : ℕ) (t : Tables) (m : n ≤ 8) (fair : Fair n tallest t) 
       six e (nothing z) = eqb-false v 0 e z
 
       well : (Leaf 1 → ⊥) → WellFormed n tallest t
-      well a = fair-well n tallest t fair (on (fits t) (unsized t) (λ u. a (unsizedLeaf u)))
+      well a = fair-well fair (on (fits t) (unsized t) (λ u. a (unsizedLeaf u)))
 
       none : (Leaf 1 → ⊥) → leafSlot t v ≡ 0 → (y : ℕ) → Asked y → ⊥
-      none a = leaf-missing n tallest t m (well a) v
+      none a = leaf-missing m (well a) v
 
       full : (Leaf 1 → ⊥) → ten t (leafSlot t v) ≡ false → Leaf 10 → ⊥
       full a e (fullLeaf y h f) = ten-no t (leafSlot t v) Asked (leaf-at (well a)) (none a) e y h f
@@ -386,7 +386,7 @@ all-empty [] e i = refl
 all-empty (k ∷ ks) e zero = cases (ℕ-discrete k 0) (λ z. z) (λ z. absurd (true≢false (sym (rw (ne-eqb k 0 z) at e))))
 all-empty (k ∷ ks) e (suc i) = cases (ℕ-discrete k 0) (λ z. all-empty ks (rw (eq-eqb k 0 z) at e) i) (λ z. absurd (true≢false (sym (rw (ne-eqb k 0 z) at e))))
 
-module _ (n tallest : ℕ) (t : Tables) (m : n ≤ 8) (fair : Fair n tallest t) (ks : List ℕ) (e8 : length ks ≡ 8) where
+module _ {n tallest : ℕ} {t : Tables} (m : n ≤ 8) (fair : Fair n tallest t) (ks : List ℕ) (e8 : length ks ≡ 8) where
   abbrev Branch : ℕ → Type 0
   Branch = BranchWhy n tallest t ks
 
@@ -444,17 +444,17 @@ module _ (n tallest : ℕ) (t : Tables) (m : n ≤ 8) (fair : Fair n tallest t) 
 
   module _ (n1 : Branch 1 → ⊥) (n7 : Branch 7 → ⊥) where
     well : WellFormed n tallest t
-    well = fair-well n tallest t fair (on (fits t) (unsized t) (λ u. n1 (unsizedBranch u)))
+    well = fair-well fair (on (fits t) (unsized t) (λ u. n1 (unsizedBranch u)))
 
     branch-at : at ≢ 0 → (y : ℕ) × (slot y ≡ at) × Asked y × ((x : ℕ) → Asked x → x ≡ y)
     branch-at s =
         let c = off (noneOf ks) seven n7 in
-        let h = branch-found n tallest t m well ks e8 c s in
+        let h = branch-found m well ks e8 c s in
         let y = W t at own in
-        (y, slot-own n tallest t m well at (h .0), (h .1 .live, h .1 .kids), λ x p. one-of-eight-ids n tallest t m well x y ks e8 c (p .0) (h .1 .live) (p .1) (h .1 .kids))
+        (y, slot-own m well at (h .0), (h .1 .live, h .1 .kids), λ x p. one-of-eight-ids m well x y ks e8 c (p .0) (h .1 .live) (p .1) (h .1 .kids))
 
     none : at ≡ 0 → (y : ℕ) → Asked y → ⊥
-    none s y p = branch-missing n tallest t m well ks e8 s y (p .0) (p .1)
+    none s y p = branch-missing m well ks e8 s y (p .0) (p .1)
 
     full-branch : Decides (ten t at) (Branch 10)
     full-branch = tells (ten t at) (λ e. let r = ten-yes t at Asked branch-at none e in fullBranch (r .0) (r .1) (r .2)) never
@@ -477,11 +477,11 @@ module _ (n tallest : ℕ) (t : Tables) (m : n ≤ 8) (fair : Fair n tallest t) 
       one (unsizedBranch u) = u
 
 -- An id that is neither EMPTY nor live is refused by hold, release, counts and, as a child, by intern branch: refusal 4.
-pub dead-refused : (n tallest : ℕ) (t : Tables) (y : ℕ) → Sized t → y ≢ 0 → (Lives t y → ⊥)
+pub dead-refused : (n tallest : ℕ) {t : Tables} (y : ℕ) → Sized t → y ≢ 0 → (Lives t y → ⊥)
     → (holdOf t y .no ≡ 4) × (releaseOf tallest t y .no ≡ 4) × (countsOf t y .no ≡ 4) × ((ks : List ℕ) → 1 ≤ occ y ks → internBranchOf n tallest t ks .no ≡ 4)
 unfolding holdNo releaseNo countsOf internBranchNo
-dead-refused n tallest t y z d dead =
-    let f = sized-fits t z in
+dead-refused n tallest {t} y z d dead =
+    let f = sized-fits z in
     let e = ne-eqb y 0 d in
     let l : liveOf (cap t) (W t) y ≡ false = split (liveOf (cap t) (W t) y) (λ q. absurd (dead (live-is t y q))) (λ q. q) in (
       hold-no t y ∙ rw (f, e, l),

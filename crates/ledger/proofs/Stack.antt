@@ -53,16 +53,16 @@ held-stack t s fs = same-stack t (heldAt t s) fs refl (λ b. held-word t s b own
 recycled-stack : (t : Tables) (x : ℕ) (debt : List ℕ) → Inv t (x ∷ debt) → x ≢ 0 → (fs : List ℕ) → Stack t fs → Stack (recycled t (slot x)) (slot x ∷ fs)
 unfolding recycled
 recycled-stack t x debt v d fs s =
-    let l = debtor t x debt v d in
+    let l = debtor x debt v d in
     let i = l .is in
     let h = l .high in
     let facts = deadFacts (W t (slot x) own) (t .arena .top) in
     let seven = dead-length (W t (slot x) own) (t .arena .top) in
     let g = nextGeneration (generationOf (W t (slot x) own)) in
-    let o = recycle-own t x debt v d in
-    push (W (recycled t (slot x))) (slot x) s (recycle-others t x debt v d) (l .low) (omega arith)
+    let o = recycle-own x debt v d in
+    push (W (recycled t (slot x))) (slot x) s (recycle-others x debt v d) (l .low) (omega arith)
     (omega (arith, dead-low g (nextGen-le (generationOf (W t (slot x) own)))))
-    (written-fact (t .nodes) (slot x) empties facts empties-length seven (sized-within t (slot x) (v .sized) (l .low)) 5 (omega arith) ∙ dead-link (W t (slot x) own) (t .arena .top))
+    (written-fact (t .nodes) (slot x) empties facts empties-length seven (sized-within (slot x) (v .sized) (l .low)) 5 (omega arith) ∙ dead-link (W t (slot x) own) (t .arena .top))
 
 pub pushed-append : (ss rs fs : List ℕ) → pushed (ss ++ rs) fs ≡ pushed rs (pushed ss fs)
 pushed-append [] rs fs = refl
@@ -75,18 +75,18 @@ less-pushes : (t : Tables) (x : ℕ) → Pushes t (lessOf places t x) []
 unfolding lessOf
 less-pushes t x fs = same-stack t (lessOf places t x) fs refl (λ b. less-word places t x b own (omega arith)) (λ b. less-word places t x b link (omega arith))
 
-settled-stack : (n tallest : ℕ) (t : Tables) → n ≤ 8 → WellFormed n tallest t → (id : ℕ) → Lives t id → 1 ≤ W t (slot id) holds → (fs : List ℕ)
+settled-stack : {n tallest : ℕ} {t : Tables} → n ≤ 8 → WellFormed n tallest t → (id : ℕ) → Lives t id → 1 ≤ W t (slot id) holds → (fs : List ℕ)
     → Stack t fs → Stack (settled t (slot id)) fs
 unfolding settled
-settled-stack n tallest t m w id v held fs =
-    same-stack t (settled t (slot id)) fs refl (λ b. u-word n tallest t m w id v held b own (omega arith) (omega arith) (omega arith))
-    (λ b. u-word n tallest t m w id v held b link (omega arith) (omega arith) (omega arith))
+settled-stack {t = t} m w id v held fs =
+    same-stack t (settled t (slot id)) fs refl (λ b. u-word m w id v held b own (omega arith) (omega arith) (omega arith))
+    (λ b. u-word m w id v held b link (omega arith) (omega arith) (omega arith))
 
 -- A release puts the slots that it recycles on top, in the order in which it recycles them; where it is refused or recycles none, nothing.
-pub release-stack : (n tallest : ℕ) (t : Tables) → n ≤ 8 → WellFormed n tallest t → (id : ℕ) (fs : List ℕ) → Stack t fs
+pub release-stack : {n tallest : ℕ} {t : Tables} → n ≤ 8 → WellFormed n tallest t → (id : ℕ) (fs : List ℕ) → Stack t fs
     → Stack (releaseOf tallest t id .after) (pushed (recycledBy tallest t id) fs)
 unfolding releaseOf recycledBy
-release-stack n tallest t m w id fs s = cases (ℕ-discrete (releaseNo t id) 0)
+release-stack {n} {tallest} {t} m w id fs s = cases (ℕ-discrete (releaseNo t id) 0)
     (λ z. rw (eq-eqb (releaseNo t id) 0 z) (cases (ℕ-discrete id 0)
     (λ y. subst (λ (l : List ℕ). Stack (takes (suc tallest) holds t id) (pushed l fs)) (sym (goes-empty tallest holds t id y)) (subst (λ (u : Tables). Stack u fs) (sym (takes-empty tallest holds t id y)) s))
     (λ y.
@@ -94,7 +94,7 @@ release-stack n tallest t m w id fs s = cases (ℕ-discrete (releaseNo t id) 0)
     let v = live-is t id (r .0) in
     release-goes Pushes (λ t fs s. s)
     (λ t u v ss rs p q fs s. subst (λ (l : List ℕ). Stack v l) (sym (pushed-append ss rs fs)) (q (pushed ss fs) (p fs s)))
-    less-pushes recycled-stack n tallest t m w id v (r .1) fs (settled-stack n tallest t m w id v (r .1) fs s))))
+    less-pushes recycled-stack n tallest t m w id v (r .1) fs (settled-stack m w id v (r .1) fs s))))
     (λ z. rw (ne-eqb (releaseNo t id) 0 z) s)
 
 -- a release gives none out
@@ -113,8 +113,8 @@ settled-next : (t : Tables) (s : ℕ) → settled t s .arena .next ≡ t .arena 
 unfolding settled
 settled-next t s = refl
 
-pub release-gives-none : (n tallest : ℕ) (t : Tables) → n ≤ 8 → WellFormed n tallest t → (id : ℕ) → releaseOf tallest t id .after .arena .next ≡ t .arena .next
-release-gives-none n tallest t m w id =
+pub release-gives-none : {n tallest : ℕ} {t : Tables} → n ≤ 8 → WellFormed n tallest t → (id : ℕ) → releaseOf tallest t id .after .arena .next ≡ t .arena .next
+release-gives-none {n} {tallest} {t} m w id =
     release-ways tallest t id (λ f e. ends (did 1 t) e refl) (λ f z e. ends (did 0 t) e refl) (λ f z l e. ends (did 4 t) e refl) (λ f z l h e. ends (did 5 t) e refl)
     (λ f z l h no e. ends (did 0 (takes (suc tallest) holds t id)) e
     (release-goes Next-kept (λ t. refl) (λ t u v ss rs p q. q ∙ p) less-next (λ t x debt v d. recycled-next t (slot x)) n tallest t m w id (live-is t id l) (omega arith)
@@ -126,8 +126,8 @@ release-gives-none n tallest t m w id =
 -- ---- the slot given out
 
 -- A fresh arena has none freed.
-pub fresh-stack : (n tallest c : ℕ) (k f e : List ℕ) → WellFormed n tallest (freshOf c k f e .after) → Stack (freshOf c k f e .after) []
-fresh-stack n tallest c k f e w = go (w .freed) (w .chain)
+pub fresh-stack : {n tallest : ℕ} (c : ℕ) (k f e : List ℕ) → WellFormed n tallest (freshOf c k f e .after) → Stack (freshOf c k f e .after) []
+fresh-stack c k f e w = go (w .freed) (w .chain)
   where
     go : (fs : List ℕ) → Stack (freshOf c k f e .after) fs → Stack (freshOf c k f e .after) []
     go [] s = s
@@ -143,16 +143,16 @@ fresh-last t (f ∷ fs) s =
     rw (ne-eqb (t .arena .top) 0 (λ z. omega arith)) e
 
 -- Where there is room, it is a slot of the arena that is not live, and not slot 0.
-pub fresh-some : (n tallest : ℕ) (t : Tables) → n ≤ 8 → WellFormed n tallest t → roomOf (t .arena) ≡ true
+pub fresh-some : {n tallest : ℕ} {t : Tables} → n ≤ 8 → WellFormed n tallest t → roomOf (t .arena) ≡ true
     → (1 ≤ freshSlot (t .arena)) × (freshSlot (t .arena) < cap t) × (W t (freshSlot (t .arena)) own < floor)
-fresh-some n tallest t m w r = fresh-free t [] (wf-inv n tallest t m w) (room-yes (t .arena) r)
+fresh-some {t = t} m w r = fresh-free [] (wf-inv m w) (room-yes (t .arena) r)
 
 -- After a release that recycled slots, the last of them is the fresh one.
-pub release-last : (n tallest : ℕ) (t : Tables) → n ≤ 8 → WellFormed n tallest t → (id : ℕ) (ss : List ℕ) (s : ℕ) → recycledBy tallest t id ≡ ss ++ (s ∷ [])
+pub release-last : {n tallest : ℕ} {t : Tables} → n ≤ 8 → WellFormed n tallest t → (id : ℕ) (ss : List ℕ) (s : ℕ) → recycledBy tallest t id ≡ ss ++ (s ∷ [])
     → freshSlot (releaseOf tallest t id .after .arena) ≡ s
-release-last n tallest t m w id ss s e =
+release-last {tallest = tallest} {t = t} m w id ss s e =
     let k : Stack (releaseOf tallest t id .after) (s ∷ pushed ss (w .freed)) =
-    subst (λ (l : List ℕ). Stack (releaseOf tallest t id .after) l) (ap (λ (l : List ℕ). pushed l (w .freed)) e ∙ pushed-append ss (s ∷ []) (w .freed)) (release-stack n tallest t m w id (w .freed) (w .chain)) in
+    subst (λ (l : List ℕ). Stack (releaseOf tallest t id .after) l) (ap (λ (l : List ℕ). pushed l (w .freed)) e ∙ pushed-append ss (s ∷ []) (w .freed)) (release-stack m w id (w .freed) (w .chain)) in
     fresh-last (releaseOf tallest t id .after) (s ∷ pushed ss (w .freed)) k
 
 -- a node made in the slot given out
@@ -188,16 +188,16 @@ fresh-takes {t} c room f fs s = (f .lies ∙ fresh-last t fs s, made-stack c roo
 abbrev Takes : Tables → List ℕ → Out → Type 0
 Takes t fs o = (slot (o .id) ≡ lastFreed fs (t .arena .next)) × Stack (o .after) (popped fs)
 
-module _ (n tallest : ℕ) (t : Tables) (m : n ≤ 8) (w : WellFormed n tallest t) (fs : List ℕ) (s : Stack t fs) where
+module _ {n tallest : ℕ} {t : Tables} (m : n ≤ 8) (w : WellFormed n tallest t) (fs : List ℕ) (s : Stack t fs) where
   leaf-made-takes : (v : ℕ) → t .arena .live + 1 < cap t → Takes t fs (leafMade t v)
-  leaf-made-takes v room = fresh-takes (w .lives) room (leaf-one n tallest t m w room v) fs s
+  leaf-made-takes v room = fresh-takes (w .lives) room (leaf-one m w room v) fs s
 
   branch-made-takes : (ks : List ℕ) → length ks ≡ 8 → Fine n tallest t ks → t .arena .live + 1 < cap t → Takes t fs (branchMade n t ks)
   branch-made-takes ks e8 fine room =
-      let p = placings n tallest t m w ks e8 fine in
+      let p = placings m w ks e8 fine in
       let put = tablesOf (t .arena) (placed (t .nodes) ks) (t .find) in
       let same : (b f : ℕ) → f ≤ spare → f ≢ holds → f ≢ places → W put b f ≡ W t b f = p .eased .words in
-      fresh-takes (p .inv .lives) room (branch-one n tallest t m w ks e8 fine room) fs
+      fresh-takes (p .inv .lives) room (branch-one m w ks e8 fine room) fs
       (same-stack t put fs refl (λ b. same b own (omega arith) (omega arith) (omega arith)) (λ b. same b link (omega arith) (omega arith) (omega arith)) s)
 
   -- Interning a leaf of a value that is not there, accepted: its slot is the last one freed, else the lowest never used, and then the one freed before
@@ -206,19 +206,19 @@ module _ (n tallest : ℕ) (t : Tables) (m : n ≤ 8) (w : WellFormed n tallest 
       → (slot (internLeafOf t v .id) ≡ lastFreed fs (t .arena .next)) × Stack (internLeafOf t v .after) (popped fs)
   leaf-takes v z none =
       leaf-ways (λ o. o .no ≡ 0 → Takes t fs o) t v (λ k d y. absurd (d y)) (λ x r y. leaf-made-takes v (room-yes (t .arena) r))
-      (λ x y. absurd (none (W t (leafSlot t v) own) (leaf-found n tallest t m w v x .1))) z
+      (λ x y. absurd (none (W t (leafSlot t v) own) (leaf-found m w v x .1))) z
 
   -- Interning a branch of ids that are not there, accepted: the same.
   pub branch-takes : (ks : List ℕ) → length ks ≡ 8 → internBranchOf n tallest t ks .no ≡ 0 → ((y : ℕ) → HasIds t y ks → ⊥)
       → (slot (internBranchOf n tallest t ks .id) ≡ lastFreed fs (t .arena .next)) × Stack (internBranchOf n tallest t ks .after) (popped fs)
   branch-takes ks e8 z none =
       branch-ways (λ o. o .no ≡ 0 → Takes t fs o) n tallest t ks (λ k d y. absurd (d y)) (λ f x r y. branch-made-takes ks e8 f (room-yes (t .arena) r))
-      (λ f x y. absurd (let h = branch-found n tallest t m w ks e8 (f .some) x .1 in none (W t (branchSlot t ks) own) (h .live, h .kids))) z
+      (λ f x y. absurd (let h = branch-found m w ks e8 (f .some) x .1 in none (W t (branchSlot t ks) own) (h .live, h .kids))) z
 
   -- Interning what is there leaves the freed slots as they were; so does a refusal, which changes nothing.
   pub leaf-spares : (v y : ℕ) → HasContent t y empties v → Stack (internLeafOf t v .after) fs
   leaf-spares v y h =
-      leaf-ways (λ o. Stack (o .after) fs) t v (λ k d. s) (λ x r. absurd (leaf-missing n tallest t m w v x y h)) (λ x. held-stack t (leafSlot t v) fs s)
+      leaf-ways (λ o. Stack (o .after) fs) t v (λ k d. s) (λ x r. absurd (leaf-missing m w v x y h)) (λ x. held-stack t (leafSlot t v) fs s)
 
   -- the branch that is there, held
   branch-held-stack : (ks : List ℕ) → Stack (branchHeld t ks .after) fs
@@ -234,7 +234,7 @@ module _ (n tallest : ℕ) (t : Tables) (m : n ≤ 8) (w : WellFormed n tallest 
 
   pub branch-spares : (ks : List ℕ) → length ks ≡ 8 → (y : ℕ) → HasIds t y ks → Stack (internBranchOf n tallest t ks .after) fs
   branch-spares ks e8 y h =
-      branch-ways (λ o. Stack (o .after) fs) n tallest t ks (λ k d. s) (λ f x r. absurd (branch-missing n tallest t m w ks e8 x y (h .0) (h .1)))
+      branch-ways (λ o. Stack (o .after) fs) n tallest t ks (λ k d. s) (λ f x r. absurd (branch-missing m w ks e8 x y (h .0) (h .1)))
       (λ f x. branch-held-stack ks)
 
 -- Holding leaves them too. On any tables.
@@ -284,14 +284,14 @@ held-live : (t : Tables) (s : ℕ) → heldAt t s .arena .live ≡ t .arena .liv
 unfolding heldAt
 held-live t s = refl
 
-module _ (n tallest : ℕ) (t : Tables) (m : n ≤ 8) (w : WellFormed n tallest t) (fs : List ℕ) (s : Stack t fs) where
+module _ {n tallest : ℕ} {t : Tables} (m : n ≤ 8) (w : WellFormed n tallest t) (fs : List ℕ) (s : Stack t fs) where
   -- Interning a leaf, accepted or refused, made or there.
   pub leaf-draws : (v : ℕ) → Draws t fs (internLeafOf t v)
   leaf-draws v =
       leaf-ways (Draws t fs) t v (λ k d. draws-none t fs (refused k t) refl s)
       (λ x r.
       let room = room-yes (t .arena) r in
-      draws-one t fs (leafMade t v) (fresh-live (leaf-one n tallest t m w room v)) (leaf-made-takes n tallest t m w fs s v room))
+      draws-one t fs (leafMade t v) (fresh-live (leaf-one m w room v)) (leaf-made-takes m w fs s v room))
       (λ x. draws-none t fs (said 0 (W t (leafSlot t v) own) (heldAt t (leafSlot t v))) (held-live t (leafSlot t v)) (held-stack t (leafSlot t v) fs s))
 
   -- Interning a branch: the same.
@@ -300,8 +300,8 @@ module _ (n tallest : ℕ) (t : Tables) (m : n ≤ 8) (w : WellFormed n tallest 
       branch-ways (Draws t fs) n tallest t ks (λ k d. draws-none t fs (refused k t) refl s)
       (λ f x r.
       let room = room-yes (t .arena) r in
-      draws-one t fs (branchMade n t ks) (fresh-live (branch-one n tallest t m w ks e8 f room)) (branch-made-takes n tallest t m w fs s ks e8 f room))
-      (λ f x. draws-none t fs (branchHeld t ks) (held-live (tablesOf (t .arena) (unheld (t .nodes) ks) (t .find)) (branchSlot t ks)) (branch-held-stack n tallest t m w fs s ks))
+      draws-one t fs (branchMade n t ks) (fresh-live (branch-one m w ks e8 f room)) (branch-made-takes m w fs s ks e8 f room))
+      (λ f x. draws-none t fs (branchHeld t ks) (held-live (tablesOf (t .arena) (unheld (t .nodes) ks) (t .find)) (branchSlot t ks)) (branch-held-stack m w fs s ks))
 
 -- Holding makes none. On any tables.
 pub hold-draws : (t : Tables) (id : ℕ) (fs : List ℕ) → Stack t fs → Draws t fs (holdOf t id)

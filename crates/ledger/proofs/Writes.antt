@@ -52,14 +52,14 @@ module _ (t : Tables) (s : ℕ) where
     stays = λ y v. (still-live t (heldAt t s) held-cap y (held-word (slot y) own (omega arith)) v, (λ f l. held-word (slot y) f (omega arith)));
   }
 
-pub held-balance : (t : Tables) (s x : ℕ) → Sized t → Lives t x → slot x ≡ s → (y : ℕ) → holdsOn (heldAt t s) y + 0 ≡ holdsOn t y + on y x
-held-balance t s x z v e y =
+pub held-balance : {t : Tables} (s x : ℕ) → Sized t → Lives t x → slot x ≡ s → (y : ℕ) → holdsOn (heldAt t s) y + 0 ≡ holdsOn t y + on y x
+held-balance {t} s x z v e y =
     counted-holds t (heldAt t s) (held-cap t s) y (on y x) 0 (held-word t s (slot y) own (omega arith))
     (λ w. cases (ℕ-discrete (slot y) s)
     (λ (q : slot y ≡ s).
     let p = on-same y x (live-nonzero v) (live-inj w v (q ∙ sym e)) in
     let h : W (heldAt t s) (slot y) holds ≡ W t (slot y) holds + 1 =
-    subst (λ (k : ℕ). W (heldAt t s) k holds ≡ W t k holds + 1) (sym q) (held-here t s (sized-within t s z (let l = v .low in omega arith))) in
+    subst (λ (k : ℕ). W (heldAt t s) k holds ≡ W t k holds + 1) (sym q) (held-here t s (sized-within s z (let l = v .low in omega arith))) in
     omega arith)
     (λ q. let p = on-diff y x (λ r. q (ap slot r ∙ e)) in let h = held-there t s (slot y) q in omega arith))
     (λ d. sym (on-diff y x (λ r. d (subst (λ (k : ℕ). Lives t k) (sym r) v))))
@@ -85,7 +85,7 @@ module _ (y : ℕ) (d : y ≢ 0) where
 -- ---- a fresh node with one hold
 
 -- p is t but for the counts, and u has the node of id besides
-module _ (t p u : Tables) (id : ℕ) (ks : List ℕ) (v : ℕ) (eight : length ks ≡ 8) (size : cap p ≡ cap t) (words : (b f : ℕ) → f < holds → W p b f ≡ W t b f)
+module _ (t p : Tables) {u : Tables} (id : ℕ) (ks : List ℕ) (v : ℕ) (eight : length ks ≡ 8) (size : cap p ≡ cap t) (words : (b f : ℕ) → f < holds → W p b f ≡ W t b f)
     (new : Fresh p u id ks v 1 0) where
   caps : cap u ≡ cap t
   caps = new .caps ∙ size

@@ -26,20 +26,20 @@ fit = omega arith
 -- ## One call
 
 -- a call that is no release, accepted or refused, ends no node
-call-grows : (t : Tables) → WellFormed cubeKids deepest t → (c : Call) → Handed c → NoRelease c → Extends cubeKids (cap t) (W t) (W (outcome t c .after))
-call-grows t w (leaf v) h n = grew-extends cubeKids fit (leaf-ends-none cubeKids deepest t fit w v)
-call-grows t w (branch ks) h n = grew-extends cubeKids fit (branch-ends-none cubeKids deepest t fit w ks h)
-call-grows t w (hold b) h n = grew-extends cubeKids fit (hold-ends-none t b)
-call-grows t w (release b) h n = absurd n
-call-grows t w (voxel b e p v) h n = edit-grows t w b e p v h .1
+call-grows : {t : Tables} → WellFormed cubeKids deepest t → (c : Call) → Handed c → NoRelease c → Extends cubeKids (cap t) (W t) (W (outcome t c .after))
+call-grows w (leaf v) h n = grew-extends cubeKids fit (leaf-ends-none fit w v)
+call-grows w (branch ks) h n = grew-extends cubeKids fit (branch-ends-none fit w ks h)
+call-grows {t} w (hold b) h n = grew-extends cubeKids fit (hold-ends-none t b)
+call-grows w (release b) h n = absurd n
+call-grows w (voxel b e p v) h n = edit-grows w b e p v h .1
 
-call-keeps-all : (t : Tables) (c : Call) → WellFormed cubeKids deepest t → Handed c → NoRelease c → AllKept t (outcome t c .after)
-call-keeps-all t c w h n = let d = call-does t w c h in record { well = d .well; size = d .size; grows = call-grows t w c h n }
+call-keeps-all : {t : Tables} (c : Call) → WellFormed cubeKids deepest t → Handed c → NoRelease c → AllKept t (outcome t c .after)
+call-keeps-all c w h n = let d = call-does w c h in record { well = d .well; size = d .size; grows = call-grows w c h n }
 
 -- ## Any number of calls
 
-all-kept-then : (t u v : Tables) → AllKept t u → AllKept u v → AllKept t v
-all-kept-then t u v g h = record {
+all-kept-then : {t u : Tables} (v : Tables) → AllKept t u → AllKept u v → AllKept t v
+all-kept-then {u = u} v g h = record {
   well = h .well;
   size = h .size ∙ g .size;
   grows = extends-trans (g .grows) (subst (λ (k : ℕ). Extends cubeKids k (W u) (W v)) (g .size) (h .grows));
@@ -47,13 +47,13 @@ all-kept-then t u v g h = record {
 
 pub unreleased-keeps-all : {t u : Tables} → WellFormed cubeKids deepest t → Unreleased t u → AllKept t u
 unreleased-keeps-all w none = record { well = w; size = refl; grows = λ a l. record { still = l; kids = λ i k. refl; value = refl; height = refl } }
-unreleased-keeps-all {t} {u} w (and c h n r) =
-    let g = call-keeps-all t c w h n in
-    all-kept-then t (outcome t c .after) u g (unreleased-keeps-all (g .well) r)
+unreleased-keeps-all {u = u} w (and c h n r) =
+    let g = call-keeps-all c w h n in
+    all-kept-then u g (unreleased-keeps-all (g .well) r)
 
 -- what stands between two edits, with the capacity that the tables had at the start
 pub all-kept-later : (c₀ : ℕ) {t u : Tables} → cap t ≡ c₀ → AllKept t u → Later cubeKids c₀ (W t) (W u)
 all-kept-later c₀ {t} {u} e g = record {
   grows = subst (λ (k : ℕ). Extends cubeKids k (W t) (W u)) e (g .grows);
-  made = subst (λ (k : ℕ). WellMade cubeKids k (W u)) (g .size ∙ e) (wf-made cubeKids deepest u (omega arith) (g .well));
+  made = subst (λ (k : ℕ). WellMade cubeKids k (W u)) (g .size ∙ e) (wf-made (omega arith) (g .well));
 }

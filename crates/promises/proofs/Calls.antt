@@ -30,19 +30,19 @@ fit = omega arith
 
 -- ## Each call
 
-module _ (t : Tables) (w : WellFormed cubeKids deepest t) where
+module _ {t : Tables} (w : WellFormed cubeKids deepest t) where
   pub call-does : (c : Call) → Handed c
       → Does cubeKids deepest t (outcome t c .after) (λ y. grants (outcome t c) c y) (λ y. takesOf (outcome t c) c y) (λ s. ended t (outcome t c .after) s)
-  call-does (leaf v) h = leaf-does cubeKids deepest fit t w v h
-  call-does (branch ks) h = branch-does cubeKids deepest fit t w (omega arith) ks h (λ i p q. absurd (omega arith))
-  call-does (hold b) h = hold-does cubeKids deepest fit t w b
-  call-does (release b) h = release-does cubeKids deepest fit t w b
-  call-does (voxel b e p v) h = edit-does t w b e p v h
+  call-does (leaf v) h = leaf-does fit w v h
+  call-does (branch ks) h = branch-does fit w (omega arith) ks h (λ i p q. absurd (omega arith))
+  call-does (hold b) h = hold-does fit w b
+  call-does (release b) h = release-does fit w b
+  call-does (voxel b e p v) h = edit-does w b e p v h
 
   -- Any call, accepted or refused, keeps every root that is EMPTY or live before and afterwards: held, or at or below a held one.
   pub call-keeps : (a : ℕ) (c : Call) → Handed c → LiveOr0 (cap t) (W t) a → LiveOr0 (cap (outcome t c .after)) (W (outcome t c .after)) a
       → Kept cubeKids deepest t (outcome t c .after) a
-  call-keeps a c h l k = there-kept cubeKids deepest fit w (call-does c h) a l k (let s = ended-small t (outcome t c .after) (slot a) in omega arith)
+  call-keeps a c h l k = there-kept fit w (call-does c h) a l k (let s = ended-small t (outcome t c .after) (slot a) in omega arith)
 
   -- A node goes in a call exactly if nobody holds it afterwards, that is, all holds that it had or was granted are taken, and no node that is there
   -- afterwards has it as a child.
@@ -50,14 +50,14 @@ module _ (t : Tables) (w : WellFormed cubeKids deepest t) where
       → (Lives (outcome t c .after) y → ⊥)
       ↔ ((holdsOn t y + grants (outcome t c) c y ≡ takesOf (outcome t c) c y)
       × ((b : ℕ) → Lives (outcome t c .after) b → occ y (kidsOf kidWords (W (outcome t c .after)) (slot b)) ≡ 0))
-  gone-exactly c h = follows.gone-exactly cubeKids deepest fit w (call-does c h)
+  gone-exactly c h = follows.gone-exactly fit w (call-does c h)
 
   -- A node that is there before and afterwards keeps its id, its children, its stored value and its height.
   pub stays : (c : Call) → Handed c → (y : ℕ) → Lives t y → Lives (outcome t c .after) y → Same cubeKids (cap t) (W t) (W (outcome t c .after)) y
-  stays c h y l k = follows.stays cubeKids deepest fit w (call-does c h) y l k (let s = ended-small t (outcome t c .after) (slot y) in omega arith)
+  stays c h y l k = follows.stays fit w (call-does c h) y l k (let s = ended-small t (outcome t c .after) (slot y) in omega arith)
 
 pub step-does : (t u : Tables) (g k j : ℕ → ℕ) → WellFormed cubeKids deepest t → Step t u g k j → Does cubeKids deepest t u g k j
-step-does t u g k j w (call c h) = call-does t w c h
+step-does t u g k j w (call c h) = call-does w c h
 
 -- ## Any calls since the fresh arena
 
@@ -81,13 +81,13 @@ calls-do = since-does cubeKids deepest fit Step step-does
 -- An old id is refused after 1 to 32,765 recyclings of its slot, by every call that is handed it.
 pub old-refused : {t u : Tables} {granted taken times : ℕ → ℕ} → WellFormed cubeKids deepest t → Since Step t u granted taken times → (y : ℕ) → Lives t y
     → 1 ≤ times (slot y) → times (slot y) ≤ 32765 → Refused u y
-old-refused {t} {u} w k y v a b = let d = calls-do w k in dead-refused u y (live-nonzero v) (old-ended cubeKids deepest fit w d y v a b) (d .well .sized)
+old-refused {u = u} w k y v a b = let d = calls-do w k in dead-refused u y (live-nonzero v) (old-ended fit w d y v a b) (d .well .sized)
 
 -- After 32,766 it can match again: if a node with the same children is in the slot then, its id is the same number. (So is a leaf's of another value: the id
 -- does not hold the value.)
 pub matches-again : {t u : Tables} {granted taken times : ℕ → ℕ} → WellFormed cubeKids deepest t → Since Step t u granted taken times → (y : ℕ) → Lives t y
     → times (slot y) % 32766 ≡ 0 → (z : ℕ) → Lives u z → slot z ≡ slot y → ((i : ℕ) → i < kidWords → W u (slot y) i ≡ W t (slot y) i) → z ≡ y
-matches-again w k = follows.matches-again cubeKids deepest fit w (calls-do w k)
+matches-again w k = follows.matches-again fit w (calls-do w k)
 
 -- And there are well-formed tables with a live id y, and calls after which the slot of y was recycled 32,766 times and y is live.
 pub can-match-again : (t : Tables) × (u : Tables) × (granted : ℕ → ℕ) × (taken : ℕ → ℕ) × (times : ℕ → ℕ) × (y : ℕ)

@@ -19,27 +19,27 @@ use Rattle.promises.proofs.Shows.{Shows, empty-shows, edit-shows, kept-
 use Rattle.promises.proofs.Octants.{solid-shows, octants-show}
 
 shows : {d : ℕ} {t : Tables} {a : ℕ} {F : Cube d} → Stands d t a F → Shows d t a F
-shows (empty {d = d} {t = t} w) = empty-shows d t w
-shows (solid {d = d} {t = t} {a = a} w l f) = solid-shows d t a w l f
+shows (empty {d = d} {t = t} w) = empty-shows d w
+shows (solid {d = d} {t = t} {a = a} w l f) = solid-shows d a w l f
 shows (octants {d = d} {t = t} {a = a} l b F s) = octants-show d t a l b F (λ i h. shows (s i h))
-shows (edit {d = d} {t = t} {a = a} {F = F} c v h ok s) = edit-shows d t a F c v h ok (shows s)
+shows (edit {d = d} {t = t} {a = a} {F = F} c v h ok s) = edit-shows d a F c v h ok (shows s)
 shows (other {d = d} {t = t} {a = a} {F = F} c h k s) =
     let z = shows s in
-    kept-shows d t (outcome t c .after) a F (call-keeps t (z .well) a c h (z .there) k) z
-shows (scale {d = d} {t = t} {a = a} {F = F} e i s) = scale-shows d t a F e i (shows s)
+    kept-shows d a F (call-keeps (z .well) a c h (z .there) k) z
+shows (scale {d = d} {t = t} {a = a} {F = F} e i s) = scale-shows d a F e i (shows s)
 
 -- ## At the depth of the cube
 
 module _ {d : ℕ} {t : Tables} {a : ℕ} {F : Cube d} (s : Stands d t a F) where
   -- lookup answers every cell as the plain cube does
   pub plain-cube : d ≤ deepest → (c : At d) → Answers t a c (F c)
-  plain-cube h c = let z = shows s in answers-as (look-at t (z .well) h a (z .there) c) (z .cells c)
+  plain-cube h c = let z = shows s in answers-as (look-at (z .well) h a (z .there) c) (z .cells c)
 
   -- and expansion writes it
   pub plain-expansion : d ≤ deepestCube → (l : List ℕ) → length l ≡ 8 ^ d → Expands d t a l F
   plain-expansion h l e =
       let z = shows s in
-      let x = expand-at t (z .well) h a (z .there) l e in
+      let x = expand-at (z .well) h a (z .there) l e in
       record { accepted = x .accepted; size = x .size; cells = λ c. x .cells c ∙ z .cells c }
 
   -- it is one cube
@@ -78,13 +78,13 @@ module _ {d : ℕ} (k : ℕ) (c : At (d + k)) (b : At d) (m : Within k c b) {t :
   pub plain-deeper-at : {F : Cube d} → Stands d t a F → d + k ≤ deepest → Answers t a c (F b)
   plain-deeper-at s h =
       let z = shows s in
-      answers-as (look-at t (z .well) h a (z .there) c) (block-shown k c b m (z .well) (z .there) (z .low) ∙ z .cells b)
+      answers-as (look-at (z .well) h a (z .there) c) (block-shown k c b m (z .well) (z .there) (z .low) ∙ z .cells b)
 
   -- A smaller depth, no less than the height, answers for a block the number that each of its cells has: all have the same.
   pub plain-blocks : {F : Cube (d + k)} → Stands (d + k) t a F → heightAt (W t) a ≤ d → d ≤ deepest → Answers t a b (F c)
   plain-blocks s i h =
       let z = shows s in
-      answers-as (look-at t (z .well) h a (z .there) b) (sym (block-shown k c b m (z .well) (z .there) i) ∙ z .cells c)
+      answers-as (look-at (z .well) h a (z .there) b) (sym (block-shown k c b m (z .well) (z .there) i) ∙ z .cells c)
 
 -- An edit at a smaller depth, no less than the height, fills the block and no other cell of the cube.
 module _ {d : ℕ} (k : ℕ) {t : Tables} {a : ℕ} {F : Cube (d + k)} (s : Stands (d + k) t a F) (h : d + k ≤ deepest) (b : At d) (v : ℕ) (small : v ≤ largestValue)

@@ -67,13 +67,13 @@ module _ (t : Tables) (y : ℕ) (some : y ≢ 0) (dead : Lives t y → ⊥) wher
     unfolding lookNo
     dead-look d p =
         let f = look-four d p in
-        (f .0, f .1, (λ i. rw (sized-fits t sized, le-leb d deepest (i .0), i .1, i .2, i .3, not-there)))
+        (f .0, f .1, (λ i. rw (sized-fits sized, le-leb d deepest (i .0), i .1, i .2, i .3, not-there)))
 
     pub dead-expand : (d n : ℕ) → ByFour (expandNo t y d n) (d ≤ deepestCube)
     unfolding expandNo
     dead-expand d n =
         let f = expand-four d n in
-        (f .0, f .1, (λ i. rw (sized-fits t sized, le-leb d deepestCube i, not-there)))
+        (f .0, f .1, (λ i. rw (sized-fits sized, le-leb d deepestCube i, not-there)))
 
     pub dead-edit : (d : ℕ) (p : IVec3) (v : ℕ) → ByFour (editNo t y d p v) (Inside d p)
     dead-edit d p v = rw (edit-looks d p v) (dead-look d p)
@@ -89,7 +89,7 @@ module _ (t : Tables) (y : ℕ) (some : y ≢ 0) (dead : Lives t y → ⊥) wher
     -- An id that is neither EMPTY nor live is refused by every call that is handed it.
     pub dead-refused : Refused t y
     dead-refused =
-        let r = refusals.dead-refused cubeKids deepest t y sized some dead in
+        let r = refusals.dead-refused cubeKids deepest y sized some dead in
         record {
           hold = r .0;
           release = r .1;

@@ -28,21 +28,21 @@ fit = omega arith
 
 -- ## One call
 
-module _ (t : Tables) (w : WellFormed cubeKids deepest t) (fs : List ℕ) (s : Stack t fs) where
+module _ {t : Tables} (w : WellFormed cubeKids deepest t) (fs : List ℕ) (s : Stack t fs) where
   -- A call that is no release, accepted or refused: each node that it makes takes the last slot freed, else the lowest never used.
   pub call-draws : (c : Call) → Handed c → NoRelease c → Draws t fs (outcome t c)
-  call-draws (leaf v) h n = leaf-draws cubeKids deepest t fit w fs s v
-  call-draws (branch ks) h n = branch-draws cubeKids deepest t fit w fs s ks h
+  call-draws (leaf v) h n = leaf-draws fit w fs s v
+  call-draws (branch ks) h n = branch-draws fit w fs s ks h
   call-draws (hold b) h n = hold-draws t b fs s
   call-draws (release b) h n = absurd n
-  call-draws (voxel b e p v) h n = edit-draws t w fs s b e p v h
+  call-draws (voxel b e p v) h n = edit-draws w fs s b e p v h
 
   -- any call
   call-stack : (c : Call) → Handed c → Stack (outcome t c .after) (freedAfter t fs c)
   call-stack (leaf v) h = call-draws (leaf v) h tt .left
   call-stack (branch ks) h = call-draws (branch ks) h tt .left
   call-stack (hold b) h = call-draws (hold b) h tt .left
-  call-stack (release b) h = release-stack cubeKids deepest t fit w b fs s
+  call-stack (release b) h = release-stack fit w b fs s
   call-stack (voxel b e p v) h = call-draws (voxel b e p v) h tt .left
 
 -- ## Any calls since a fresh arena
@@ -51,10 +51,10 @@ module _ (t : Tables) (w : WellFormed cubeKids deepest t) (fs : List ℕ) (s : S
 pub freeing-stack : {t : Tables} {fs : List ℕ} → Freeing t fs → WellFormed cubeKids deepest t × Stack t fs
 freeing-stack (bare (fresh c k f e z)) =
     let w = fresh-made cubeKids deepest fit (fresh c k f e z) .0 in
-    (w, fresh-stack cubeKids deepest c k f e w)
+    (w, fresh-stack c k f e w)
 freeing-stack (then {t = t} {fs = fs} h c k) =
     let r = freeing-stack h in
-    (call-does t (r .0) c k .well, call-stack t (r .0) fs (r .1) c k)
+    (call-does (r .0) c k .well, call-stack (r .0) fs (r .1) c k)
 
 step-freeing : {t u : Tables} {g k j : ℕ → ℕ} {fs : List ℕ} → Freeing t fs → Step t u g k j → (gs : List ℕ) × Freeing u gs
 step-freeing {t} {fs = fs} h (call c k) = (freedAfter t fs c, then h c k)
@@ -83,16 +83,16 @@ module _ {t : Tables} {fs : List ℕ} (h : Freeing t fs) where
   -- So a leaf or a branch that is interned, and was not there, has that slot ..
   pub leaf-next : (v : ℕ) → internLeafOf t v .no ≡ 0 → ((y : ℕ) → HasContent t y empties v → ⊥)
       → slot (internLeafOf t v .id) ≡ lastFreed fs (t .arena .next)
-  leaf-next v z new = leaf-takes cubeKids deepest t fit w fs s v z new .0
+  leaf-next v z new = leaf-takes fit w fs s v z new .0
 
   pub branch-next : (ks : List ℕ) → Handed (branch ks) → internBranchOf cubeKids deepest t ks .no ≡ 0 → ((y : ℕ) → HasIds t y ks → ⊥)
       → slot (internBranchOf cubeKids deepest t ks .id) ≡ lastFreed fs (t .arena .next)
-  branch-next ks e z new = branch-takes cubeKids deepest t fit w fs s ks e z new .0
+  branch-next ks e z new = branch-takes fit w fs s ks e z new .0
 
   -- .. and a call that makes k nodes and one more, as an edit does, leaf first and upward, answers the last of them: it has the slot that the k leave.
   pub made-next : (c : Call) → Handed c → NoRelease c → (k : ℕ) → outcome t c .after .arena .live ≡ t .arena .live + suc k
       → slot (outcome t c .id) ≡ slotAfter k fs (t .arena .next)
-  made-next c e n = call-draws t w fs s c e n .given
+  made-next c e n = call-draws w fs s c e n .given
 
 -- ## After calls that release nothing
 
@@ -112,9 +112,9 @@ unreleased-left : {t u : Tables} (fs : List ℕ) → WellFormed cubeKids deepest
 unreleased-left {t} fs w s none = let z : 0 ≡ t .arena .live - t .arena .live = omega arith in (w, omega arith, subst (λ (k : ℕ). Stack t (drop k fs)) z s)
 unreleased-left {t} {u} fs w s (and c h n r) =
     let v = outcome t c .after in
-    let g = call-draws t w fs s c h n in
+    let g = call-draws w fs s c h n in
     let x = g .grows in
-    let e = unreleased-left (leftOf t v fs) (call-does t w c h .well) (g .left) r in
+    let e = unreleased-left (leftOf t v fs) (call-does w c h .well) (g .left) r in
     let y = e .1 in
     let z = drop-drop (v .arena .live - t .arena .live) (u .arena .live - v .arena .live) (u .arena .live - t .arena .live) fs (omega arith) in
     (e .0, omega arith, subst (λ (l : List ℕ). Stack u l) z (e .2))
@@ -133,7 +133,7 @@ unreleased-next {t} {u} {fs} h r k e =
 -- A release recycled slots, s the last of them; calls after it released nothing and made no node: s is given out next.
 pub release-next : {t u : Tables} {fs : List ℕ} → Freeing t fs → (id : ℕ) (ss : List ℕ) (s : ℕ) → recycledBy deepest t id ≡ ss ++ (s ∷ [])
     → Unreleased (outcome t (release id) .after) u → u .arena .live ≡ outcome t (release id) .after .arena .live → freshSlot (u .arena) ≡ s
-release-next {t} {u} {fs} h id ss s e r same =
+release-next {t} {fs} h id ss s e r same =
     let v = outcome t (release id) .after in
     let z : pushed (recycledBy deepest t id) fs ≡ s ∷ pushed ss fs = ap (λ (l : List ℕ). pushed l fs) e ∙ pushed-append ss (s ∷ []) fs in
     unreleased-next (then h (release id) tt) r 0 (omega arith) ∙ ap (λ (l : List ℕ). slotAfter 0 l (v .arena .next)) z
@@ -144,21 +144,21 @@ release-next {t} {u} {fs} h id ss s e r same =
 abbrev GivesOut : Tables → Tables → Type 0
 GivesOut t u = (t .arena .next ≤ u .arena .next) × ((s : ℕ) → t .arena .next ≤ s → s < u .arena .next → LiveSlot u s)
 
-module _ (t : Tables) (w : WellFormed cubeKids deepest t) (fs : List ℕ) (k : Stack t fs) where
+module _ {t : Tables} (w : WellFormed cubeKids deepest t) (fs : List ℕ) (k : Stack t fs) where
   making-gives : (c : Call) → Handed c → NoRelease c → GivesOut t (outcome t c .after)
   making-gives c h n =
       let u = outcome t c .after in
       let made = u .arena .live - t .arena .live in
-      let d = call-draws t w fs k c h n in
+      let d = call-draws w fs k c h n in
       let x = d .grows in
-      let e = next-after t u fs made (w .lives) (call-does t w c h .well .lives) (omega arith) k (d .left) in
+      let e = next-after t u fs made (w .lives) (call-does w c h .well .lives) (omega arith) k (d .left) in
       (omega arith, newly-given t u fs made k (d .left))
 
   call-gives : (c : Call) → Handed c → GivesOut t (outcome t c .after)
   call-gives (leaf v) h = making-gives (leaf v) h tt
   call-gives (branch ks) h = making-gives (branch ks) h tt
   call-gives (hold b) h = making-gives (hold b) h tt
-  call-gives (release b) h = let e = release-gives-none cubeKids deepest t fit w b in (omega arith, λ s i j. absurd (omega arith))
+  call-gives (release b) h = let e = release-gives-none fit w b in (omega arith, λ s i j. absurd (omega arith))
   call-gives (voxel b e p v) h = making-gives (voxel b e p v) h tt
 
 -- `next` is the lowest slot never used: none from it on was, and every one from 1 up to it.
@@ -167,8 +167,8 @@ unfolding Used
 never-used (bare f) s i u = u
 never-used (then {t = t} {fs = fs} h c k) s i u =
     let r = freeing-stack h in
-    let x = call-gives t (r .0) fs (r .1) c k .0 in
-    ⊎-elim (λ l. let y = live-given (outcome t c .after) (freedAfter t fs c) (call-stack t (r .0) fs (r .1) c k) s l in absurd (omega arith))
+    let x = call-gives (r .0) fs (r .1) c k .0 in
+    ⊎-elim (λ l. let y = live-given (outcome t c .after) (freedAfter t fs c) (call-stack (r .0) fs (r .1) c k) s l in absurd (omega arith))
     (λ l. never-used h s (omega arith) l) u
 
 pub used-below : {t : Tables} {fs : List ℕ} (h : Freeing t fs) (s : ℕ) → 1 ≤ s → s < t .arena .next → Used h s
@@ -176,4 +176,4 @@ unfolding Used
 used-below (bare (fresh c k f e z)) s i j = absurd (omega (arith, fresh-next c k f e))
 used-below (then {t = t} {fs = fs} h c k) s i j =
     let r = freeing-stack h in
-    cases (decLt s (t .arena .next)) (λ l. inr (used-below h s i l)) (λ l. inl (call-gives t (r .0) fs (r .1) c k .1 s (omega arith) j))
+    cases (decLt s (t .arena .next)) (λ l. inr (used-below h s i l)) (λ l. inl (call-gives (r .0) fs (r .1) c k .1 s (omega arith) j))

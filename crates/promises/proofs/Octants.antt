@@ -19,11 +19,11 @@ use Rattle.read_cell.proofs.Meaning.{wf-made}
 use Rattle.promises.specs.Promises.{Cube, inOctant, joined}
 use Rattle.promises.proofs.Shows.{Shows}
 
-pub solid-shows : (d : ℕ) (t : Tables) (a : ℕ) → WellFormed cubeKids deepest t → Lives t a → Leaf a → Shows d t a (λ s. valueAt (W t) a)
-solid-shows d t a w l f = record {
+pub solid-shows : (d : ℕ) {t : Tables} (a : ℕ) → WellFormed cubeKids deepest t → Lives t a → Leaf a → Shows d t a (λ s. valueAt (W t) a)
+solid-shows d {t} a w l f = record {
   well = w;
   there = inr l;
-  low = (let e = flat-low cubeKids (cap t) (W t) (wf-made cubeKids deepest t (omega arith) w) a (inr l) (inr f) in omega arith);
+  low = (let e = flat-low cubeKids (cap t) (W t) (wf-made (omega arith) w) a (inr l) (inr f) in omega arith);
   cells = λ c. look-flat (W t) (way c) a (inr f);
 }
 
@@ -54,7 +54,7 @@ octants-show d t a l b F s =
       well = w;
       there = inr l;
       low =
-          (let e = wf-made cubeKids deepest t (omega arith) w .branches a l b .tall in
+          (let e = wf-made (omega arith) w .branches a l b .tall in
           let m = max-under cubeKids (λ i. heightAt (W t) (childOf (W t) a i)) d (λ i h. s i h .low) in
           omega arith);
       cells = λ c.

@@ -53,13 +53,13 @@ module _ {d : ℕ} (t₀ : Tables) (w : WellFormed cubeKids deepest t₀) (deep-
       → editNo u₂ root d (spot q) j ≡ 0 → Unreleased t₃ u₃ → editNo u₃ r₃ d (spot p) i ≡ 0
       → BothOrders d t₀ root p i q j t₄ r₂ r₄
   both-orders ok₁ calls₁ ok₂ calls₂ ok₃ calls₃ ok₄ =
-      let s₁ = edit-right t₀ w root d (spot p) i hi ok₁ in
+      let s₁ = edit-right w root d (spot p) i hi ok₁ in
       let k₁ = unreleased-keeps-all (s₁ .well) calls₁ in
-      let s₂ = edit-right u₁ (k₁ .well) r₁ d (spot q) j hj ok₂ in
+      let s₂ = edit-right (k₁ .well) r₁ d (spot q) j hj ok₂ in
       let k₂ = unreleased-keeps-all (s₂ .well) calls₂ in
-      let s₃ = edit-right u₂ (k₂ .well) root d (spot q) j hj ok₃ in
+      let s₃ = edit-right (k₂ .well) root d (spot q) j hj ok₃ in
       let k₃ = unreleased-keeps-all (s₃ .well) calls₃ in
-      let s₄ = edit-right u₃ (k₃ .well) r₃ d (spot p) i hi ok₄ in
+      let s₄ = edit-right (k₃ .well) r₃ d (spot p) i hi ok₄ in
       let z₁ : cap t₁ ≡ cap t₀ = s₁ .size in
       let y₁ : cap u₁ ≡ cap t₀ = k₁ .size ∙ z₁ in
       let z₂ : cap t₂ ≡ cap t₀ = s₂ .size ∙ y₁ in
@@ -67,24 +67,24 @@ module _ {d : ℕ} (t₀ : Tables) (w : WellFormed cubeKids deepest t₀) (deep-
       let z₃ : cap t₃ ≡ cap t₀ = s₃ .size ∙ y₂ in
       let y₃ : cap u₃ ≡ cap t₀ = k₃ .size ∙ z₃ in
       let z₄ : cap t₄ ≡ cap t₀ = s₄ .size ∙ y₃ in
-      let e₁ = cell-edited (cap t₀) t₀ w refl root p i hi ok₁ in
-      let e₂ = cell-edited (cap t₀) u₁ (k₁ .well) y₁ r₁ q j hj ok₂ in
-      let e₃ = cell-edited (cap t₀) u₂ (k₂ .well) y₂ root q j hj ok₃ in
-      let e₄ = cell-edited (cap t₀) u₃ (k₃ .well) y₃ r₃ p i hi ok₄ in
+      let e₁ = cell-edited (cap t₀) w refl root p i hi ok₁ in
+      let e₂ = cell-edited (cap t₀) (k₁ .well) y₁ r₁ q j hj ok₂ in
+      let e₃ = cell-edited (cap t₀) (k₂ .well) y₂ root q j hj ok₃ in
+      let e₄ = cell-edited (cap t₀) (k₃ .well) y₃ r₃ p i hi ok₄ in
       let b : TwoChanged d (W t₀) root p i q j (W t₄) r₂ r₄ =
-      demand-3 p q (wf-made cubeKids deepest t₀ (omega arith) w) tidy apart e₁ (all-kept-later (cap t₀) z₁ k₁) e₂ (all-kept-later (cap t₀) z₂ k₂) e₃ (all-kept-later (cap t₀) z₃ k₃) e₄ in
+      demand-3 p q (wf-made (omega arith) w) tidy apart e₁ (all-kept-later (cap t₀) z₁ k₁) e₂ (all-kept-later (cap t₀) z₂ k₂) e₃ (all-kept-later (cap t₀) z₃ k₃) e₄ in
       let there : LiveOr0 (cap t₄) (W t₄) r₄ = subst (λ (k : ℕ). LiveOr0 k (W t₄) r₄) (sym z₄) (e₄ .there) in
       record {
         one = b .one;
-        at-p = answers-as (look-at t₄ (s₄ .well) deep-enough r₄ there p) (b .at-p);
-        at-q = answers-as (look-at t₄ (s₄ .well) deep-enough r₄ there q) (b .at-q);
-        elsewhere = λ s a c. answers-alike (look-at t₄ (s₄ .well) deep-enough r₄ there s) (look-at t₀ w deep-enough root (tidy .there) s) (b .elsewhere s a c);
+        at-p = answers-as (look-at (s₄ .well) deep-enough r₄ there p) (b .at-p);
+        at-q = answers-as (look-at (s₄ .well) deep-enough r₄ there q) (b .at-q);
+        elsewhere = λ s a c. answers-alike (look-at (s₄ .well) deep-enough r₄ there s) (look-at w deep-enough root (tidy .there) s) (b .elsewhere s a c);
         cube = λ g l m el em.
-            let x = expand-at t₀ w g root (tidy .there) m em in
+            let x = expand-at w g root (tidy .there) m em in
             let old = expandOf t₀ root d m .cube in
             let one = set old (standsAt p) i in
             let k : length one ≡ 8 ^ d = length-set old (standsAt p) i ∙ x .size in
-            expand-list t₄ (s₄ .well) g r₄ there l el (set one (standsAt q) j) (length-set one (standsAt q) j ∙ k)
+            expand-list (s₄ .well) g r₄ there l el (set one (standsAt q) j) (length-set one (standsAt q) j ∙ k)
             (λ s.
             one-set q j one k s (look (W t₄) (way s) r₄) (λ z. ap (λ (y : List ℕ). look (W t₄) y r₄) (way-one s q z) ∙ b .at-q)
             (λ n. sym

@@ -40,8 +40,8 @@ fit = omega arith
 pub held-is-there : (t : Tables) (a : ℕ) → Held t a → There t a
 held-is-there = held-there
 
-pub below-is-there : (t : Tables) → WellFormed cubeKids deepest t → (a b : ℕ) → There t a → Below cubeKids (W t) a b → There t b
-below-is-there t w a b l u = below-live (wf-made cubeKids deepest t fit w) l u
+pub below-is-there : {t : Tables} → WellFormed cubeKids deepest t → (a b : ℕ) → There t a → Below cubeKids (W t) a b → There t b
+below-is-there w a b l u = below-live (wf-made fit w) l u
 
 -- ## Each of them stands for a cube
 
@@ -49,7 +49,7 @@ treeCube : Words → (d : ℕ) → ℕ → Cube d
 treeCube U zero a = λ s. valueAt U a
 treeCube U (suc d) a = elim (kind a) [ empty _ ↦ λ s. valueAt U a | leaf _ ↦ λ s. valueAt U a | branch _ ↦ joined (λ i. treeCube U d (childOf U a i)) ]
 
-module _ (t : Tables) (w : WellFormed cubeKids deepest t) where
+module _ {t : Tables} (w : WellFormed cubeKids deepest t) where
   flat-stands : (d a : ℕ) → There t a → Flat a → Stands d t a (λ s. valueAt (W t) a)
   flat-stands d a l (inl e) =
       subst (λ (b : ℕ). Stands d t b (λ s. valueAt (W t) b)) (sym e)
@@ -65,14 +65,14 @@ module _ (t : Tables) (w : WellFormed cubeKids deepest t) where
       go (empty e) = flat-stands (suc d) a l (inl e)
       go (leaf f) = flat-stands (suc d) a l (inr f)
       go (branch b) =
-          let m = wf-made cubeKids deepest t fit w in
+          let m = wf-made fit w in
           let v : Lives t a = live l (b .0) in
           octants v b (λ i. treeCube (W t) d (childOf (W t) a i))
           (λ i k. ih (childOf (W t) a i) (m .branches a v b .kids i k) (omega (arith, kid-lower cubeKids (cap t) (W t) m a i v b k)))
 
   tree-stands : (d a : ℕ) → There t a → heightAt (W t) a ≤ d → Stands d t a (treeCube (W t) d a)
   unfolding treeCube
-  tree-stands zero a l h = flat-stands 0 a l (low-flat cubeKids (cap t) (W t) (wf-made cubeKids deepest t fit w) a l (omega arith))
+  tree-stands zero a l h = flat-stands 0 a l (low-flat cubeKids (cap t) (W t) (wf-made fit w) a l (omega arith))
   tree-stands (suc d) a l h = step d a l h (λ b k g. tree-stands d b k g)
 
   -- Every root that is there stands for a cube, at every depth no less than its height.
@@ -90,7 +90,7 @@ none-value : (U : Words) → valueFor cubeKids U empties ≡ 0
 unfolding valueFor empties sumTo valueAt
 none-value U = refl
 
-module _ (u : Tables) (w : WellFormed cubeKids deepest u) (id v : ℕ) (ks : List ℕ) (k : HasContent u id ks v) where
+module _ {u : Tables} (w : WellFormed cubeKids deepest u) (id v : ℕ) (ks : List ℕ) (k : HasContent u id ks v) where
   pub value-is : valueAt (W u) id ≡ v
   unfolding valueAt
   value-is = rw (ne-eqb id 0 (live-nonzero (k .live))) (k .worth)
@@ -109,7 +109,7 @@ module _ (u : Tables) (w : WellFormed cubeKids deepest u) (id v : ℕ) (ks : Lis
       go (empty z) = inl z
       go (leaf l) = inr l
       go (branch b) =
-          absurd (wf-made cubeKids deepest u fit w .branches id (k .live) b .notAllEmpty (λ i h. kid-is i (omega arith) ∙ ap (λ (l : List ℕ). getD l i 0) e ∙ empties-at i (omega arith)))
+          absurd (wf-made fit w .branches id (k .live) b .notAllEmpty (λ i h. kid-is i (omega arith) ∙ ap (λ (l : List ℕ). getD l i 0) e ∙ empties-at i (omega arith)))
 
   pub branch-is : length ks ≡ kidWords → (U : Words) → v ≡ valueFor cubeKids U ks → Branch id
   branch-is e U q = go (kind id)
@@ -121,7 +121,7 @@ module _ (u : Tables) (w : WellFormed cubeKids deepest u) (id v : ℕ) (ks : Lis
 
       flat : Leaf id → Branch id
       flat l =
-          let z = wf-made cubeKids deepest u fit w .leaves id (k .live) l .flat in
+          let z = wf-made fit w .leaves id (k .live) l .flat in
           let x = height-is in
           ⊎-elim
           (λ n. absurd (omega (arith, n .some, k .worth, q, ap (valueFor cubeKids U) (bare n), none-value U)))
@@ -136,14 +136,14 @@ module _ (u : Tables) (w : WellFormed cubeKids deepest u) (id v : ℕ) (ks : Lis
 -- ## What interning answers
 
 -- A leaf stands for its value throughout, at every depth.
-pub leaf-stands : (d : ℕ) (t : Tables) → WellFormed cubeKids deepest t → (v : ℕ) → v ≤ largestValue → internLeafOf t v .no ≡ 0
+pub leaf-stands : (d : ℕ) {t : Tables} → WellFormed cubeKids deepest t → (v : ℕ) → v ≤ largestValue → internLeafOf t v .no ≡ 0
     → Stands d (internLeafOf t v .after) (internLeafOf t v .id) (λ s. v)
-leaf-stands d t w v h ok =
+leaf-stands d {t} w v h ok =
     let u = internLeafOf t v .after in
     let id = internLeafOf t v .id in
-    let k = leaf-interned cubeKids deepest t fit w v ok .has in
-    let x = leaf-well cubeKids deepest t v fit h w in
-    subst (λ (y : ℕ). Stands d u id (λ s. y)) (value-is u x id v empties k) (flat-stands u x d id (inr (k .live)) (flat-is u x id v empties k refl))
+    let k = leaf-interned fit w v ok .has in
+    let x = leaf-well v fit h w in
+    subst (λ (y : ℕ). Stands d u id (λ s. y)) (value-is x id v empties k) (flat-stands x d id (inr (k .live)) (flat-is x id v empties k refl))
 
 -- A branch of children that stand for cubes stands for these as octants.
 pub branch-stands : {d : ℕ} {t : Tables} (ks : List ℕ) (F : ℕ → Cube d) → length ks ≡ kidWords → ((i : ℕ) → i < cubeKids → Stands d t (getD ks i 0) (F i))
@@ -152,11 +152,11 @@ branch-stands {d} {t} ks F e s ok =
     let u = internBranchOf cubeKids deepest t ks .after in
     let id = internBranchOf cubeKids deepest t ks .id in
     let w = stands-well (s 0 (omega arith)) in
-    let x = call-does t w (branchCall ks) e .well in
-    let k = branch-interned cubeKids deepest t fit w ks e ok .has in
-    let b = branch-is u x id _ ks k e (W t) refl in
+    let x = call-does w (branchCall ks) e .well in
+    let k = branch-interned fit w ks e ok .has in
+    let b = branch-is x id _ ks k e (W t) refl in
     octants (k .live) b F
     (λ i h.
-    let q : childOf (W u) id i ≡ getD ks i 0 = kid-is u x id _ ks k i h in
-    let l : There u (getD ks i 0) = subst (λ (y : ℕ). There u y) q (wf-made cubeKids deepest u fit x .branches id (k .live) b .kids i h) in
+    let q : childOf (W u) id i ≡ getD ks i 0 = kid-is x id _ ks k i h in
+    let l : There u (getD ks i 0) = subst (λ (y : ℕ). There u y) q (wf-made fit x .branches id (k .live) b .kids i h) in
     subst (λ (y : ℕ). Stands d u y (F i)) (sym q) (other (branchCall ks) e l (s i h)))

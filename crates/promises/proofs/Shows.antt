@@ -41,8 +41,8 @@ pub record Shows (d : ℕ) (t : Tables) (a : ℕ) (F : Cube d) : Type 0 where
   pub low : heightAt (W t) a ≤ d
   pub cells : (c : At d) → look (W t) (way c) a ≡ F c
 
-pub empty-shows : (d : ℕ) (t : Tables) → WellFormed cubeKids deepest t → Shows d t 0 (λ c. 0)
-empty-shows d t w = record {
+pub empty-shows : (d : ℕ) {t : Tables} → WellFormed cubeKids deepest t → Shows d t 0 (λ c. 0)
+empty-shows d {t} w = record {
   well = w;
   there = inl refl;
   low = (let e = height-empty (W t) 0 refl in omega arith);
@@ -78,11 +78,11 @@ pub changed-elsewhere : {d : ℕ} (F : Cube d) (c : At d) (v : ℕ) (s : At d) �
 unfolding changed
 changed-elsewhere F c v s n = split (sameAt s c) (λ q. absurd (n (same-spot s c q))) (λ q. rw q)
 
-pub edit-shows : (d : ℕ) (t : Tables) (a : ℕ) (F : Cube d) (c : At d) (v : ℕ) → v ≤ largestValue → editNo t a d (spot c) v ≡ 0 → Shows d t a F
+pub edit-shows : (d : ℕ) {t : Tables} (a : ℕ) (F : Cube d) (c : At d) (v : ℕ) → v ≤ largestValue → editNo t a d (spot c) v ≡ 0 → Shows d t a F
     → Shows d (then t a c v) (gives t a c v) (changed F c v)
 unfolding changed whole
-edit-shows d t a F c v h ok s =
-    let r = edit-right t (s .well) a d (spot c) v h ok in
+edit-shows d {t} a F c v h ok s =
+    let r = edit-right (s .well) a d (spot c) v h ok in
     let e = r .edited in
     record {
       well = r .well;
@@ -93,12 +93,12 @@ edit-shows d t a F c v h ok s =
           (λ q. rw q (e .others (way i) (cube-cell d (i .x) (i .y) (i .z)) (same-no i c q) ∙ s .cells i));
     }
 
-pub kept-shows : (d : ℕ) (t u : Tables) (a : ℕ) (F : Cube d) → Kept cubeKids deepest t u a → Shows d t a F → Shows d u a F
-kept-shows d t u a F k s =
+pub kept-shows : (d : ℕ) {t u : Tables} (a : ℕ) (F : Cube d) → Kept cubeKids deepest t u a → Shows d t a F → Shows d u a F
+kept-shows d {t} {u} a F k s =
     record {
       well = k .well;
       there = kept-there (omega arith) (s .well) (s .there) k;
-      low = rw (height-later cubeKids (cap t) (W t) (W u) (wf-made cubeKids deepest t (omega arith) (s .well)) a (s .there) (k .keeps)) at (s .low);
+      low = rw (height-later cubeKids (cap t) (W t) (W u) (wf-made (omega arith) (s .well)) a (s .there) (k .keeps)) at (s .low);
       cells = λ c. kept-look (s .well) (s .there) k c ∙ s .cells c;
     }
 
@@ -117,7 +117,7 @@ onto-first e k x =
     let q : x * (2 ^ e * 2 ^ k) ≡ x * 2 ^ k * 2 ^ e = omega arith in
     ap (λ (i : ℕ). i / 2 ^ e) (ap (λ (i : ℕ). x * i) (pow-add 2 e k) ∙ q) ∙ mul-div-cancel (x * 2 ^ k) (pow-pos e)
 
-module _ (t : Tables) (w : WellFormed cubeKids deepest t) (a : ℕ) (l : There t a) where
+module _ {t : Tables} (w : WellFormed cubeKids deepest t) (a : ℕ) (l : There t a) where
   shown : ℕ → ℕ → ℕ → ℕ → ℕ
   shown d x y z = look (W t) (cubePath d x y z) a
 
@@ -128,9 +128,9 @@ module _ (t : Tables) (w : WellFormed cubeKids deepest t) (a : ℕ) (l : There t
   shown-deeper : (d k x y z : ℕ) → heightAt (W t) a ≤ d → shown (d + k) x y z ≡ shown d (x / 2 ^ k) (y / 2 ^ k) (z / 2 ^ k)
   unfolding shown
   shown-deeper d k x y z h =
-      let s = well-small cubeKids deepest t w in
+      let s = well-small w in
       sym (cell-whole (W t) s (d + k) a x y z)
-      ∙ plain-deeper (cap t) (W t) (wf-made cubeKids deepest t (omega arith) w) d k a x y z l h
+      ∙ plain-deeper (cap t) (W t) (wf-made (omega arith) w) d k a x y z l h
       ∙ cell-whole (W t) s d a (x / 2 ^ k) (y / 2 ^ k) (z / 2 ^ k)
 
   shown-up : (d k x y z : ℕ) → heightAt (W t) a ≤ d
@@ -156,17 +156,17 @@ module _ (t : Tables) (w : WellFormed cubeKids deepest t) (a : ℕ) (l : There t
       let q : e + (d - e) ≡ d = omega arith in
       subst (λ (n : ℕ). shown e x y z ≡ shown n (x * 2 ^ n / 2 ^ e) (y * 2 ^ n / 2 ^ e) (z * 2 ^ n / 2 ^ e)) q (shown-down e (d - e) x y z i))
 
-pub scale-shows : (d : ℕ) (t : Tables) (a : ℕ) (F : Cube d) (e : ℕ) → heightAt (W t) a ≤ e → Shows d t a F → Shows e t a (scaled e F)
+pub scale-shows : (d : ℕ) {t : Tables} (a : ℕ) (F : Cube d) (e : ℕ) → heightAt (W t) a ≤ e → Shows d t a F → Shows e t a (scaled e F)
 unfolding shown
-scale-shows d t a F e i s = record {
+scale-shows d {t} a F e i s = record {
   well = s .well;
   there = s .there;
   low = i;
-  cells = λ c. shown-onto t (s .well) a (s .there) d e (c .x) (c .y) (c .z) (s .low) i ∙ s .cells (onto d c);
+  cells = λ c. shown-onto (s .well) a (s .there) d e (c .x) (c .y) (c .z) (s .low) i ∙ s .cells (onto d c);
 }
 
 -- the cells of a block show its number
 pub block-shown : {d : ℕ} (k : ℕ) (c : At (d + k)) (b : At d) → Within k c b → {t : Tables} (w : WellFormed cubeKids deepest t) {a : ℕ} (l : There t a)
     → heightAt (W t) a ≤ d → look (W t) (way c) a ≡ look (W t) (way b) a
 unfolding shown
-block-shown {d} k c b m {t} w {a} l h = shown-deeper t w a l d k (c .x) (c .y) (c .z) h ∙ shown-as t w a l d (m .0) (m .1) (m .2)
+block-shown {d} k c b m {t} w {a} l h = shown-deeper w a l d k (c .x) (c .y) (c .z) h ∙ shown-as w a l d (m .0) (m .1) (m .2)

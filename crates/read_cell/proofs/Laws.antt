@@ -43,8 +43,8 @@ live-there t id (inr l) =
 
 -- ---- on well-formed tables no stored value has more than 16 bits
 
-pub well-small : (n tallest : ℕ) (t : Tables) → WellFormed n tallest t → (s : ℕ) → W t s value < 2 ^ 16
-well-small n tallest t w s =
+pub well-small : {n tallest : ℕ} {t : Tables} → WellFormed n tallest t → (s : ℕ) → W t s value < 2 ^ 16
+well-small {t = t} w s =
     cases (decLt s (cap t))
     (λ l.
     cases (decLt (W t s own) floor)
@@ -56,14 +56,14 @@ well-small n tallest t w s =
 
 -- ---- lookup as document 01 has it
 
-module _ (n tallest : ℕ) (t : Tables) (w : WellFormed n tallest t) (id d x y z : ℕ) (hd : d ≤ deepest) (hx : x < 2 ^ d) (hy : y < 2 ^ d) (hz : z < 2 ^ d) where
+module _ {n tallest : ℕ} {t : Tables} (w : WellFormed n tallest t) (id d x y z : ℕ) (hd : d ≤ deepest) (hx : x < 2 ^ d) (hy : y < 2 ^ d) (hz : z < 2 ^ d) where
   pub lookup-right : LiveOr0 (cap t) (W t) id
       → (lookOf t id d (place x y z) .no ≡ 0) × (lookOf t id d (place x y z) .value ≡ look (W t) (cubePath d x y z) id)
   unfolding lookOf lookNo inside whole
   lookup-right l =
       let k : lookNo t id d (place x y z) ≡ 0 =
-      rw (sized-fits t (w .sized), le-leb d deepest hd, lt-ltb x (2 ^ d) hx, lt-ltb y (2 ^ d) hy, lt-ltb z (2 ^ d) hz, live-there t id l) in
-      rw (eq-eqb (lookNo t id d (place x y z)) 0 k) (refl, cell-whole (W t) (well-small n tallest t w) d id x y z)
+      rw (sized-fits (w .sized), le-leb d deepest hd, lt-ltb x (2 ^ d) hx, lt-ltb y (2 ^ d) hy, lt-ltb z (2 ^ d) hz, live-there t id l) in
+      rw (eq-eqb (lookNo t id d (place x y z)) 0 k) (refl, cell-whole (W t) (well-small w) d id x y z)
 
 -- ---- expansion writes every cell, and each equals lookup; a refused one writes none
 

@@ -41,7 +41,7 @@ pub generation-small : (x : ℕ) → generationOf x < 2 ^ 15
 unfolding generationOf
 generation-small x = omega arith
 
-module _ (n tallest : ℕ) (t : Tables) (m : n ≤ 8) (w : WellFormed n tallest t) where
+module _ {n tallest : ℕ} {t : Tables} (m : n ≤ 8) (w : WellFormed n tallest t) where
   at : (a : ℕ) → Live (cap t) (W t) a → LiveSlot t (slot a)
   at a l = (l .low, rw (l .is) (l .high))
 

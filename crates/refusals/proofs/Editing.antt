@@ -114,7 +114,7 @@ module _ (t : Tables) (root d : ℕ) (p : IVec3) (v : ℕ) where
 
   module _ (w : WellFormed cubeKids deepest t) (n : lookNo t root d p ≡ 0) (low : heightAt (W t) root ≤ d) where
     abbrev q : Posed cubeKids deepest t root d (cellAt d p)
-    q = posed t w root d p n
+    q = posed w root d p n
 
     ten-to : (r : Need) → result ≡ r → tenOf t r ≡ true → Why 10
     ten-to (have r) i e =
@@ -152,7 +152,7 @@ module _ (t : Tables) (root d : ℕ) (p : IVec3) (v : ℕ) where
 
   module _ (fair : Fair cubeKids deepest t) where
     well : (Why 1 → ⊥) → Fair cubeKids deepest t → WellFormed cubeKids deepest t
-    well n (inl f) = absurd (n (unsizedEdit (λ s. true≢false (sym (sized-fits t s) ∙ f))))
+    well n (inl f) = absurd (n (unsizedEdit (λ s. true≢false (sym (sized-fits s) ∙ f))))
     well n (inr w) = w
 
     past : (Why 1 → ⊥) → (Why 2 → ⊥) → (Why 3 → ⊥) → (Why 4 → ⊥) → lookNo t root d p ≡ 0

@@ -15,10 +15,10 @@ use Rattle.arena_branch.proofs.intern_branch.Statement.{statement}
 use Rattle.arena_branch.proofs.intern_branch.Tie as tie
 
 -- a cube's children fill the words of a row: no id stands beyond them
-cube-law : (t : Tables) (ids : List BlockId) (ks : List ℕ) (x : Out) → length ids ≡ kidWords → ks ≡ rawIds ids
+cube-law : {t : Tables} (ids : List BlockId) (ks : List ℕ) (x : Out) → length ids ≡ kidWords → ks ≡ rawIds ids
     → x ≡ internBranchBy cubeKids deepest t ks → Fair cubeKids deepest t → x ≡ internBranchOf cubeKids deepest t (rawIds ids)
-cube-law t ids ks x e r q f =
-    branch-law cubeKids deepest t (rawIds ids) x (omega arith) (omega arith) (raw-length ids ∙ e) (λ i a b. absurd (omega arith))
+cube-law {t} ids ks x e r q f =
+    branch-law (rawIds ids) x (omega arith) (omega arith) (raw-length ids ∙ e) (λ i a b. absurd (omega arith))
     (q ∙ ap (internBranchBy cubeKids deepest t) r) f
 
 pub intern-branch-spec : {M : Type 1} → statement M
