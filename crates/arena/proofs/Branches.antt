@@ -3,7 +3,7 @@ use mathlib.Core.Path.{_≡_, refl, sym, ap, _∙_, subst}
 use mathlib.Core.Logic.{_≢_, inl}
 use mathlib.Core.Bool.{true, false, true≢false}
 use mathlib.Core.List.{List, [], _∷_, _++_}
-use Prim.Native.Nat.{ℕ, zero, suc, _+_, _-_, _%_, _^_, _≤_, _<_}
+use Prim.Native.Nat.{ℕ, zero, suc, _+_, _-_, _≤_, _<_}
 use native.Mathlib.Decide.{ℕ-discrete}
 use native.Mathlib.Omega.{arith}
 use lib.Dec.{leb}
@@ -13,7 +13,7 @@ use Rattle.nodes.specs.Tally.{Live, occ, same}
 use Rattle.nodes.specs.Words.{own, holds, places, spare, Nodes, slot, floor, Words, wordOf, putOf}
 use Rattle.nodes.proofs.Access.{SameSize, size-refl, size-trans, put-keeps, put-less}
 use Rattle.nodes.proofs.Counts.{live-same, total-append}
-use Rattle.nodes.proofs.Sums.{cases, occ-nil, occ-cons, occ-here, occ-there, occ-append}
+use Rattle.nodes.proofs.Sums.{cases, occ-nil, occ-cons, occ-here, occ-there}
 use Rattle.find.specs.Content.{agree}
 use Rattle.find.proofs.Contents.{agree-true, agree-words}
 use Rattle.arena.specs.Calls.{each, unheldKid, placedKid, liveOrEmpty, enoughFor, liveOf, allLive, enough, noneOf, unheld, placed, allOf, branchIn, branchSlot}

@@ -2,7 +2,7 @@
 -- down, and `a` the node that the list starts from.
 use mathlib.Core.Bool.{Bool, false}
 use mathlib.Core.List.{List, [], _∷_}
-use Prim.Native.Nat.{ℕ, suc, _+_}
+use Prim.Native.Nat.{ℕ, suc}
 use lib.Dec.{eqb, leb, ltb}
 use lib.ListN.{set}
 use Rattle.basics.specs.Limits.{cubeKids, kidWords}

@@ -6,10 +6,9 @@ use Prim.Native.Nat.{ℕ, suc, _+_, _-_, _≤_, _<_}
 use native.Mathlib.Decide.{ℕ-discrete}
 use native.Mathlib.Omega.{arith}
 use lib.ListN.{length}
-use borrow.Author.Tests.{eq-eqb, ne-eqb}
 use Rattle.ids.specs.Ids.{generationOf}
 use Rattle.nodes.specs.Tally.{occ, Live}
-use Rattle.nodes.specs.Words.{Nodes, own, holds, places, slot, floor, wordOf, putOf}
+use Rattle.nodes.specs.Words.{Nodes, own, holds, slot, floor, wordOf}
 use Rattle.nodes.proofs.Access.{Within, put-same, put-slot, put-keeps, put-less}
 use Rattle.nodes.proofs.Counts.{live-inj, live-nonzero}
 use Rattle.nodes.proofs.Sums.{cases, occ-nil, occ-cons, occ-here, occ-there}
