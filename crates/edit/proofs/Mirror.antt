@@ -136,7 +136,7 @@ module _ {tallest : ℕ} {t : Tables} (w : WellFormed cubeKids tallest t) where
             let k : (j : ℕ) → j < kidWords → W t (branchSlot t (wordsOf cubeKids f)) j ≡ getD (wordsOf cubeKids f) j 0 =
             (λ j h. let q : 0 + j ≡ j = omega arith in rw q at (b .1 j (omega arith))) in
             search-hit w (wordsOf cubeKids f) (valueFor cubeKids (W t) (wordsOf cubeKids f)) n (branchSlot t (wordsOf cubeKids f)) l
-            (content-true (W t) (wordsOf cubeKids f) (valueFor cubeKids (W t) (wordsOf cubeKids f)) (branchSlot t (wordsOf cubeKids f)) n k (slot-value (branchSlot t (wordsOf cubeKids f)) l k))
+            (content-true (W t) (wordsOf cubeKids f) (valueFor cubeKids (W t) (wordsOf cubeKids f)) (branchSlot t (wordsOf cubeKids f)) n k (slot-value (branchSlot t (wordsOf cubeKids f)) l (λ j h. k j (omega arith))))
 
   -- what eight parts come to, by the code
   need-by : (f : ℕ → ℕ) (s : ℕ) → ((r : ℕ) × (needOf cubeKids t f ≡ have r) × (needPlan t (wordsOf cubeKids f) s ≡ planned 0 r))
