@@ -102,7 +102,7 @@ heldAt t s = tablesOf (t .arena) (putOf (t .nodes) s holds (W t s holds + 1)) (t
 unfoldable pub freshSlot : Arena → ℕ
 freshSlot a = pick (eqb (a .top) 0) (a .next) (a .top)
 
--- the state once it is given out, where `more` counts one more
+-- the state once a slot is given out, where `more` counts one more
 abbrev pub givenBy : (ℕ → ℕ) → Arena → Words → Arena
 givenBy more a W = record {
   capacity = a .capacity;
@@ -111,6 +111,7 @@ givenBy more a W = record {
   live = more (a .live);
 }
 
+-- the state once it is given out
 unfoldable pub slotGiven : Arena → Words → Arena
 slotGiven a W = givenBy (λ x. x + 1) a W
 
