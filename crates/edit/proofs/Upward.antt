@@ -3,7 +3,7 @@ use mathlib.Core.Path.{_≡_, refl, sym, ap, _∙_, subst}
 use mathlib.Core.Logic.{_≢_, _⊎_, inl, inr, ⊎-elim}
 use mathlib.Core.Bool.{false}
 use mathlib.Core.List.{List, [], _∷_, _++_}
-use Prim.Native.Nat.{ℕ, zero, suc, _+_, _-_, _≤_, _<_}
+use Prim.Native.Nat.{ℕ, zero, suc, _+_, _≤_, _<_}
 use native.Mathlib.Decide.{ℕ-discrete, decLt}
 use native.Mathlib.Omega.{arith}
 use lib.Dec.{eqb}
@@ -12,12 +12,12 @@ use Rattle.basics.specs.Pick.{pick}
 use lib.ListN.{length, getD, set, replicate, length-set}
 use borrow.Author.Tests.{eqb-true, ne-eqb}
 use Rattle.nodes.specs.Words.{own, value, height, holds, places, slot, floor, Words}
-use Rattle.nodes.specs.Tally.{kidsOf, occ, Live}
+use Rattle.nodes.specs.Tally.{kidsOf, occ, Live, liveCount}
 use Rattle.nodes.proofs.Counts.{live-inj, live-same, live-own, live-nonzero, total, kid-occ, occ-le-tally}
 use Rattle.nodes.proofs.Sums.{cases, split, occ-nil, occ-cons, occ-here, occ-append, same-diff}
 use Rattle.tree.specs.Tree.{LiveOr0, Branch, WellMade, Cell, here, down, Extends, Below, self, under}
 use Rattle.tree.specs.Anew.{part, replace, Mixed, node, Anew, set as anew-set}
-use Rattle.tree.specs.Lacks.{Need, have, lack, Plan}
+use Rattle.tree.specs.Lacks.{Need, have, lack, Plan, plan-leaf}
 use Rattle.tree.proofs.Grow.{below-later, extends-keeps, there-later, height-later}
 use Rattle.tree.proofs.Making.{part-there, part-low, replace-same, replace-other, replace-all, renewed, anew-later, anew-up}
 use Rattle.tree.proofs.Plan.{plan-have}
@@ -27,13 +27,13 @@ use Rattle.arena.specs.Tables.{Tables, cap, W, LiveSlot, WellFormed}
 use Rattle.arena.specs.Calls.{Out, said, noneOf, each, empties, leafAnew, branchAnew, branchSlot}
 use Rattle.arena.proofs.Branches.{some-kid, occ-at, occ-in, slot-lone}
 use Rattle.arena.proofs.Eight.{all-at}
-use Rattle.arena.proofs.Fresh.{Grown, Makes-one, leaf-makes, branch-makes}
+use Rattle.arena.proofs.Fresh.{Grown, Fresh, Makes-one, leaf-new, leaf-makes, branch-makes}
 use Rattle.arena.proofs.Inv.{Inv, Content, wf-inv, wf-content}
 use Rattle.arena.proofs.Leaves.{leaf-alone, not-ground}
 use Rattle.arena.proofs.Rows.{empties-length, empties-at}
 use Rattle.read_cell.proofs.Meaning.{wf-made}
 use Rattle.edit.specs.Edit.{wordsOf, needOf, upNeed, planOf, owed, lowOf, makeOf}
-use Rattle.edit.proofs.Growing.{grown-live, grown-debt, grown-trans, grown-extends, owed-grown, owed-word, each-grown, each-word, each-cap}
+use Rattle.edit.proofs.Growing.{grown-live, grown-debt, grown-trans, grown-extends, owed-grown, owed-word, each-grown, each-nil, each-cons, each-word, each-cap}
 use Rattle.edit.proofs.Wholes.{content-made, is-leaf, is-branch}
 use Rattle.edit.proofs.Planning.{words-length, words-at, words-past, Came, came-none, came-leaf, came-node, came-lack, need-came, Cell-came, cell-none, cell-leaf, cell-lack, cell-came, plan-is, parts-there}
 
@@ -42,6 +42,9 @@ have-lack e = let z : _≡_ {A = ℕ} 0 1 = cc in omega arith
 
 pub lack-inj : {j k : ℕ} → lack j ≡ lack k → j ≡ k
 lack-inj e = cc
+
+leaf-lacks : {n cap : ℕ} {U : Words} {x a k : ℕ} → Plan n cap U x [] a (lack k) → 1 ≡ k
+leaf-lacks (plan-leaf z q) = refl
 
 -- ---- one of a list replaced
 
@@ -424,3 +427,62 @@ module _ {n tallest : ℕ} {t : Tables} (m : n ≤ kidWords) (two : 1 < n) (w : 
       (plan-is m pos w x (part (W t) a c) (part-there n (cap t) (W t) made a c l b) (part-low n (cap t) (W t) made a c l b d low) cell)
       (λ j z y. make-done (part (W t) a c) j 0 1 (part-there n (cap t) (W t) made a c l b) (part-low n (cap t) (W t) made a c l b d low) (omega arith) cell z y (omega arith) (omega arith))
       e room few held
+
+  -- ---- what each fresh node brings
+
+  -- Q is of tables in which so many nodes were made, P of an answer. Q holds of t, and stays where a place is owed; a fresh node brings P of one node more, and P
+  -- is Q of what it leaves. Then P holds of what is made.
+  module _ (Q : ℕ → Tables → Type 0) (P : ℕ → Out → Type 0) (first : Q 0 t) (owing : (j : ℕ) (u : Tables) (s : ℕ) → Q j u → Q j (owed u s))
+      (brings : (j : ℕ) (v : Tables) (o : Out) (ks : List ℕ) (y h q : ℕ) → Q j v → v .arena .live ≡ t .arena .live + j → v .arena .live ≡ liveCount (cap v) (W v)
+      → v .arena .live + 1 < cap v → Fresh v (o .after) (o .id) ks y h q → P (suc j) o)
+      (leaves : (j : ℕ) (o : Out) → P j o → Q j (o .after)) where
+    all-owing : (j : ℕ) (ks : List ℕ) (u : Tables) → Q j u → Q j (each owed u ks)
+    all-owing j [] u z = subst (Q j) (sym (each-nil u)) z
+    all-owing j (k ∷ ks) u z = subst (Q j) (sym (each-cons u k ks)) (all-owing j ks (owed u k) (owing j u k z))
+
+    over-brings : (d c a j h q : ℕ) (p : List ℕ) (o : Out) → LiveOr0 (cap t) (W t) a → heightAt (W t) a ≤ suc d → c < n → Cell n d p → suc d ≤ tallest
+        → t .arena .live + suc j < cap t → h ≤ mostHolds → 1 ≤ h + q → Low n tallest t x p a c j o → Q j (o .after) → P (suc j) (over c a h q o)
+    over-brings d c a j h q p o l low b cell tall room few held r z =
+        let ks = wordsOf n (replace (part (W t) a) c (o .id)) in
+        let v = each owed (o .after) (set ks c 0) in
+        let g = placed d c a j h q p o l low b cell tall room few held r in
+        let f = one d c a j h q p o l low b cell tall room few held r .fresh in
+        let y = g .lives in
+        let k = r .grown .lives in
+        let u = g .caps in
+        let e = r .grown .caps in
+        brings j v (over c a h q o) ks (valueFor n (W v) ks) h q (all-owing j (set ks c 0) (o .after) z) (omega arith) (g .inv .lives) (omega arith) f
+
+    step-brings : (d c a k h q : ℕ) (p : List ℕ) → LiveOr0 (cap t) (W t) a → heightAt (W t) a ≤ suc d → c < n → Cell n d p → suc d ≤ tallest
+        → (pl : Need) (new : Out) → Plan n (cap t) (W t) x p (part (W t) a c) pl
+        → ((j : ℕ) → pl ≡ lack j → t .arena .live + j < cap t → Done n tallest t x p (part (W t) a c) j 0 1 new × P j new)
+        → upNeed (λ s. needOf n t (replace (part (W t) a) c s)) pl ≡ lack k → t .arena .live + k < cap t → h ≤ mostHolds → 1 ≤ h + q
+        → P k (over c a h q (lowOf t pl new))
+    unfolding upNeed lowOf
+    step-brings d c a k h q p l low b cell tall (have s) new u ih e room few held =
+        let r = low-have d c a s k p l low b cell u e in
+        let one = r .1 in
+        subst (λ (i : ℕ). P i (over c a h q (said 0 s (owed t s)))) one
+        (over-brings d c a 0 h q p (said 0 s (owed t s)) l low b cell tall (omega arith) few held (r .0) (owing 0 t s first))
+    step-brings d c a k h q p l low b cell tall (lack j) new u ih e room few held =
+        let one : suc j ≡ k = lack-inj e in
+        let r = ih j refl (omega arith) in
+        subst (λ (i : ℕ). P i (over c a h q new)) one
+        (over-brings d c a j h q p new l low b cell tall (omega arith) few held (low-lack d c a j p new l b (r .0)) (leaves j new (r .1)))
+
+    pub make-brings : {d : ℕ} {p : List ℕ} (a k h q : ℕ) → LiveOr0 (cap t) (W t) a → heightAt (W t) a ≤ d → d ≤ tallest → Cell n d p
+        → planOf n t x p a ≡ lack k → t .arena .live + k < cap t → h ≤ mostHolds → 1 ≤ h + q → P k (makeOf n t x p a h q)
+    unfolding makeOf planOf
+    make-brings a k h q l low tall here e room few held =
+        let one = leaf-lacks (rw e at (plan-is m pos w x a l low here)) in
+        subst (λ (i : ℕ). P i (leafAnew t x h q)) one (brings 0 t (leafAnew t x h q) empties x h q first (omega arith) (inv .lives) (omega arith) (leaf-new inv (omega arith) x h q))
+    make-brings a k h q l low tall (down {d = d} {c = c} {p = p} b cell) e room few held =
+        let lb = part-there n (cap t) (W t) made a c l b in
+        let hb = part-low n (cap t) (W t) made a c l b d low in
+        step-brings d c a k h q p l low b cell tall (planOf n t x p (part (W t) a c)) (makeOf n t x p (part (W t) a c) 0 1)
+        (plan-is m pos w x (part (W t) a c) lb hb cell)
+        (λ j z y. (
+          make-done (part (W t) a c) j 0 1 lb hb (omega arith) cell z y (omega arith) (omega arith),
+          make-brings (part (W t) a c) j 0 1 lb hb (omega arith) cell z y (omega arith) (omega arith),
+        ))
+        e room few held
