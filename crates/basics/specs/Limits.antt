@@ -1,4 +1,4 @@
--- The limits of document 01, each said once. The code's are the constants of src/lib.rt.
+-- The limits of documents 01 and 02, each said once. The code's are the constants of src/lib.rt.
 use Prim.Native.Nat.{ℕ}
 
 -- the deepest tree: no depth, and no node's height, is above it
@@ -8,6 +8,10 @@ deepest = 6
 -- the deepest cube that is expanded
 abbrev pub deepestCube : ℕ
 deepestCube = 6
+
+-- the finest edge of a cell: 2 ^ -k metres, where k is not above it
+abbrev pub finestEdge : ℕ
+finestEdge = 6
 
 -- the children of a node in a cube
 abbrev pub cubeKids : ℕ

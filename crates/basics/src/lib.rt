@@ -10,6 +10,9 @@ pub const TALLEST: u64 = 6;
 // The deepest cube that is expanded.
 pub const DEEPEST_CUBE: u32 = 6;
 
+// The finest edge of a cell: 2^-k metres, where k is not above it.
+pub const FINEST_EDGE: u32 = 6;
+
 // The children of a node in a cube.
 pub const CUBE_KIDS: usize = 8;
 
