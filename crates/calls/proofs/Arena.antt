@@ -1,5 +1,7 @@
 -- What interning a leaf, interning a branch, hold and release do.
-use mathlib.Core.Path.{_≡_}
+use mathlib.Core.Path.{_≡_, ap, _∙_}
+use mathlib.Core.Logic.{inl, inr}
+use mathlib.Core.Bool.{false}
 use mathlib.Core.List.{List}
 use Prim.Native.Nat.{ℕ, _≤_, _<_}
 use lib.Dec.{eqb}
@@ -9,7 +11,7 @@ use Rattle.basics.specs.Pick.{pick}
 use Rattle.ids.specs.Ids.{generationOf}
 use Rattle.nodes.specs.Tally.{occ}
 use Rattle.nodes.specs.Words.{own}
-use Rattle.arena.specs.Calls.{internLeafOf, internBranchOf, holdOf, releaseOf}
+use Rattle.arena.specs.Calls.{Fair, fits, internLeafOf, internBranchOf, holdOf, releaseNo, releaseOf}
 use Rattle.arena.specs.Tables.{Tables, W, WellFormed}
 use Rattle.arena.proofs.Branching.{branch-well}
 use Rattle.arena.proofs.Holding.{hold-well}
@@ -49,3 +51,14 @@ module _ {n tallest : ℕ} (m : n ≤ kidWords) {t : Tables} (w : WellFormed n t
   release-does id =
       shrunk m (releaseOf tallest t id .after) w (λ y. 0) (λ y. ifAccepted (releaseOf tallest t id) (on y id)) (release-well id m w)
       (release-makes-none m w id) (release-balanced m w id) (release-advances m w id)
+
+-- ## A release of tables that are well formed or not sized
+
+release-unsized : (tallest : ℕ) {t : Tables} (id : ℕ) → fits t ≡ false → releaseOf tallest t id .after ≡ t
+unfolding releaseOf releaseNo
+release-unsized tallest id f = rw f
+
+-- It leaves them so.
+pub release-fair : {n tallest : ℕ} → n ≤ kidWords → {t : Tables} (id : ℕ) → Fair n tallest t → Fair n tallest (releaseOf tallest t id .after)
+release-fair {tallest = tallest} m {t} id (inl f) = inl (ap fits (release-unsized tallest id f) ∙ f)
+release-fair m id (inr w) = inr (release-well id m w)

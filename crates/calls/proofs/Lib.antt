@@ -6,3 +6,4 @@ pub mod Expanding
 pub mod Roots
 pub mod Again
 pub mod Living
+pub mod Lasting

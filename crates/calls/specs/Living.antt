@@ -1,13 +1,15 @@
--- A node and what stands below it: that it alone is held, and how many they are.
+-- What lives: a node that alone is held and what stands below it; and that live nodes and counts are as before.
 use mathlib.Core.Path.{_≡_}
 use mathlib.Core.Logic.{_≢_, _↔_}
 use mathlib.Core.List.{List, List·Memᴰ}
-use Prim.Native.Nat.{ℕ}
+use Prim.Native.Nat.{ℕ, _≤_}
 use lib.ListN.{length}
+use Rattle.nodes.specs.Words.{places, slot}
 use Rattle.tree.specs.Tree.{EMPTY, Below}
 use Rattle.tree.specs.Lacks.{Once}
-use Rattle.arena.specs.Tables.{Tables, W}
+use Rattle.arena.specs.Tables.{Tables, cap, W}
 use Rattle.ledger.specs.Ledger.{on, holdsOn}
+use Rattle.ledger.specs.Fates.{Lives}
 
 -- a has one hold (none if it is EMPTY), and no other node has any
 abbrev pub HeldAlone : Tables → ℕ → Type 0
@@ -23,3 +25,11 @@ pub record NodesOf (n : ℕ) (t : Tables) (a k : ℕ) : Type 0 where
   pub many : length nodes ≡ k
   pub these : (y : ℕ) → List·Memᴰ y nodes ↔ NodeOf n t a y
   pub once : Once nodes
+
+-- Live nodes and counts in u are as in t. The same ids live, as many, each with the eight children, the stored value, the height, the holds and the places that
+-- it had. What else the tables have may differ: generations of dead slots, the freed slots and their order, the highest slot given out, the finding table.
+pub record SameLife (t u : Tables) : Type 0 where
+  pub size : cap u ≡ cap t
+  pub lives : (y : ℕ) → Lives t y ↔ Lives u y
+  pub words : (y : ℕ) → Lives t y → (f : ℕ) → f ≤ places → W u (slot y) f ≡ W t (slot y) f
+  pub count : u .arena .live ≡ t .arena .live

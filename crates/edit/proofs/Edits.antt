@@ -23,7 +23,7 @@ use Rattle.tree.proofs.Making.{edited, renewed, anew-later}
 use Rattle.tree.proofs.Plan.{plan-have, plan-lack}
 use Rattle.tree.proofs.Room.{plan-some}
 use Rattle.arena.specs.Tables.{Tables, cap, W, WellFormed}
-use Rattle.arena.specs.Calls.{Out, refused, fullOf, heldAt, freshNode, leafAnew, branchAnew}
+use Rattle.arena.specs.Calls.{Out, refused, Fair, fits, fullOf, heldAt, freshNode, leafAnew, branchAnew}
 use Rattle.arena.specs.declared.Arena.{Arena}
 use Rattle.arena.proofs.Inv.{inv-wf, sized-within}
 use Rattle.arena.proofs.Leaves.{held-kept}
@@ -307,3 +307,15 @@ module _ {t : Tables} (w : WellFormed cubeKids deepest t) (root d : ℕ) (p : IV
   -- so every edit keeps well-formed tables well formed
   pub edit-well : WellFormed cubeKids deepest (editOf t root d p v .after)
   edit-well = by-cell t root d p v w (λ o. WellFormed cubeKids deepest (o .after)) (λ k h. w) (λ q. cell-well q high)
+
+-- ---- tables that are well formed or not sized
+
+-- an edit of tables that are not sized is refused by 1
+pub edit-unfit : (t : Tables) (root d : ℕ) (p : IVec3) (v : ℕ) → fits t ≡ false → editOf t root d p v ≡ refused 1 t
+unfolding editOf lookNo
+edit-unfit t root d p v f = rw f
+
+-- either stays so
+pub edit-fair : {t : Tables} (root d : ℕ) (p : IVec3) (v : ℕ) → v ≤ largestValue → Fair cubeKids deepest t → Fair cubeKids deepest (editOf t root d p v .after)
+edit-fair {t} root d p v h (inl f) = inl (ap (λ (o : Out). fits (o .after)) (edit-unfit t root d p v f) ∙ f)
+edit-fair root d p v h (inr w) = inr (edit-well w root d p v h)

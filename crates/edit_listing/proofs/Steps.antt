@@ -1,7 +1,6 @@
 -- One record: what it does to the state, and that fair tables stay fair.
 use mathlib.Core.Path.{_≡_, sym, ap, _∙_, subst}
-use mathlib.Core.Logic.{_≢_, inl, inr}
-use mathlib.Core.Bool.{false}
+use mathlib.Core.Logic.{_≢_}
 use mathlib.Core.List.{List}
 use Prim.Native.Nat.{ℕ, _+_, _*_, _%_, _^_, _≤_, _<_}
 use native.Mathlib.Omega.{arith}
@@ -13,34 +12,15 @@ use borrow.Author.Tests.{eq-eqb, ne-eqb}
 use Rattle.basics.specs.Limits.{deepest, cubeKids, kidWords}
 use Rattle.paths.specs.declared.IVec3.{IVec3}
 use Rattle.arena.specs.Tables.{Tables, tables}
-use Rattle.arena.specs.Calls.{Out, refused, Fair, fits, madeOf, answeredOf, releaseNo, releaseOf, freshOf}
+use Rattle.arena.specs.Calls.{Out, Fair, madeOf, answeredOf, releaseOf, freshOf}
 use Rattle.arena.specs.declared.Made.{Made}
 use Rattle.arena.specs.declared.Answer.{Answer}
-use Rattle.arena.proofs.Releasing.{release-well}
-use Rattle.read_cell.specs.Calls.{lookNo}
+use Rattle.calls.proofs.Arena.{release-fair}
 use Rattle.edit.specs.Edit.{editOf}
-use Rattle.edit.proofs.Edits.{edit-well}
+use Rattle.edit.proofs.Edits.{edit-fair}
 use Rattle.edit_listing.specs.Listing.{State, Stepped, stateOf, word, cellIn, oneMore, recordDepth, editIn, stepTo, stepOf, startOf}
 use Rattle.edit_listing.specs.Models.{steppedOf}
 use Rattle.edit_listing.specs.declared.Run.{Run}
-
--- ---- tables that are not sized stay as they are
-
-pub edit-unfit : (t : Tables) (root d : ℕ) (p : IVec3) (v : ℕ) → fits t ≡ false → editOf t root d p v ≡ refused 1 t
-unfolding editOf lookNo
-edit-unfit t root d p v f = rw f
-
-release-unsized : (t : Tables) (id : ℕ) → fits t ≡ false → releaseOf deepest t id .after ≡ t
-unfolding releaseOf releaseNo
-release-unsized t id f = rw f
-
-pub edit-fair : {t : Tables} (root d : ℕ) (p : IVec3) (v : ℕ) → v < 65536 → Fair cubeKids deepest t → Fair cubeKids deepest (editOf t root d p v .after)
-edit-fair {t} root d p v h (inl f) = inl (ap (λ (o : Out). fits (o .after)) (edit-unfit t root d p v f) ∙ f)
-edit-fair root d p v h (inr w) = inr (edit-well w root d p v (omega arith))
-
-pub release-fair : {t : Tables} (id : ℕ) → Fair cubeKids deepest t → Fair cubeKids deepest (releaseOf deepest t id .after)
-release-fair {t} id (inl f) = inl (ap fits (release-unsized t id f) ∙ f)
-release-fair id (inr w) = inr (release-well id (omega arith) w)
 
 -- ---- accepted, and refused
 
@@ -69,7 +49,7 @@ module _ (run : Run) (k f e : List ℕ) (p : IVec3) (v : ℕ) (small : v < 65536
     (edited : Fair cubeKids deepest (tables (run .arena) k f e) → madeOf m k₁ f₁ e₁ ≡ editOf (tables (run .arena) k f e) (run .root .0) recordDepth p v)
     (j : ℕ) (more : j ≡ (run .count + 1) % 2 ^ 64) where
   after-edit : Fair cubeKids deepest (tables (run .arena) k f e) → Fair cubeKids deepest (tables (m .arena) k₁ f₁ e₁)
-  after-edit fair = subst (λ (o : Out). Fair cubeKids deepest (o .after)) (sym (edited fair)) (edit-fair (run .root .0) recordDepth p v small fair)
+  after-edit fair = subst (λ (o : Out). Fair cubeKids deepest (o .after)) (sym (edited fair)) (edit-fair (run .root .0) recordDepth p v (omega arith) fair)
 
   pub once-refused : (m .no ≡ 0 → ⊥) → Fair cubeKids deepest (tables (run .arena) k f e)
       → Fair cubeKids deepest (tables (m .arena) k₁ f₁ e₁)
@@ -89,7 +69,7 @@ module _ (run : Run) (k f e : List ℕ) (p : IVec3) (v : ℕ) (small : v < 65536
   once-accepted z r k₂ f₂ e₂ released fair =
       let t = tables (m .arena) k₁ f₁ e₁ in
       let q = released cubeKids deepest (omega arith) (omega arith) (after-edit fair) in (
-        subst (λ (o : Out). Fair cubeKids deepest (o .after)) (sym q) (release-fair (run .root .0) (after-edit fair)),
+        subst (λ (o : Out). Fair cubeKids deepest (o .after)) (sym q) (release-fair (omega arith) (run .root .0) (after-edit fair)),
         ap (λ (o : Out). record { state = record { tables = o .after; root = m .id .0; count = j }; no = 0 }) q
             ∙ ap (λ (i : ℕ). record { state = record { tables = releaseOf deepest t (run .root .0) .after; root = m .id .0; count = i }; no = 0 }) (count-by (run .count) j more)
             ∙ ap (λ (s : State). record { state = s; no = 0 }) (sym (step-accepted (stateOf run k f e) (madeOf m k₁ f₁ e₁) z))

@@ -19,10 +19,10 @@ use Rattle.arena.specs.Calls.{Out, fitOf, fits, freshOf}
 use Rattle.arena.proofs.Holding.{fresh-well}
 use Rattle.arena.proofs.Releasing.{release-well}
 use Rattle.edit.specs.Edit.{editOf}
-use Rattle.edit.proofs.Edits.{edit-well}
+use Rattle.edit.proofs.Edits.{edit-well, edit-unfit}
 use Rattle.edit_listing.specs.Listing.{State, word, cellIn, valueIn, oneMore, recordDepth, editIn, stepTo, stepOf, stateAt, lineOf, lineAt, linesAt, startOf, decimal, endingOf, listingOf, Entered, begun, block, Stands, Bytes}
 use Rattle.edit_listing.proofs.Puts.{text-short, digits-short}
-use Rattle.edit_listing.proofs.Steps.{edit-unfit, step-accepted, step-refused}
+use Rattle.edit_listing.proofs.Steps.{step-accepted, step-refused}
 
 -- ---- well formed after each record
 
