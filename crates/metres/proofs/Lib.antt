@@ -1,0 +1,6 @@
+pub mod Laws
+pub mod Product
+pub mod Order
+pub mod Parsing
+pub mod Aiming
+pub mod Numbers

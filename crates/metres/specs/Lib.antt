@@ -1,0 +1,4 @@
+pub mod Bits
+pub mod Record
+pub mod Why
+pub mod Models
