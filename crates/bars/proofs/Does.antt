@@ -5,6 +5,7 @@ use Prim.Native.Nat.{ℕ, zero, suc, _+_, _≤_, _<_}
 use native.Mathlib.Decide.{ℕ-discrete}
 use native.Mathlib.Omega.{arith}
 use Rattle.basics.specs.Limits.{deepest, cubeKids, kidWords, largestValue}
+use Rattle.paths.specs.declared.IVec3.{IVec3}
 use Rattle.paths.specs.Paths.{place}
 use Rattle.nodes.proofs.Sums.{cases}
 use Rattle.arena.specs.Calls.{Out, said, refused, Fair, fits, releaseOf}
@@ -17,6 +18,7 @@ use Rattle.calls.proofs.Arena.{release-does}
 use Rattle.calls.proofs.Compose.{does-none, does-as, does-both, does-net}
 use Rattle.calls.proofs.Living.{held-released}
 use Rattle.calls.proofs.Once.{ended-small, grown-ends-none}
+use Rattle.edit.specs.Edit.{editOf}
 use Rattle.edit.proofs.Does.{edit-grows, edit-does}
 use Rattle.bars.specs.Bars.{passOf, barOf, passEnds, barEnds}
 use Rattle.bars.proofs.Ways.{edit, passed, edit-stays, pass-all, ends-none, ends-on, ends-stop, bar-on, bar-stop, bar-ends-on, bar-ends-stop, bar-by, bar-unsized}
@@ -35,15 +37,33 @@ on-held t r (inr k) a = cases (ℕ-discrete a r)
     (λ e. omega (arith, on-diff a r e))
 
 -- EMPTY, or a hold on r
-held-one : (t : Tables) (r : ℕ) → on r r ≤ holdsOn t r → Held t r
+pub held-one : (t : Tables) (r : ℕ) → on r r ≤ holdsOn t r → Held t r
 held-one t r h = cases (ℕ-discrete r 0) (λ z. inl z) (λ z. inr (omega (arith, on-same r r z refl)))
 
+-- what was granted a hold is held
+pub granted-held : {t u : Tables} {r : ℕ} {times : ℕ → ℕ} → Does cubeKids deepest t u (λ a. on a r) (λ a. 0) times → Held u r
+granted-held {u = u} {r = r} d = held-one u r (omega (arith, d .balance r))
+
 -- the release of a root that is held takes that hold
-held-does : {t : Tables} → WellFormed cubeKids deepest t → (r : ℕ) → Held t r
+pub held-does : {t : Tables} → WellFormed cubeKids deepest t → (r : ℕ) → Held t r
     → Does cubeKids deepest t (releaseOf deepest t r .after) (λ y. 0) (λ y. on y r) (λ s. ended t (releaseOf deepest t r .after) s)
 held-does {t} w r h =
     does-as cubeKids deepest fit (λ y. 0) (λ y. on y r) (λ s. ended t (releaseOf deepest t r .after) s) (release-does fit w r)
     (λ y. refl) (λ y. accepted (releaseOf deepest t r) (on y r) (held-released fit w r h)) (λ s l. refl)
+
+-- ## One edit
+
+module _ {t : Tables} (w : WellFormed cubeKids deepest t) (root d : ℕ) (p : IVec3) (v : ℕ) (high : v ≤ largestValue) (ok : editOf t root d p v .no ≡ 0) where
+  -- an accepted edit grants one hold and recycles no slot
+  pub edit-grants : Does cubeKids deepest t (editOf t root d p v .after) (λ a. on a (editOf t root d p v .id)) (λ a. 0) (λ s. 0)
+  edit-grants =
+      let o = editOf t root d p v in
+      does-as cubeKids deepest fit (λ a. on a (o .id)) (λ a. 0) (λ s. 0) (edit-does w root d p v high)
+      (λ a. accepted o (on a (o .id)) ok) (λ a. refl) (λ s l. grown-ends-none fit (o .after) w (edit-grows w root d p v high .1) s l)
+
+-- before each edit: well formed, and someone holds the passing root
+abbrev pub Ready : Tables → ℕ → Type 0
+Ready u r = WellFormed cubeKids deepest u × Held u r
 
 module _ (d y z v : ℕ) (high : v ≤ largestValue) where
   -- ## One cell
@@ -52,24 +72,18 @@ module _ (d y z v : ℕ) (high : v ≤ largestValue) where
     abbrev o : Out
     o = edit d y z v u r x
 
-    -- an accepted edit grants one hold and recycles no slot
     pub edited : Does cubeKids deepest u (o .after) (λ a. on a (o .id)) (λ a. 0) (λ s. 0)
-    edited =
-        does-as cubeKids deepest fit (λ a. on a (o .id)) (λ a. 0) (λ s. 0) (edit-does w r d (place x y z) v high)
-        (λ a. accepted o (on a (o .id)) ok) (λ a. refl) (λ s l. grown-ends-none fit (o .after) w (edit-grows w r d (place x y z) v high .1) s l)
+    edited = edit-grants w r d (place x y z) v high ok
 
     -- its answer is held
     pub answer-held : Held (o .after) (o .id)
-    answer-held = held-one (o .after) (o .id) (omega (arith, edited .balance (o .id)))
+    answer-held = granted-held edited
 
-    -- then the passing root is released
     module _ (h : Held u r) where
-      still-held : Held (o .after) r
+      pub still-held : Held (o .after) r
       still-held = held-one (o .after) r (omega (arith, edited .balance r, on-held u r h r))
 
-      pub step-yes : releaseOf deepest (o .after) r .no ≡ 0
-      step-yes = held-released fit (edited .well) r still-held
-
+      -- then the passing root is released: that is accepted, and takes its hold
       pub stepped : Does cubeKids deepest u (passed d y z v u r x) (λ a. on a (o .id)) (λ a. on a r) (λ s. ended (o .after) (passed d y z v u r x) s)
       stepped =
           does-as cubeKids deepest fit (λ a. on a (o .id)) (λ a. on a r) (λ s. ended (o .after) (passed d y z v u r x) s)
@@ -80,10 +94,6 @@ module _ (d y z v : ℕ) (high : v ≤ largestValue) where
       next-held = held-one (passed d y z v u r x) (o .id) (omega (arith, stepped .balance (o .id), on-held u r h (o .id)))
 
   -- ## From a passing root on
-
-  -- before each edit: well formed, and someone holds the passing root
-  abbrev pub Ready : Tables → ℕ → Type 0
-  Ready u r = WellFormed cubeKids deepest u × Held u r
 
   pub ready-first : (u : Tables) (r x : ℕ) → WellFormed cubeKids deepest u → edit d y z v u r x .no ≡ 0 → Ready (edit d y z v u r x .after) (edit d y z v u r x .id)
   ready-first u r x w ok = (edited u r x w ok .well, answer-held u r x w ok)

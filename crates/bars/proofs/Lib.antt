@@ -1,3 +1,7 @@
 pub mod Ways
 pub mod Steps
 pub mod Does
+pub mod Theorems
+pub mod Drawing
+pub mod Numbers
+pub mod Orders

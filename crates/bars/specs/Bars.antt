@@ -1,5 +1,6 @@
 -- A bar: the cells from x to x + k at y and z are edited with one value, in rising order, each passing root released after the next is made.
 use mathlib.Core.Path.{_≡_}
+use mathlib.Core.Logic.{_⊎_}
 use mathlib.Core.List.{List, [], _∷_}
 use Prim.Native.Nat.{ℕ, zero, suc, _+_, _^_, _≤_, _<_}
 use lib.Dec.{eqb}
@@ -82,6 +83,12 @@ pub record Drawn (d : ℕ) (t : Tables) (root y z a b v : ℕ) (u : Tables) (r :
   pub cube : d ≤ deepestCube → (l : List ℕ) → length l ≡ 8 ^ d → Expands d u r l (λ s. lookOf u r d (spot s) .value)
   pub low : heightAt (W u) r ≤ d
   pub tidy : Root cubeKids (cap t) d (W t) root → Root cubeKids (cap u) d (W u) r
+
+-- ## Its number
+
+-- accepted, or refused by 10 or 11
+abbrev pub Late : ℕ → Type 0
+Late k = (k ≡ 0) ⊎ (k ≡ 10) ⊎ (k ≡ 11)
 
 -- ## A bar is a run of changes
 
