@@ -5,13 +5,14 @@
  * holds. The caller owns all memory: an arena is a state, which goes by value, and three tables, which are lent to each call as an address
  * and a length in elements. Nothing is kept between calls and nothing is allocated.
  *
- * Every function is proved to end and to stay inside what it is lent, on any arguments, and to answer as its comment says; the two interns, release and
- * the edit say so of well-formed tables, and every call keeps those well formed. What the caller has to see to: a table's address leads to as many
- * elements as its length says, no two tables overlap, and no two threads use one arena at once. The state that a call answers is the one to pass next;
- * an older state no longer fits the tables.
+ * Every function is proved to end and to stay inside what it is lent, on any arguments, and to answer as its comment says; the two interns, release,
+ * the edit and the entering of a reading say so of well-formed tables, and every call keeps those well formed. What the caller has to see to: an address
+ * leads to as many elements as the length beside it says, no two tables overlap, and no two threads use one arena at once. The state that a call answers is
+ * the one to pass next; an older state no longer fits the tables.
  *
- * An answer's `no` is 0 where the call is accepted, else the lowest number of `enum fenpiling_refusal` that applies. A refusal answers id INVALID,
- * value 0 and counts 0, the state as it was, and changes nothing lent.
+ * An answer's `no` is 0 where the call is accepted, else the number of `enum fenpiling_refusal` that applies, the lowest if several do; 13 and 14 count
+ * as between 2 and 3. A refusal answers id INVALID, value 0 and counts 0, the state as it was, and changes nothing lent. From the last of this one call
+ * departs: fenpiling_enter_reading, where it refuses a bar on its way. So take the state that it answers, refused or not.
  *
  * The functions stand in libfenpiling.a (tools/library builds it), for x86-64 Linux.
  */
@@ -45,6 +46,10 @@ extern "C" {
 #define FENPILING_CUBE_INDEX(depth, x, y, z) \
     (((size_t)(y) << (2 * (depth))) + ((size_t)(z) << (depth)) + (size_t)(x))
 
+/* A record of the surveyor's instrument has so many bytes; an edge is 2^-k metres, with k at most this. */
+#define FENPILING_RECORD_LENGTH 40
+#define FENPILING_MAX_EDGE 6
+
 /* The caller's holds on one node. */
 #define FENPILING_MAX_HOLDS 1000000
 
@@ -60,11 +65,11 @@ extern "C" {
 /* No id: what a refusal answers. */
 #define FENPILING_INVALID UINT64_C(0xFFFFFFFFFFFFFFFF)
 
-/* What the number of an answer says: given exactly if the words beside it hold, and no lower number applies. */
+/* What the number of an answer says: given exactly if the words beside it hold, and none that is tested before it applies: 1, 2, 13, 14, then 3 to 12. */
 enum fenpiling_refusal {
     FENPILING_ACCEPTED = 0,
     FENPILING_SIZE = 1,        /* the capacity is out of range, or a table's length isn't the one for that capacity */
-    FENPILING_DEPTH = 2,       /* the depth is above 6, or a child number is asked at a level not below the depth */
+    FENPILING_DEPTH = 2,       /* the depth is above 6, or k is; or a child number is asked at a level not below the depth */
     FENPILING_POSITION = 3,    /* a coordinate is below 0 or at least 2^depth, or a path code is 2^30 or more */
     FENPILING_NOT_LIVE = 4,    /* an id is neither EMPTY nor live */
     FENPILING_FEW_HOLDS = 5,   /* the caller has fewer holds than the call would take */
@@ -74,7 +79,17 @@ enum fenpiling_refusal {
     FENPILING_CUBE = 9,        /* the expansion buffer is not 8^depth long */
     FENPILING_MANY_HOLDS = 10, /* a hold on a node that already has 1,000,000 */
     FENPILING_FULL = 11,       /* more nodes of the result are not yet live than there are free slots (capacity - 1 - live) */
-    FENPILING_GENERATION = 12  /* packing with a generation above 0x7FFE */
+    FENPILING_GENERATION = 12, /* packing with a generation above 0x7FFE */
+    FENPILING_RECORD = 13,     /* a record is not 40 bytes long, or of no known kind; a spare bit or byte or a pause's value is not zero; a bar's second x is
+                                * below its first */
+    FENPILING_NOT_FINITE = 14  /* a number of a record is a NaN or infinite */
+};
+
+/* The kinds of readings. */
+enum fenpiling_kind {
+    FENPILING_PAUSE = 0, /* changes nothing */
+    FENPILING_SHOT = 1,  /* a point */
+    FENPILING_BAR = 2    /* a point and a second x: every cell from the one to the other */
 };
 
 /* ---- What goes by value */
@@ -124,6 +139,17 @@ typedef struct fenpiling_looked {
     uint32_t no;
     uint16_t value;
 } fenpiling_looked;
+
+/* What a record says. The numbers are in metres; those that the kind does not use are 0, and so is a pause's value. Of a refused record all of it is 0. */
+typedef struct fenpiling_reading {
+    uint32_t no;
+    uint32_t kind;
+    uint16_t value;
+    double x;
+    double y;
+    double z;
+    double second_x;
+} fenpiling_reading;
 
 /* A packed id, or INVALID. */
 typedef struct fenpiling_packed {
@@ -207,6 +233,27 @@ uint32_t fenpiling_to_vec(fenpiling_arena arena, const uint64_t *kids, size_t ki
 fenpiling_made fenpiling_set_voxel(fenpiling_arena arena, uint64_t *kids, size_t kids_length, uint64_t *facts, size_t facts_length,
                                    uint16_t *find, size_t find_length, uint64_t root, uint32_t depth, fenpiling_cell position,
                                    uint16_t value);
+
+/* ---- Readings in metres, as a surveyor's instrument writes them. A record is 40 bytes, all numbers low byte first: kind (4 bytes), value (2), two zero
+ * bytes, then x, y, z and second x, each an f64 (8). A shot uses x, y and z, a bar all four, a pause none; numbers that are not used are all zero bits,
+ * so that minus zero there is refused with 13, and a NaN too. A bar's two x are compared as numbers: a NaN is below nothing. */
+
+/* What the record says. Refusals: 13, then 14. */
+fenpiling_reading fenpiling_parse_reading(const uint8_t *record, size_t record_length);
+
+/* The model with the reading entered, where a cell's edge is 2^-k metres: a coordinate lies in the cell of its product with 2^k, rounded down; minus zero in
+ * cell 0. A shot is an edit of its cell, and value 0 digs it out. A bar edits every cell from its first x to its second, in rising order, and releases each
+ * passing root after the next is made. A pause changes nothing: its answer is the old root, once more held. The root is not used up; the caller gets one new
+ * hold on the answer, none on EMPTY.
+ *
+ * Refusals, in the order in which they are tested: 1, 2, 13, 14, 3 (the whole bar first), 4, 8, 10, 11; of a pause 1, 2, 13, 4, 10 alone. Where an edit of a
+ * bar is refused, with 10 or 11, the answer is that number with INVALID. The old root and its holds stay, every live node has the id, the content and
+ * the counts that it had, and no other is live. But slots were given out and freed again on the way: generations, the freed slots and their order, the
+ * highest slot given out and the finding table may have moved, and with them the state. So after a refusal too, the state answered is the one to pass
+ * next. Every other refusal changes nothing lent. */
+fenpiling_made fenpiling_enter_reading(fenpiling_arena arena, uint64_t *kids, size_t kids_length, uint64_t *facts, size_t facts_length,
+                                       uint16_t *find, size_t find_length, uint64_t root, uint32_t depth, uint32_t k,
+                                       const uint8_t *record, size_t record_length);
 
 /* ---- Ids: bit 63 leaf, 55 to 62 types, 47 to 54 mask, 32 to 46 generation, 0 to 31 index. Any 64 bits are taken. */
 

@@ -1,6 +1,7 @@
 /* Every function of the header once or more, with answers known beforehand. It is C99 and C++11. */
 #include <fenpiling.h>
 
+#include <math.h>
 #include <stdio.h>
 #include <string.h>
 
@@ -101,10 +102,107 @@ static void arenas(void)
     HOLDS(!fenpiling_check(answer.arena, TABLES));
 }
 
+/* A record as it lies in the memory of this machine, which has the low byte first. */
+typedef struct record {
+    uint32_t kind;
+    uint16_t value;
+    uint16_t zero;
+    double x, y, z, second_x;
+} record;
+
+static fenpiling_reading parse(record what)
+{
+    return fenpiling_parse_reading((const uint8_t *)&what, sizeof what);
+}
+
+static fenpiling_made enter(fenpiling_arena arena, uint64_t root, record what)
+{
+    return fenpiling_enter_reading(arena, TABLES, root, 1, 2, (const uint8_t *)&what, sizeof what);
+}
+
+static void records(void)
+{
+    const record pause = {FENPILING_PAUSE, 0, 0, 0.0, 0.0, 0.0, 0.0};
+    const record shot = {FENPILING_SHOT, 9, 0, 0.25, 0.5, -0.0, 0.0};
+    const record bar = {FENPILING_BAR, 7, 0, 0.125, 0.25, 0.5, 0.75};
+    HOLDS(sizeof(record) == FENPILING_RECORD_LENGTH);
+
+    fenpiling_reading reading = parse(shot);
+    HOLDS(reading.no == FENPILING_ACCEPTED && reading.kind == FENPILING_SHOT && reading.value == 9);
+    HOLDS(reading.x == 0.25 && reading.y == 0.5 && reading.z == 0.0 && signbit(reading.z) && reading.second_x == 0.0);
+    reading = parse(bar);
+    HOLDS(reading.no == FENPILING_ACCEPTED && reading.kind == FENPILING_BAR && reading.value == 7);
+    HOLDS(reading.x == 0.125 && reading.y == 0.25 && reading.z == 0.5 && reading.second_x == 0.75);
+    reading = parse(pause);
+    HOLDS(reading.no == FENPILING_ACCEPTED && reading.kind == FENPILING_PAUSE && reading.value == 0);
+
+    record wrong = pause;
+    wrong.value = 1;
+    HOLDS(parse(wrong).no == FENPILING_RECORD);
+    wrong = shot;
+    wrong.zero = 256;
+    reading = parse(wrong);
+    HOLDS(reading.no == FENPILING_RECORD && reading.kind == 0 && reading.value == 0 && reading.x == 0.0);
+    wrong = shot;
+    wrong.second_x = -0.0;
+    HOLDS(parse(wrong).no == FENPILING_RECORD);
+    wrong = bar;
+    wrong.kind = 3;
+    HOLDS(parse(wrong).no == FENPILING_RECORD);
+    wrong = bar;
+    wrong.second_x = 0.0;
+    HOLDS(parse(wrong).no == FENPILING_RECORD);
+    wrong = bar;
+    wrong.second_x = (double)NAN;
+    reading = parse(wrong);
+    HOLDS(reading.no == FENPILING_NOT_FINITE && reading.kind == 0 && reading.value == 0 && reading.second_x == 0.0);
+    HOLDS(fenpiling_parse_reading((const uint8_t *)&shot, FENPILING_RECORD_LENGTH - 1).no == FENPILING_RECORD);
+}
+
+static void readings(void)
+{
+    const record pause = {FENPILING_PAUSE, 0, 0, 0.0, 0.0, 0.0, 0.0};
+    const record shot = {FENPILING_SHOT, 9, 0, 0.25, 0.25, -0.0, 0.0};
+    const record bar = {FENPILING_BAR, 7, 0, 0.125, 0.25, 0.0, 0.375};
+    fenpiling_cell cell[2] = {{0, 1, 0}, {1, 1, 0}};
+
+    fenpiling_answer fresh = fenpiling_fresh(CAPACITY, TABLES);
+    fenpiling_made barred = enter(fresh.arena, FENPILING_EMPTY, bar);
+    HOLDS(barred.no == FENPILING_ACCEPTED && barred.arena.live == 2);
+    HOLDS(fenpiling_get_at_depth(barred.arena, TABLES, barred.id, 1, cell[0]).value == 7);
+    HOLDS(fenpiling_get_at_depth(barred.arena, TABLES, barred.id, 1, cell[1]).value == 7);
+    fenpiling_made shown = enter(barred.arena, barred.id, shot);
+    HOLDS(shown.no == FENPILING_ACCEPTED && shown.arena.live == 4);
+    HOLDS(fenpiling_get_at_depth(shown.arena, TABLES, shown.id, 1, cell[0]).value == 7);
+    HOLDS(fenpiling_get_at_depth(shown.arena, TABLES, shown.id, 1, cell[1]).value == 9);
+    fenpiling_made paused = enter(shown.arena, shown.id, pause);
+    HOLDS(paused.no == FENPILING_ACCEPTED && paused.id == shown.id);
+    HOLDS(fenpiling_counts(paused.arena, TABLES, shown.id).holds == 2);
+
+    fenpiling_arena arena = paused.arena;
+    record outside = shot;
+    outside.z = 0.5;
+    HOLDS(enter(arena, shown.id, outside).no == FENPILING_POSITION && enter(arena, FENPILING_INVALID, shot).no == FENPILING_NOT_LIVE);
+    HOLDS(fenpiling_enter_reading(arena, TABLES, shown.id, 1, FENPILING_MAX_EDGE + 1, NULL, 0).no == FENPILING_DEPTH);
+    HOLDS(fenpiling_enter_reading(arena, TABLES, shown.id, 1, FENPILING_MAX_EDGE, NULL, 0).no == FENPILING_RECORD);
+
+    /* Two slots are left: enough for the first cell of another bar, and not for the second. The state moves, and what is live stays. */
+    for (uint16_t value = 100; arena.live < CAPACITY - 3; value++)
+        arena = fenpiling_intern_leaf(arena, TABLES, value).arena;
+    record another = bar;
+    another.value = 8;
+    fenpiling_made refused = enter(arena, shown.id, another);
+    HOLDS(refused.no == FENPILING_FULL && refused.id == FENPILING_INVALID);
+    HOLDS(refused.arena.live == arena.live && refused.arena.next == arena.next + 2 && refused.arena.top != 0);
+    HOLDS(fenpiling_counts(refused.arena, TABLES, shown.id).holds == 2 && fenpiling_check(refused.arena, TABLES));
+}
+
 int main(void)
 {
     ids();
     paths();
     arenas();
+    records();
+    readings();
     return failures == 0 ? 0 : 1;
 }

@@ -7,6 +7,7 @@
 
 #define CAPACITY 512
 #define DEPTH 6
+#define EDGE 2 /* cells of 2^-2 metres */
 #define CLAY 5
 #define ROCK 9
 
@@ -49,6 +50,24 @@ static uint64_t set(uint64_t root, int32_t x, int32_t y, int32_t z, uint16_t val
     fenpiling_made made = fenpiling_set_voxel(arena, TABLES, root, DEPTH, cell, value);
     accept(made.no, "edit");
     arena = made.arena;
+    release(root);
+    return made.id;
+}
+
+/* A record of the surveyor's instrument, as it lies in the memory of this machine, which has the low byte first. */
+typedef struct record {
+    uint32_t kind;
+    uint16_t value;
+    uint16_t zero;
+    double x, y, z, second_x;
+} record;
+
+/* The model with a reading entered. The state answered is taken first: where a bar is refused on its way, it has moved too. */
+static uint64_t enter(uint64_t root, record reading)
+{
+    fenpiling_made made = fenpiling_enter_reading(arena, TABLES, root, DEPTH, EDGE, (const uint8_t *)&reading, sizeof reading);
+    arena = made.arena;
+    accept(made.no, "reading");
     release(root);
     return made.id;
 }
@@ -112,6 +131,11 @@ int main(void)
     fenpiling_made refused = fenpiling_set_voxel(arena, TABLES, model, DEPTH, outside, ROCK);
     printf("cell (64, 0, 0): refusal %" PRIu32 ", %zu nodes live\n", refused.no, arena.live);
 
+    /* December: the instrument reads a seam of rock from x = 5 metres to 7.4, and every cell on its way is rock. */
+    record seam = {FENPILING_BAR, ROCK, 0, 5.0, 3.1, 7.6, 7.4};
+    model = enter(model, seam);
+    show("December", model);
+
     printf("well formed: %s\n", fenpiling_check(arena, TABLES) ? "yes" : "no");
 
     /* With its last hold October goes, and its id is refused. */
@@ -119,6 +143,6 @@ int main(void)
     printf("October released: %zu nodes live, its id refused with %" PRIu32 "\n", arena.live,
            fenpiling_counts(arena, TABLES, october).no);
     release(model);
-    printf("November released: %zu nodes live, well formed: %s\n", arena.live, fenpiling_check(arena, TABLES) ? "yes" : "no");
+    printf("December released: %zu nodes live, well formed: %s\n", arena.live, fenpiling_check(arena, TABLES) ? "yes" : "no");
     return 0;
 }

@@ -43,7 +43,7 @@ pub struct Arena {
     next: u32,
     leaves: HashMap<u16, u32>,
     branches: HashMap<[u64; 8], u32>,
-    touched: Vec<u32>,
+    pub(crate) touched: Vec<u32>,
 }
 
 impl Arena {

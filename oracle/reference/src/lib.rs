@@ -1,10 +1,11 @@
-//! What the programs of this workspace share: document 01 as plain Rust, numbers at random, and the original's answer or panic.
+//! What the programs of this workspace share: documents 01 and 02 as plain Rust, numbers at random, and the original's answer or panic.
 pub mod arena;
 pub mod document01;
 mod edit;
 mod panics;
 mod random;
 pub mod reading;
+pub mod survey;
 pub mod tables;
 mod volume;
 

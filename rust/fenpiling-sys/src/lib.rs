@@ -60,6 +60,19 @@ pub struct Looked {
     pub value: u16,
 }
 
+/// What a record says.
+#[repr(C)]
+#[derive(Clone, Copy, Debug, PartialEq)]
+pub struct Reading {
+    pub no: u32,
+    pub kind: u32,
+    pub value: u16,
+    pub x: f64,
+    pub y: f64,
+    pub z: f64,
+    pub second_x: f64,
+}
+
 /// A packed id.
 #[repr(C)]
 #[derive(Clone, Copy, Debug, PartialEq, Eq)]
@@ -202,6 +215,21 @@ unsafe extern "C" {
         depth: u32,
         position: Cell,
         value: u16,
+    ) -> Made;
+    pub unsafe fn fenpiling_parse_reading(record: *const u8, record_length: usize) -> Reading;
+    pub unsafe fn fenpiling_enter_reading(
+        arena: Arena,
+        kids: *mut u64,
+        kids_length: usize,
+        facts: *mut u64,
+        facts_length: usize,
+        find: *mut u16,
+        find_length: usize,
+        root: u64,
+        depth: u32,
+        k: u32,
+        record: *const u8,
+        record_length: usize,
     ) -> Made;
     pub safe fn fenpiling_new_leaf(index: u32, generation: u16) -> Packed;
     pub safe fn fenpiling_new_branch(index: u32, generation: u16, types: u8, mask: u8) -> Packed;

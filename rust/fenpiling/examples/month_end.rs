@@ -1,8 +1,10 @@
 //! Month-end envelopes of a ground model: the root of a month is kept under its name, digging goes on, and the old root reads as before.
-use fenpiling::{Arena, Cell, MAX_DEPTH, Refusal, Root};
+use fenpiling::{Arena, Cell, MAX_DEPTH, Metres, Reading, Refusal, Root};
 
 const CLAY: u16 = 5;
 const ROCK: u16 = 9;
+/// Cells of 2^-2 metres.
+const EDGE: u32 = 2;
 
 /// A model as it stood at a month's end.
 struct Envelope {
@@ -62,6 +64,18 @@ fn main() -> Result<(), Refusal> {
     if let Err(refusal) = november.root.edit(MAX_DEPTH, Cell::new(64, 0, 0), ROCK) {
         println!("cell (64, 0, 0): refusal {}, {refusal}", refusal.number());
     }
+
+    // December: the instrument reads a seam of rock from x = 5 metres to 7.4, and every cell on its way is rock
+    let seam = Reading::Bar {
+        from: Metres::new(5.0, 3.1, 7.6),
+        second_x: 7.4,
+        value: ROCK,
+    };
+    let december = Envelope {
+        name: "December",
+        root: november.root.enter(&seam, MAX_DEPTH, EDGE)?,
+    };
+    december.show()?;
     println!(
         "{} nodes live, well formed: {}",
         arena.live(),
@@ -76,9 +90,9 @@ fn main() -> Result<(), Refusal> {
         arena.live(),
         arena.hold(id)
     );
-    drop(november);
+    drop((november, december));
     println!(
-        "November dropped: {} nodes live, well formed: {}",
+        "November and December dropped: {} nodes live, well formed: {}",
         arena.live(),
         arena.check()
     );

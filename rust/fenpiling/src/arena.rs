@@ -1,5 +1,5 @@
 use crate::ffi::Tables;
-use crate::{Cell, Id, MAX_DEPTH, Refusal};
+use crate::{Cell, Id, MAX_DEPTH, Reading, Refusal};
 use std::cell::RefCell;
 use std::fmt;
 use std::rc::Rc;
@@ -223,6 +223,76 @@ impl Root {
     pub fn edit(&self, depth: u32, cell: Cell, value: u16) -> Result<Root, Refusal> {
         let mut tables = self.arena.tables.borrow_mut();
         let id = tables.edit(self.id, depth, cell, value)?;
+        Ok(self.arena.own(id))
+    }
+
+    /// The model with a reading entered, where a cell's edge is 2^-`edge` metres: a coordinate lies in the cell of its product with 2^`edge`, rounded down,
+    /// and minus zero in cell 0. A shot is an edit of its cell. A bar edits every cell from its first x to its second, in rising order. The answer of a
+    /// pause is this model once more.
+    ///
+    /// Refusals, in the order in which they are tested: [`Depth`](Refusal::Depth), for an edge above 6 too; [`Record`](Refusal::Record) for a bar whose
+    /// second x is below its first; [`NotFinite`](Refusal::NotFinite); [`Position`](Refusal::Position), tested for the whole bar first;
+    /// [`Tall`](Refusal::Tall), [`ManyHolds`](Refusal::ManyHolds), [`Full`](Refusal::Full).
+    ///
+    /// ```
+    /// use fenpiling::{Arena, Cell, Metres, Reading, Refusal};
+    ///
+    /// let arena = Arena::new(512)?;
+    /// // cells of a quarter of a metre
+    /// let shot = Reading::Shot { at: Metres::new(1.0, 2.3, 0.1), value: 9 };
+    /// let model = arena.empty().enter(&shot, 6, 2)?;
+    /// assert_eq!(model.lookup(6, Cell::new(4, 9, 0))?, 9);
+    /// let bar = Reading::Bar { from: Metres::new(1.0, 2.3, 0.1), second_x: 1.6, value: 5 };
+    /// let model = model.enter(&bar, 6, 2)?;
+    /// let values = [3, 4, 5, 6, 7].map(|x| model.lookup(6, Cell::new(x, 9, 0)));
+    /// assert_eq!(values, [Ok(0), Ok(5), Ok(5), Ok(5), Ok(0)]);
+    /// assert_eq!(model.enter(&Reading::Pause, 6, 2)?, model);
+    /// let outside = Reading::Shot { at: Metres::new(1.0, 2.3, -0.1), value: 9 };
+    /// assert_eq!(model.enter(&outside, 6, 2), Err(Refusal::Position));
+    /// # Ok::<(), Refusal>(())
+    /// ```
+    ///
+    /// Where a cell of a bar is refused, with [`ManyHolds`](Refusal::ManyHolds) or [`Full`](Refusal::Full), the whole bar is. This model, its holds and its
+    /// cube stay, and so does every other: each live node has the id, the content and the counts that it had, and no other is live. But slots were given
+    /// out and freed again on the way, so that the next nodes may get other slots and generations than without the bar, and ids that were dead are a
+    /// recycling or more further on their way to match again.
+    ///
+    /// ```
+    /// use fenpiling::{Arena, Cell, Metres, Reading, Refusal};
+    ///
+    /// // room for a leaf and a branch over it, and not for the branch of two cells beside that one
+    /// let arena = Arena::new(3)?;
+    /// let bar = Reading::Bar { from: Metres::new(0.0, 0.0, 0.0), second_x: 1.0, value: 5 };
+    /// assert_eq!(arena.empty().enter(&bar, 1, 0), Err(Refusal::Full));
+    /// assert_eq!(arena.live(), 0);
+    /// let model = arena.empty().edit(1, Cell::new(0, 0, 0), 5)?;
+    /// assert_eq!(model.id().generation(), 1);
+    /// # Ok::<(), Refusal>(())
+    /// ```
+    pub fn enter(&self, reading: &Reading, depth: u32, edge: u32) -> Result<Root, Refusal> {
+        self.enter_record(&reading.to_bytes(), depth, edge)
+    }
+
+    /// The model with the reading of a record entered, as [`enter`](Root::enter) does. Refusals: as there, and [`Record`](Refusal::Record) also where
+    /// [`Reading::from_bytes`] gives it.
+    ///
+    /// ```
+    /// use fenpiling::{Arena, Metres, Reading, Refusal};
+    ///
+    /// let arena = Arena::new(512)?;
+    /// let shots = [1.0, 1.5, 1.75].map(|x| Reading::Shot { at: Metres::new(x, 0.5, 0.5), value: 7 });
+    /// let file = shots.map(|shot| shot.to_bytes()).concat();
+    /// let mut model = arena.empty();
+    /// for record in file.chunks(Reading::LENGTH) {
+    ///     model = model.enter_record(record, 6, 2)?;
+    /// }
+    /// assert_eq!(model.expand(6)?.iter().filter(|&&value| value == 7).count(), 3);
+    /// assert_eq!(model.enter_record(&file[..39], 6, 2), Err(Refusal::Record));
+    /// # Ok::<(), Refusal>(())
+    /// ```
+    pub fn enter_record(&self, record: &[u8], depth: u32, edge: u32) -> Result<Root, Refusal> {
+        let mut tables = self.arena.tables.borrow_mut();
+        let id = tables.enter(self.id, depth, edge, record)?;
         Ok(self.arena.own(id))
     }
 

@@ -1,5 +1,5 @@
 //! The tables of an arena with its state, and the library's calls on them. All unsafe code of this crate stands here.
-use crate::{Cell, Counts, Id, Refusal};
+use crate::{Cell, Counts, Id, Metres, Reading, Refusal};
 use fenpiling_sys as library;
 
 /// The state of an arena and its three tables. They come from a fresh arena and are changed by the library's calls alone, which keep them well formed.
@@ -14,7 +14,8 @@ pub(crate) struct Tables {
 macro_rules! call {
     ($function:ident($first:expr, $tables:ident $(, $other:expr)*)) => {
         // SAFETY: `$tables` is borrowed mutably, so that its three slices are there for this call alone. They don't overlap, and go with their own lengths.
-        // Where the others are a slice's address and length, these are a mutable slice's of the caller. The function stays inside what it is lent.
+        // Where the others are a slice's address and length, these are a slice's of the caller, a mutable one where the function writes it. The function stays
+        // inside what it is lent.
         unsafe {
             library::$function(
                 $first,
@@ -56,7 +57,7 @@ impl Tables {
         Refusal::accept(answer.no)
     }
 
-    /// Takes over the state that a call answers, and the node it made.
+    /// Takes over the state that a call answers, of a refused one too, and the node it made.
     fn made(&mut self, made: library::Made) -> Result<Id, Refusal> {
         self.state = made.arena;
         Refusal::accept(made.no)?;
@@ -147,6 +148,42 @@ impl Tables {
         ));
         self.made(made)
     }
+
+    pub(crate) fn enter(
+        &mut self,
+        root: Id,
+        depth: u32,
+        edge: u32,
+        record: &[u8],
+    ) -> Result<Id, Refusal> {
+        let made = call!(fenpiling_enter_reading(
+            self.state,
+            self,
+            root.raw(),
+            depth,
+            edge,
+            record.as_ptr(),
+            record.len()
+        ));
+        self.made(made)
+    }
+}
+
+/// What a record says.
+pub(crate) fn parse(record: &[u8]) -> Result<Reading, Refusal> {
+    // SAFETY: the slice goes with its own length, and the function reads nothing else.
+    let read = unsafe { library::fenpiling_parse_reading(record.as_ptr(), record.len()) };
+    Refusal::accept(read.no)?;
+    let (point, value) = (Metres::new(read.x, read.y, read.z), read.value);
+    Ok(match read.kind {
+        Reading::SHOT => Reading::Shot { at: point, value },
+        Reading::BAR => Reading::Bar {
+            from: point,
+            second_x: read.second_x,
+            value,
+        },
+        _ => Reading::Pause,
+    })
 }
 
 /// A cell as the library takes it.

@@ -17,6 +17,8 @@
 //! # }
 //! ```
 //!
+//! A surveyor's instrument writes metres: [`Root::enter`] enters a [`Reading`], and [`Root::enter_record`] a record as it stands in the instrument's file.
+//!
 //! The calls are those of libfenpiling.a, which are proved to meet the contracts that their comments here put into words. This crate owns the memory that
 //! they work in, and counts the callers' holds: a [`Root`] is one hold, `clone` is one more, and dropping it gives it back. So a node is never released
 //! twice, nor used after it has gone, and a root of one arena is refused by another.
@@ -34,15 +36,20 @@ mod cell;
 #[allow(unsafe_code)]
 mod ffi;
 mod id;
+mod reading;
 mod refusal;
 
 pub use arena::{Arena, BranchRefused, Counts, Root};
 pub use cell::Cell;
 pub use id::Id;
+pub use reading::{Metres, Reading};
 pub use refusal::Refusal;
 
 /// The greatest depth of a model: 64 cells along each axis.
 pub const MAX_DEPTH: u32 = 6;
+
+/// The greatest edge of a reading: cells of 2^-6 metres.
+pub const MAX_EDGE: u32 = 6;
 
 #[cfg(doctest)]
 #[doc = include_str!("../../../docs/USING.md")]

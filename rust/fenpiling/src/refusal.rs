@@ -1,12 +1,13 @@
 use std::fmt;
 
-/// Why a call was refused: the lowest number that applies. A refused call has changed nothing.
+/// Why a call was refused: the lowest number that applies, where 13 and 14 count as between 2 and 3. A refused call has changed nothing, but for a bar that
+/// is refused on its way: [`Root::enter`](crate::Root::enter) says what stays then, and what may have moved.
 #[derive(Clone, Copy, Debug, PartialEq, Eq, Hash)]
 #[repr(u32)]
 pub enum Refusal {
     /// The capacity is not 2 to 65,536.
     Size = 1,
-    /// The depth is above 6, or a child number is asked at a level not below the depth.
+    /// The depth is above 6, or the edge is; or a child number is asked at a level not below the depth.
     Depth = 2,
     /// A coordinate is below 0 or at least 2^depth, or a path code is 2^30 or more.
     Position = 3,
@@ -28,10 +29,14 @@ pub enum Refusal {
     Full = 11,
     /// Packing with a generation above 0x7FFE.
     Generation = 12,
+    /// A record is not 40 bytes long or of no known kind, what is spare in it or a pause's value is not zero, or a bar's second x is below its first.
+    Record = 13,
+    /// A number of a reading is a NaN or infinite.
+    NotFinite = 14,
 }
 
 impl Refusal {
-    const ALL: [Refusal; 12] = [
+    const ALL: [Refusal; 14] = [
         Refusal::Size,
         Refusal::Depth,
         Refusal::Position,
@@ -44,9 +49,11 @@ impl Refusal {
         Refusal::ManyHolds,
         Refusal::Full,
         Refusal::Generation,
+        Refusal::Record,
+        Refusal::NotFinite,
     ];
 
-    /// The refusal's number, 1 to 12.
+    /// The refusal's number, 1 to 14.
     pub fn number(self) -> u32 {
         self as u32
     }
@@ -68,7 +75,7 @@ impl fmt::Display for Refusal {
     fn fmt(&self, f: &mut fmt::Formatter<'_>) -> fmt::Result {
         f.write_str(match self {
             Refusal::Size => "the capacity is out of range",
-            Refusal::Depth => "the depth is above 6, or the level not below the depth",
+            Refusal::Depth => "the depth or the edge is above 6, or the level not below the depth",
             Refusal::Position => "the place is outside the cube, or the path code too great",
             Refusal::NotLive => "the id is neither EMPTY nor live in this arena",
             Refusal::FewHolds => "fewer holds than the call would take",
@@ -81,6 +88,8 @@ impl fmt::Display for Refusal {
             Refusal::ManyHolds => "the node already has 1,000,000 holds",
             Refusal::Full => "more new nodes than free slots",
             Refusal::Generation => "the generation is above 0x7FFE",
+            Refusal::Record => "the record is not one of the instrument's",
+            Refusal::NotFinite => "a number is a NaN or infinite",
         })
     }
 }

@@ -1,21 +1,8 @@
 //! Models beside plain arrays, the ownership of holds, and the refusals.
+mod numbers;
+
 use fenpiling::{Arena, Cell, Counts, Id, MAX_DEPTH, Refusal, Root};
-
-/// Numbers that look random (xorshift).
-struct Numbers(u64);
-
-impl Numbers {
-    fn next(&mut self) -> u64 {
-        self.0 ^= self.0 << 13;
-        self.0 ^= self.0 >> 7;
-        self.0 ^= self.0 << 17;
-        self.0
-    }
-
-    fn below(&mut self, bound: u64) -> u64 {
-        self.next() % bound
-    }
-}
+use numbers::Numbers;
 
 fn eight(root: &Root) -> [Root; 8] {
     [(); 8].map(|()| root.clone())
@@ -219,6 +206,8 @@ fn refusals_have_their_numbers() {
         Refusal::ManyHolds,
         Refusal::Full,
         Refusal::Generation,
+        Refusal::Record,
+        Refusal::NotFinite,
     ];
     for (refusal, number) in all.into_iter().zip(1..) {
         assert_eq!(refusal.number(), number);
