@@ -1,4 +1,4 @@
--- What each call does, and what follows for any calls: the ledger, old ids, the roots that are kept.
+-- What each call does, and what follows for any calls and readings: the ledger, old ids, the roots that are kept.
 use mathlib.Core.Path.{_≡_, ap, _∙_}
 use mathlib.Core.Logic.{_≢_, _↔_}
 use Prim.Native.Nat.{ℕ, _+_, _%_, _≤_, _<_}
@@ -20,9 +20,10 @@ use Rattle.calls.proofs.Arena.{leaf-does, branch-does, hold-does, release-does}
 use Rattle.calls.proofs.Again as again
 use Rattle.calls.proofs.Follows as follows
 use Rattle.calls.proofs.Follows.{there-kept, old-ended}
-use Rattle.promises.specs.Promises.{Call, leaf, branch, hold, release, voxel, Handed, outcome, grants, takesOf, Step, call, Refused}
+use Rattle.promises.specs.Promises.{Call, leaf, branch, hold, release, voxel, Handed, outcome, grants, takesOf, Step, call, entry, Refused}
 use Rattle.edit.proofs.Edits.{edit-refused, edit-number}
 use Rattle.edit.proofs.Does.{edit-does}
+use Rattle.readings.proofs.Does.{enter-does}
 use Rattle.promises.proofs.Dead.{dead-refused}
 
 fit : cubeKids ≤ kidWords
@@ -58,6 +59,7 @@ module _ {t : Tables} (w : WellFormed cubeKids deepest t) where
 
 pub step-does : (t u : Tables) (g k j : ℕ → ℕ) → WellFormed cubeKids deepest t → Step t u g k j → Does cubeKids deepest t u g k j
 step-does t u g k j w (call c h) = call-does w c h
+step-does t u g k j w (entry b e i l h) = enter-does b e i l h w
 
 -- ## Any calls since the fresh arena
 

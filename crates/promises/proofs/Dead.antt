@@ -1,29 +1,38 @@
 -- An id that is neither EMPTY nor live is refused by every call that is handed it.
-use mathlib.Core.Path.{_≡_}
+use mathlib.Core.Path.{_≡_, refl, sym, ap, _∙_, subst}
 use mathlib.Core.Logic.{_≢_, inl, inr}
 use mathlib.Core.Bool.{Bool, true, false}
 use mathlib.Core.List.{List}
-use Prim.Native.Nat.{ℕ, _≤_}
+use Prim.Native.Nat.{ℕ, _-_, _^_, _≤_, _<_}
 use native.Mathlib.Omega.{arith}
 use lib.Dec.{leb}
 use lib.ListN.{length}
-use borrow.Author.Tests.{ne-eqb, le-leb}
+use borrow.Author.Tests.{ne-eqb, le-leb, lt-ltb}
 use Rattle.basics.specs.Limits.{deepest, deepestCube, cubeKids}
 use Rattle.basics.specs.Pick.{pick}
 use Rattle.nodes.proofs.Sums.{split}
 use Rattle.paths.specs.declared.IVec3.{IVec3}
-use Rattle.paths.specs.Paths.{inside}
+use Rattle.paths.specs.Paths.{place, inside}
 use Rattle.tree.specs.Tree.{LiveOr0}
-use Rattle.arena.specs.Calls.{fits, liveOrEmpty}
+use Rattle.arena.specs.Calls.{Out, fits, liveOrEmpty, holdNo}
 use Rattle.arena.specs.Tables.{Tables, cap, W, Sized}
 use Rattle.arena.proofs.Fits.{sized-fits}
 use Rattle.ledger.specs.Fates.{Lives}
+use Rattle.ledger.proofs.Ladders.{hold-no}
 use Rattle.ledger.proofs.Refusals as refusals
 use Rattle.read_cell.specs.Calls.{lookNo, lookOf, expandNo, expandOf}
 use Rattle.read_cell.proofs.Laws.{there-live}
 use Rattle.edit.specs.Edit.{editNo}
 use Rattle.edit.proofs.Edits.{edit-number}
-use Rattle.promises.specs.Promises.{Inside, ByFour, Refused}
+use Rattle.metres.specs.Record.{Bytes, aimOf}
+use Rattle.metres.specs.declared.Aim.{Aim}
+use Rattle.metres.specs.declared.Aim.the-variants.{Nothing, Cells, No}
+use Rattle.bars.specs.Bars.{barOf}
+use Rattle.bars.proofs.Ways.{bar-number}
+use Rattle.readings.specs.Enter.{pauseOf, askedOf, enterOf}
+use Rattle.readings.proofs.Aims.{SoundCells, Sound, aim-sound}
+use Rattle.readings.proofs.Law.{unpaused, enter-sized}
+use Rattle.promises.specs.Promises.{Inside, ByFour, Asks, Refused}
 
 -- a ladder of refusals from 1 to 4
 abbrev Four : ℕ → Type 0
@@ -86,6 +95,31 @@ module _ (t : Tables) (y : ℕ) (some : y ≢ 0) (dead : Lives t y → ⊥) wher
     unfolding expandOf
     expanded-no d l = rw (ne-eqb (expandNo t y d (length l)) 0 (λ e. let f = expand-four d (length l) .0 in omega arith))
 
+    -- A reading is refused with 4 where the record itself is not refused.
+    dead-pause : pauseOf t y .no ≡ 4
+    dead-pause =
+        let e : holdNo t y ≡ 4 = sym (hold-no t y) ∙ refusals.dead-refused cubeKids deepest y sized some dead .0 in
+        ap (λ (o : Out). o .no) (unpaused t y (λ z. let i : _≡_ {A = ℕ} 4 0 = sym e ∙ z in omega arith)) ∙ e
+
+    dead-bar : (d a b i j v : ℕ) → SoundCells d a b i j v → barOf t y d i j a (b - a) v .no ≡ 4
+    unfolding inside
+    dead-bar d a b i j v g =
+        let up = g .rises in
+        let far = g .in-x in
+        let in-a : a < 2 ^ d = omega arith in
+        let e = dead-edit d (place a i j) v .2 (g .deep, lt-ltb a (2 ^ d) in-a, lt-ltb i (2 ^ d) (g .in-y), lt-ltb j (2 ^ d) (g .in-z)) in
+        bar-number t y d i j a v (b - a) (λ z. let q : _≡_ {A = ℕ} 4 0 = sym e ∙ z in omega arith) .0 ∙ e
+
+    dead-asked : (d : ℕ) (m : Aim) → Sound d m → (askedOf t y d m .no ≢ 0) × (((n : ℕ) → m ≡ No n → ⊥) → askedOf t y d m .no ≡ 4)
+    unfolding askedOf
+    dead-asked d (Nothing) g = let e = dead-pause in ((λ z. omega arith), λ n. e)
+    dead-asked d (Cells a b i j v) g = let e = dead-bar d a b i j v g in ((λ z. omega arith), λ n. e)
+    dead-asked d (No n) g = (g, λ a. absurd (a n refl))
+
+    dead-reading : (d k : ℕ) (l : List ℕ) → Bytes l → (enterOf t y d k l .no ≢ 0) × (Asks l k d → enterOf t y d k l .no ≡ 4)
+    dead-reading d k l bytes = subst (λ (o : Out). (o .no ≢ 0) × (Asks l k d → o .no ≡ 4)) (enter-sized t y d k l (sized-fits sized))
+        (dead-asked d (aimOf l k d) (aim-sound l k d bytes))
+
     -- An id that is neither EMPTY nor live is refused by every call that is handed it.
     pub dead-refused : Refused t y
     dead-refused =
@@ -98,4 +132,5 @@ module _ (t : Tables) (y : ℕ) (some : y ≢ 0) (dead : Lives t y → ⊥) wher
           lookup = λ d p. rw (looked-no d p) (dead-look d p);
           expansion = λ d l. rw (expanded-no d l) (dead-expand d (length l));
           edit = λ d p v. rw (edit-number t y d p v) (dead-edit d p v);
+          reading = λ d k l bytes. dead-reading d k l bytes;
         }

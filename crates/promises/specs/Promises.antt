@@ -1,6 +1,7 @@
 -- All calls that change an arena, and what a caller may rely on over any sequence of them: demand 3, the plain cube, the ledger, old ids. The theorems are
 -- in proofs/.
 use mathlib.Core.Path.{_≡_}
+use mathlib.Core.Logic.{_≢_}
 use mathlib.Core.Bool.{Bool, true, false}
 use mathlib.Core.List.{List}
 use Prim.Native.Nat.{ℕ, suc, _+_, _*_, _/_, _%_, _^_, _≤_, _<_}
@@ -25,6 +26,9 @@ use Rattle.calls.specs.Cells.{spot, standsAt, Answers, Alike}
 use Rattle.read_cell.specs.Calls.{lookOf, expandOf}
 use Rattle.edit.specs.Edit.{editNo, editOf}
 use Rattle.edit.specs.Promises.{then, gives}
+use Rattle.metres.specs.Record.{Bytes, aimOf}
+use Rattle.metres.specs.declared.Aim.the-variants.{No}
+use Rattle.readings.specs.Enter.{enterOf, enterEnds}
 
 -- ## Calls
 
@@ -69,11 +73,13 @@ takesOf o (hold b) y = 0
 takesOf o (release b) y = ifAccepted o (on y b)
 takesOf o (voxel b e p v) y = 0
 
--- One call. `History Step t granted taken` are the tables that calls since a fresh arena have reached, and `Since Step t u granted taken times` those that
--- calls from t on have reached.
+-- One call, or one reading entered, accepted or refused: it grants one hold on its answer, and its bar may recycle a slot more than once. `History Step t granted
+-- taken` are the tables that these have reached since a fresh arena, and `Since Step t u granted taken times` those that they have reached from t on.
 pub data Step : Tables → Tables → (ℕ → ℕ) → (ℕ → ℕ) → (ℕ → ℕ) → Type 0 where
   call : {t : Tables} (c : Call) → Handed c
       → Step t (outcome t c .after) (λ y. grants (outcome t c) c y) (λ y. takesOf (outcome t c) c y) (λ s. ended t (outcome t c .after) s)
+  entry : {t : Tables} (b e k : ℕ) (l : List ℕ) → Bytes l
+      → Step t (enterOf t b e k l .after) (λ y. ifAccepted (enterOf t b e k l) (on y (enterOf t b e k l .id))) (λ y. 0) (λ s. enterEnds t b e k l s)
 
 -- ## Demand 3: two edits in both orders
 
@@ -191,6 +197,10 @@ Inside d p = (d ≤ deepest) × (inside d (p .x) ≡ true) × (inside d (p .y) �
 abbrev pub ByFour : ℕ → Type 0 → Type 0
 ByFour k fit = (1 ≤ k) × (k ≤ 4) × (fit → k ≡ 4)
 
+-- the record is not refused by itself: with 2, 13, 14 or 3
+abbrev pub Asks : List ℕ → ℕ → ℕ → Type 0
+Asks l k d = (n : ℕ) → aimOf l k d ≡ No n → ⊥
+
 -- Every call that is handed the id refuses it.
 pub record Refused (t : Tables) (y : ℕ) : Type 0 where
   pub hold : holdOf t y .no ≡ 4
@@ -200,3 +210,4 @@ pub record Refused (t : Tables) (y : ℕ) : Type 0 where
   pub lookup : (d : ℕ) (p : IVec3) → ByFour (lookOf t y d p .no) (Inside d p)
   pub expansion : (d : ℕ) (l : List ℕ) → ByFour (expandOf t y d l .no) (d ≤ deepestCube)
   pub edit : (d : ℕ) (p : IVec3) (v : ℕ) → ByFour (editOf t y d p v .no) (Inside d p)
+  pub reading : (d k : ℕ) (l : List ℕ) → Bytes l → (enterOf t y d k l .no ≢ 0) × (Asks l k d → enterOf t y d k l .no ≡ 4)

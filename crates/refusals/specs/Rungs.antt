@@ -1,10 +1,10 @@
--- The numbers of the paths, of reading and of the edit as ladders: each test with its number, in the order of the tests. (That they are the numbers
+-- The numbers of the paths, of reading, of the edit and of a reading in metres as ladders: each test with its number, in the order of the tests. (That they are the numbers
 -- of the calls is proved: proofs/.)
-use mathlib.Core.Bool.{Bool, false, not}
+use mathlib.Core.Bool.{Bool, false, not, _||_}
 use mathlib.Core.List.{List, [], _∷_}
 use Prim.Native.Nat.{ℕ, _^_}
 use lib.Dec.{leb, ltb, eqb}
-use Rattle.basics.specs.Limits.{deepest, deepestCube, cubeKids, lastPacked}
+use Rattle.basics.specs.Limits.{deepest, deepestCube, cubeKids, lastPacked, finestEdge}
 use Rattle.basics.specs.Pick.{pick}
 use Rattle.nodes.specs.Values.{heightAt}
 use Rattle.nodes.specs.Words.{slot}
@@ -14,6 +14,8 @@ use Rattle.tree.specs.Lacks.{Need, have, lack}
 use Rattle.arena.specs.Tables.{Tables, cap, W}
 use Rattle.arena.specs.Calls.{fits, liveOrEmpty, fullOf, freeSlots}
 use Rattle.edit.specs.Edit.{resultOf, cellAt}
+use Rattle.metres.specs.Record.{kindIn, malformed, unending, outside}
+use Rattle.readings.specs.Enter.{enterOf}
 
 -- all three coordinates are inside
 unfoldable pub allInside : ℕ → IVec3 → Bool
@@ -53,3 +55,13 @@ abbrev pub editRungs : Tables → ℕ → ℕ → IVec3 → ℕ → List (Bool �
 editRungs t root d p v =
     (not (fits t), 1) ∷ (not (leb d deepest), 2) ∷ (not (allInside d p), 3) ∷ (not (liveOrEmpty (cap t) (W t) root), 4)
     ∷ (not (leb (heightAt (W t) root) d), 8) ∷ (tenOf t (resultOf cubeKids t v (cellAt d p) root), 10) ∷ (elevenOf t (resultOf cubeKids t v (cellAt d p) root), 11) ∷ []
+
+-- a shot or a bar below a root that is taller than d
+unfoldable pub eightOf : Tables → ℕ → ℕ → List ℕ → Bool
+eightOf t root d l = pick (eqb (kindIn l) 0) false (not (leb (heightAt (W t) root) d))
+
+-- 10 and 11 by the number itself: it is that of the first edit that is refused
+abbrev pub enterRungs : Tables → ℕ → ℕ → ℕ → List ℕ → List (Bool × ℕ)
+enterRungs t root d k l =
+    (not (fits t), 1) ∷ (ltb deepest d || ltb finestEdge k, 2) ∷ (malformed l, 13) ∷ (unending l, 14) ∷ (outside l k d, 3) ∷ (not (liveOrEmpty (cap t) (W t) root), 4)
+    ∷ (eightOf t root d l, 8) ∷ (eqb (enterOf t root d k l .no) 10, 10) ∷ (eqb (enterOf t root d k l .no) 11, 11) ∷ []

@@ -1,17 +1,25 @@
--- What each number of the paths, of reading and of the edit says: given exactly if. (`Exactly`, `Full`: crates/ledger/specs/Refusals.antt)
+-- What each number of the paths, of reading, of the edit and of a reading in metres says: given exactly if. (`Exactly`, `Full`: crates/ledger/specs/Refusals.antt;
+-- `Malformed`, `Unending`, `Beyond` of a record: crates/metres/specs/Why.antt)
+use mathlib.Core.Path.{_≡_}
 use mathlib.Core.Logic.{_≢_}
-use Prim.Native.Nat.{ℕ, _^_, _≤_, _<_}
+use mathlib.Core.List.{List}
+use Prim.Native.Nat.{ℕ, _+_, _^_, _≤_, _<_}
 use lib.IntN.{ℤ, pos, negsuc}
-use Rattle.basics.specs.Limits.{deepest, deepestCube, cubeKids, lastPacked}
+use Rattle.basics.specs.Limits.{deepest, deepestCube, cubeKids, lastPacked, finestEdge}
 use Rattle.nodes.specs.Values.{heightAt}
 use Rattle.nodes.specs.Words.{Words}
 use Rattle.paths.specs.declared.IVec3.{IVec3}
+use Rattle.paths.specs.Paths.{place}
 use Rattle.arena.specs.Tables.{Tables, W, Sized}
 use Rattle.arena.specs.Calls.{freeSlots}
 use Rattle.ledger.specs.Fates.{Lives}
 use Rattle.ledger.specs.Refusals.{Full}
 use Rattle.edit.specs.Edit.{cellAt}
 use Rattle.edit.specs.Promises.{Imagined, Missing}
+use Rattle.metres.specs.Record.{kindIn, aimOf}
+use Rattle.metres.specs.Why.{Malformed, Unending, Beyond as RecordBeyond}
+use Rattle.metres.specs.declared.Aim.the-variants.{Cells}
+use Rattle.readings.specs.Stops.{reachedOf}
 
 -- 2: depth above the deepest; a child number asked at a level not below the depth
 -- 3: a coordinate below 0 or at least 2^d; a path code of 2^30 or more
@@ -69,3 +77,23 @@ pub data EditWhy (t : Tables) (root d : ℕ) (p : IVec3) (v : ℕ) : ℕ → Typ
   tallEdit : d < heightAt (W t) root → EditWhy t root d p v 8
   fullEdit : (c : ℕ) (W′ : Words) (r : ℕ) → Imagined cubeKids t root (cellAt d p) v c W′ r → Lives t r → Full t r → EditWhy t root d p v 10
   crowdedEdit : (k : ℕ) → Missing cubeKids t root (cellAt d p) v k → freeSlots (t .arena) < k → EditWhy t root d p v 11
+
+-- n applies to the edit of one of the cells that the record l asks for, those before it accepted
+pub data StopsBy (t : Tables) (root d k : ℕ) (l : List ℕ) (n : ℕ) : Type 0 where
+  atCell : (first last y z v j : ℕ) → aimOf l k d ≡ Cells first last y z v → first + j ≤ last → reachedOf t root d y z first j v .no ≡ 0
+      → EditWhy (reachedOf t root d y z first j v .after) (reachedOf t root d y z first j v .id) d (place (first + j) y z) v n → StopsBy t root d k l n
+
+-- a number applies to entering the record l below the root, at depth d, with an edge of 2^-k metres; they are tested in the order 1, 2, 13, 14, 3, 4, 8, 10, 11.
+-- A pause edits nothing: 8 and 11 don't apply to it, and 10 is that the root already has 1,000,000 holds.
+pub data EnterWhy (t : Tables) (root d k : ℕ) (l : List ℕ) : ℕ → Type 0 where
+  unsizedEnter : (Sized t → ⊥) → EnterWhy t root d k l 1
+  deepEnter : deepest < d → EnterWhy t root d k l 2
+  fineEnter : finestEdge < k → EnterWhy t root d k l 2
+  malformedEnter : Malformed l → EnterWhy t root d k l 13
+  unendingEnter : Unending l → EnterWhy t root d k l 14
+  beyondEnter : RecordBeyond l k d → EnterWhy t root d k l 3
+  deadEnter : root ≢ 0 → (Lives t root → ⊥) → EnterWhy t root d k l 4
+  tallEnter : kindIn l ≢ 0 → d < heightAt (W t) root → EnterWhy t root d k l 8
+  fullPause : kindIn l ≡ 0 → Lives t root → Full t root → EnterWhy t root d k l 10
+  fullCell : StopsBy t root d k l 10 → EnterWhy t root d k l 10
+  crowdedCell : StopsBy t root d k l 11 → EnterWhy t root d k l 11

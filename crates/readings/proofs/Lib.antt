@@ -1,0 +1,4 @@
+pub mod Aims
+pub mod Law
+pub mod Stops
+pub mod Does
