@@ -63,7 +63,7 @@ far false n d h = rw (le-leb (2 ^ d) (n / 2 ^ 1074) (le-div-iff-mul-le (pow-pos 
 
 -- ---- `whole`, by its tests of the bits
 
-zero-cell : (d : ℕ) → At 0 ≡ placed true 0 d
+pub zero-cell : (d : ℕ) → At 0 ≡ placed true 0 d
 unfolding placed
 zero-cell d = rw (lt-leb (2 ^ d) 0 (pow-pos d))
 

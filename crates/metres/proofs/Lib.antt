@@ -4,3 +4,4 @@ pub mod Order
 pub mod Parsing
 pub mod Aiming
 pub mod Numbers
+pub mod Theorems

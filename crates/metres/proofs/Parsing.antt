@@ -2,7 +2,8 @@
 use mathlib.Core.Path.{_≡_, refl, sym, _∙_}
 use mathlib.Core.Bool.{Bool, true, false, not, _&&_, _||_, true≢false}
 use mathlib.Core.List.{List}
-use Prim.Native.Nat.{ℕ}
+use Prim.Native.Nat.{ℕ, _≤_}
+use native.Mathlib.Omega.{arith}
 use lib.ListN.{length}
 use lib.Dec.{T, eqb}
 use lib.Ieee.{binary64, nanBits, ofBits}
@@ -118,6 +119,28 @@ right-by kind v x y z w = go (eqb kind 0) (eqb kind 1) (eqb kind 2) refl refl re
     go false true c i j k e = shot (eqb-true kind 1 j) (eqb-true w 0 (not-false (eqb w 0) e))
     go false false true i j k e = bar (eqb-true kind 2 k) e
     go false false false i j k e = absurd (true≢false e)
+
+-- what it says of each kind
+module _ (kind v x y z w : ℕ) where
+  pub right-known : Right kind v x y z w → kind ≤ 2
+  right-known (pause e a b c d f) = omega arith
+  right-known (shot e a) = omega arith
+  right-known (bar e a) = omega arith
+
+  pub right-pause : Right kind v x y z w → kind ≡ 0 → (v ≡ 0) × (x ≡ 0) × (y ≡ 0) × (z ≡ 0) × (w ≡ 0)
+  right-pause (pause e a b c d f) k = (a, b, c, d, f)
+  right-pause (shot e a) k = absurd (omega arith)
+  right-pause (bar e a) k = absurd (omega arith)
+
+  pub right-second : Right kind v x y z w → (kind ≡ 2 → ⊥) → w ≡ 0
+  right-second (pause e a b c d f) k = f
+  right-second (shot e a) k = a
+  right-second (bar e a) k = absurd (k e)
+
+  pub right-bar : Right kind v x y z w → kind ≡ 2 → belowBits w x ≡ false
+  right-bar (pause e a b c d f) k = absurd (omega arith)
+  right-bar (shot e a) k = absurd (omega arith)
+  right-bar (bar e a) k = a
 
 pub neither : (a b : Bool) → a || b ≡ false → (a ≡ false) × (b ≡ false)
 neither true b e = absurd (true≢false e)

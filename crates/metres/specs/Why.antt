@@ -1,13 +1,16 @@
 -- What each number of a record says: given exactly if.
 use mathlib.Core.Path.{_≡_}
 use mathlib.Core.Logic.{_≢_}
-use mathlib.Core.Bool.{true, false}
-use mathlib.Core.List.{List}
+use mathlib.Core.Bool.{Bool, true, _||_}
+use mathlib.Core.List.{List, [], _∷_}
 use Prim.Native.Nat.{ℕ, _+_, _*_, _^_, _≤_, _<_}
+use lib.Dec.{ltb}
 use lib.ListN.{length}
 use Rattle.basics.specs.Limits.{deepest, finestEdge, largestValue}
 use Rattle.metres.specs.Bits.{exponent, units, belowBits}
-use Rattle.metres.specs.Record.{recordBytes, kindIn, valueIn, spareIn, xIn, yIn, zIn, secondIn, lastIn}
+use Rattle.metres.specs.Record.{recordBytes, kindIn, valueIn, spareIn, xIn, yIn, zIn, secondIn, lastIn, malformed, unending, outside}
+use Rattle.metres.specs.declared.Aim.{Aim}
+use Rattle.metres.specs.declared.Aim.the-variants.{Nothing, Cells, No}
 
 -- 13: a record not 40 bytes long, unknown kind, spare bits or bytes or a pause's value not zero, second x below first
 pub data Malformed (l : List ℕ) : Type 0 where
@@ -52,6 +55,16 @@ pub data RecordWhy (l : List ℕ) (k d : ℕ) : ℕ → Type 0 where
   malformedRecord : Malformed l → RecordWhy l k d 13
   unendingRecord : Unending l → RecordWhy l k d 14
   beyondRecord : Beyond l k d → RecordWhy l k d 3
+
+-- the number of what a record asks for: 0 where it is accepted
+unfoldable pub aimNo : Aim → ℕ
+aimNo Nothing = 0
+aimNo (Cells first last y z v) = 0
+aimNo (No n) = n
+
+-- it as a ladder: each test with its number, in the order of the tests
+abbrev pub recordRungs : List ℕ → ℕ → ℕ → List (Bool × ℕ)
+recordRungs l k d = (ltb deepest d || ltb finestEdge k, 2) ∷ (malformed l, 13) ∷ (unending l, 14) ∷ (outside l k d, 3) ∷ []
 
 -- ## The cells
 

@@ -115,11 +115,12 @@ fn whole(bits: u64, d: u32) -> Coordinate
     requires { ⌜ d ≤ 10 ⌝ }
     ensures { λ r. ⌜ r ≡ placed (negative bits) (units bits) d ⌝ }
 {
-    if bits == 0x8000_0000_0000_0000 {
-        return Coordinate::At(0);
-    }
+    // Below zero; then minus zero.
     if 0x8000_0000_0000_0000 < bits {
         return Coordinate::Outside;
+    }
+    if 0x8000_0000_0000_0000 <= bits {
+        return Coordinate::At(0);
     }
     let e = bits / 0x10_0000_0000_0000;
     if e < 1023 {

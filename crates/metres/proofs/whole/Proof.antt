@@ -7,14 +7,14 @@ use Rattle.metres.proofs.whole.Statement.{statement}
 use Rattle.metres.proofs.whole.Tie as tie
 
 returns : tie.Need-returns
-returns c = whole-minus-zero (c .before .args .bits) (c .before .args .d) (c .if1 .taken)
+returns c = whole-negative (c .before .args .bits) (c .before .args .d) (c .if1 .taken) (omega arith)
 
 returns-2 : tie.Need-returns-2
-returns-2 c = whole-negative (c .before .before .args .bits) (c .before .before .args .d) (c .if2 .taken) (omega arith)
+returns-2 c = whole-minus-zero (c .before .before .args .bits) (c .before .before .args .d) (omega arith)
 
 -- what the two tests of the sign leave
 plus : (c : tie.Else2) → c .before .before .args .bits < 2 ^ 63
-plus c = omega (arith, c .before .if1 .left, c .if2 .left)
+plus c = omega arith
 
 returns-3 : tie.Need-returns-3
 returns-3 c = let a = c .before .before .before .args in whole-low (a .bits) (a .d) (plus (c .before)) (c .if3 .taken)
