@@ -32,14 +32,5 @@ pub extern "C" fn fenpiling_enter_reading(
     ensures { λ r. ⌜ (Fair cubeKids deepest (before arena kids facts find)
         → made r kids facts find ≡ enterOf (before arena kids facts find) root depth k (now (bytes .entry))) ⌝ }
 {
-    readings::enter_reading(
-        arena,
-        kids,
-        facts,
-        find,
-        BlockId(root),
-        depth,
-        k,
-        bytes,
-    )
+    readings::enter_reading(arena, kids, facts, find, BlockId(root), depth, k, bytes)
 }

@@ -62,7 +62,7 @@ module _ (d y z v : ℕ) where
       let q = pass-none d y z v u r x in
       let c : x + 0 ≡ x = omega arith in
       let f : editOf u r d (place x y z) v .no ≡ n =
-          sym (ap (λ (i : Out). editOf (i .after) (i .id) d (place (x + 0) y z) v .no) q ∙ ap (λ (i : ℕ). editOf u r d (place i y z) v .no) c) ∙ e in
+      sym (ap (λ (i : Out). editOf (i .after) (i .id) d (place (x + 0) y z) v .no) q ∙ ap (λ (i : ℕ). editOf u r d (place i y z) v .no) c) ∙ e in
       ap (λ (i : Out). i .no) (pass-stop d y z v u r x k (λ i. h (sym f ∙ i))) ∙ f
   stops-pass (suc j) (suc k) u r x n h w ok e =
       let o = editOf u r d (place x y z) v in

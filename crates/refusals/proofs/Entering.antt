@@ -12,7 +12,7 @@ use borrow.Author.Tests.{leb-true, leb-false, lt-leb, ltb-true, ltb-false, lt-lt
 use Rattle.basics.specs.Limits.{deepest, cubeKids, finestEdge}
 use Rattle.basics.specs.Ladder.{ladder, order, Decides, Listed, Given}
 use Rattle.basics.specs.Pick.{pick}
-use Rattle.basics.proofs.Ladder.{via, tells, out, ladder-given}
+use Rattle.basics.proofs.Ladder.{via, tells, on as holds-on, off, ladder-given}
 use Rattle.nodes.specs.Values.{heightAt}
 use Rattle.nodes.proofs.Counts.{live-nonzero}
 use Rattle.nodes.proofs.Sums.{cases, split}
@@ -152,21 +152,21 @@ module _ (t : Tables) (root : ℕ) (sized : Sized t) where
       why : HoldWhy t root 10 → Lives t root × Full t root
       why (fullHeld l f) = (l, f)
 
-  pause-late : LiveOr0 (cap t) (W t) root → Late (pauseOf t root .no)
-  pause-late there = cases (ℕ-discrete (pauseOf t root .no) 0) (λ z. inl z)
-      (λ z. inr (inl (by (hold-refusals t root .refused (holdOf t root .no) (omega (arith, pause-no t root)) .0 refl .this) ∙ refl)))
-    where
-      alive : LiveOr0 (cap t) (W t) root → root ≢ 0 → Lives t root
-      alive (inl e) z = absurd (z e)
-      alive (inr l) z = l
+  -- of a root that is EMPTY or live only 10 can apply
+  module _ (there : LiveOr0 (cap t) (W t) root) where
+    alive : LiveOr0 (cap t) (W t) root → root ≢ 0 → Lives t root
+    alive (inl e) z = absurd (z e)
+    alive (inr l) z = l
 
-      only : (j : ℕ) → HoldWhy t root j → j ≡ 10
-      only j (unsizedHeld u) = absurd (u sized)
-      only j (deadHeld z l) = absurd (l (alive there z))
-      only j (fullHeld l f) = refl
+    only-ten : (j : ℕ) → HoldWhy t root j → j ≡ 10
+    only-ten j (unsizedHeld u) = absurd (u sized)
+    only-ten j (deadHeld z l) = absurd (l (alive there z))
+    only-ten j (fullHeld l f) = refl
 
-      by : HoldWhy t root (holdOf t root .no) → pauseOf t root .no ≡ 10
-      by w = pause-no t root ∙ only (holdOf t root .no) w
+    pause-late : (pauseOf t root .no ≡ 0) ⊎ (pauseOf t root .no ≡ 10)
+    pause-late = cases (ℕ-discrete (holdOf t root .no) 0)
+        (λ z. inl (pause-no t root ∙ z))
+        (λ z. inr (pause-no t root ∙ only-ten (holdOf t root .no) (hold-refusals t root .refused (holdOf t root .no) (omega arith) .0 refl .this)))
 
 -- ---- the cells of a bar
 
@@ -207,9 +207,9 @@ module _ {t : Tables} (w : WellFormed cubeKids deepest t) (root d a b y z v : �
   bar-dead n l = let up = g .rises in bar-first-no 4 (omega arith) (is t w root 0 (omega arith) 4 (omega arith) (deadEdit n l) (early t w root 0 (omega arith)))
 
   module _ (there : LiveOr0 (cap t) (W t) root) where
-    alive : LiveOr0 (cap t) (W t) root → root ≢ 0 → (Lives t root → ⊥) → ⊥
-    alive (inl e) z n = z e
-    alive (inr l) z n = n l
+    stays : LiveOr0 (cap t) (W t) root → root ≢ 0 → (Lives t root → ⊥) → ⊥
+    stays (inl e) z n = z e
+    stays (inr l) z n = n l
 
     bar-tall : d < heightAt (W t) root → bar .no ≡ 8
     bar-tall tall = let up = g .rises in bar-first-no 8 (omega arith) (is t w root 0 (omega arith) 8 (omega arith) (tallEdit tall) lower)
@@ -218,7 +218,7 @@ module _ {t : Tables} (w : WellFormed cubeKids deepest t) (root d a b y z v : �
         lower i l (unsizedEdit n) = n (w .sized)
         lower i l (deepEdit n) = let q = g .deep in omega arith
         lower i l (beyondEdit n) = let up = g .rises in in-cube d a b y z v g 0 (omega arith) n
-        lower i l (deadEdit n m) = alive there n m
+        lower i l (deadEdit n m) = stays there n m
         lower i l (tallEdit n) = omega arith
         lower i l (fullEdit c U s m k f) = omega arith
         lower i l (crowdedEdit k m n) = omega arith
@@ -254,10 +254,10 @@ module _ {t : Tables} (w : WellFormed cubeKids deepest t) (root d a b y z v : �
         abbrev number : ℕ
         number = editOf (o .after) (o .id) d (place (a + j) y z) v .no
 
-        abbrev Why : ℕ → Type 0
-        Why = EditWhy (o .after) (o .id) d (place (a + j) y z) v
+        abbrev CellWhy : ℕ → Type 0
+        CellWhy = EditWhy (o .after) (o .id) d (place (a + j) y z) v
 
-        exact : Exactly Why number
+        exact : Exactly CellWhy number
         exact = edit-refusals (o .after) (o .id) d (place (a + j) y z) v (inr (reached j ok .well))
 
         cell-late : Late number
@@ -268,14 +268,14 @@ module _ {t : Tables} (w : WellFormed cubeKids deepest t) (root d a b y z v : �
             (bar-late (r .well) (o .id) d y z (a + j) 0 v (g .small) (g .deep) (g .in-y) (g .in-z) (omega arith) (r .here) (r .under))
 
         stopped : (n : ℕ) → n ≢ 0 → number ≡ n → bar .no ≡ n
-        stopped n z e = let up = g .rises in bar-stops d y z v t root a (b - a) n z .1 (record { cell = j; within = omega arith; so-far = ok; number = e })
+        stopped n p e = let up = g .rises in bar-stops d y z v t root a (b - a) n p .1 (record { cell = j; within = omega arith; so-far = ok; number = e })
 
-        ten-stops : Why 10 → bar .no ≡ 10
+        ten-stops : CellWhy 10 → bar .no ≡ 10
         ten-stops why = ⊎-elim (λ e. absurd (exact .accepted .0 e 10 why))
             (λ m. ⊎-elim (λ e. stopped 10 (λ z. omega arith) e)
             (λ e. absurd (exact .refused 11 (omega arith) .0 e .lower 10 (omega arith) why)) m) cell-late
 
-        eleven-stops : Why 11 → (bar .no ≡ 10) ⊎ (bar .no ≡ 11)
+        eleven-stops : CellWhy 11 → (bar .no ≡ 10) ⊎ (bar .no ≡ 11)
         eleven-stops why = ⊎-elim (λ e. absurd (exact .accepted .0 e 11 why))
             (λ m. ⊎-elim (λ e. inl (stopped 10 (λ z. omega arith) e)) (λ e. inr (stopped 11 (λ z. omega arith) e)) m) cell-late
 
@@ -365,7 +365,7 @@ module _ (t : Tables) (root d k : ℕ) (l : List ℕ) (bytes : Bytes l) where
 
     late : Passed → LiveOr0 (cap t) (W t) root → eightOf t root d l ≡ false → Late no
     late p there e = cases (ℕ-discrete (kindIn l) 0)
-        (λ z. subst Late (sym (asks-pause (pause-is p z) f)) (pause-late t root (w .sized) there))
+        (λ z. subst Late (sym (asks-pause (pause-is p z) f)) (⊎-elim (λ i. inl i) (λ i. inr (inl i)) (pause-late t root (w .sized) there)))
         (λ z. let c = cells-are p z in subst Late (sym (asks-bar c f)) (bar-ends w root d _ _ _ _ _ (sound c) there (low z e)))
 
     -- 10 and 11
@@ -387,14 +387,11 @@ module _ (t : Tables) (root d k : ℕ) (l : List ℕ) (bytes : Bytes l) where
 
       from-eleven : no ≡ 11 → Enters 11
       from-eleven n = cases (ℕ-discrete (kindIn l) 0)
-          (λ z. absurd (never (pause-late t root (w .sized) there) (sym (asks-pause (pause-is p z) f) ∙ n)))
+          (λ z. let i = sym (asks-pause (pause-is p z) f) ∙ n in ⊎-elim (λ j. absurd (omega arith)) (λ j. absurd (omega arith)) (pause-late t root (w .sized) there))
           (λ z.
           let c = cells-are p z in
           let (j, h, ok, why) = stops-at w root d _ _ _ _ _ (sound c) there (low z e) 11 (omega arith) (sym (asks-bar c f) ∙ n) in
           crowdedCell (atCell _ _ _ _ _ j c h ok why))
-        where
-          never : Late (pauseOf t root .no) → pauseOf t root .no ≡ 11 → ⊥
-          never m i = pause-eleven t root i
 
       at-eleven : (Enters 10 → ⊥) → StopsBy t root d k l 11 → no ≡ 11
       at-eleven ten (atCell a b y z v j c h ok why) = ⊎-elim
@@ -407,3 +404,127 @@ module _ (t : Tables) (root d k : ℕ) (l : List ℕ) (bytes : Bytes l) where
 -- a number as a test
 is-number : {R : Type 0} (n k : ℕ) → (n ≡ k → R) → (R → n ≡ k) → Decides (eqb n k) R
 is-number n k to from = ((λ e. to (eqb-true n k e)), (λ r. eq-eqb n k (from r)))
+
+module _ (t : Tables) (root d k : ℕ) (l : List ℕ) (bytes : Bytes l) where
+  abbrev Why : ℕ → Type 0
+  Why = EnterWhy t root d k l
+
+  why-1 : Why 1 → Sized t → ⊥
+  why-1 (unsizedEnter u) = u
+
+  why-13 : Why 13 → Malformed l
+  why-13 (malformedEnter m) = m
+
+  why-14 : Why 14 → Unending l
+  why-14 (unendingEnter m) = m
+
+  why-3 : Why 3 → RecordBeyond l k d
+  why-3 (beyondEnter b) = b
+
+  why-4 : Why 4 → (root ≢ 0) × (Lives t root → ⊥)
+  why-4 (deadEnter z n) = (z, n)
+
+  why-2 : Why 2 → far k d ≡ false → ⊥
+  why-2 (deepEnter h) e = true≢false (sym (rw (lt-ltb deepest d h)) ∙ e)
+  why-2 (fineEnter h) e = split (ltb deepest d)
+      (λ i. true≢false (sym (rw i) ∙ e)) (λ i. true≢false (sym (rw (i, lt-ltb finestEdge k h)) ∙ e))
+
+  two : Decides (far k d) (Why 2)
+  two = tells (far k d)
+      (λ e. split (ltb deepest d) (λ i. deepEnter (ltb-true deepest d i)) (λ i. fineEnter (ltb-true finestEdge k (sym (rw i) ∙ e))))
+      (λ e y. why-2 y e)
+
+  eight-why : eightOf t root d l ≡ true → Why 8
+  eight-why e = cases (ℕ-discrete (kindIn l) 0)
+      (λ z. absurd (true≢false (sym e ∙ eight-pause t root d k l bytes z)))
+      (λ z. tallEnter z (leb-false (heightAt (W t) root) d (not-true _ (sym (eight-tall t root d k l bytes z) ∙ e))))
+
+  why-8 : eightOf t root d l ≡ false → Why 8 → ⊥
+  why-8 e (tallEnter z h) = true≢false (sym (ap not (lt-leb (heightAt (W t) root) d h)) ∙ sym (eight-tall t root d k l bytes z) ∙ e)
+
+  enter-listed : Listed Why (order (enterRungs t root d k l))
+  enter-listed j (unsizedEnter h) = List·Memᴰ·head refl
+  enter-listed j (deepEnter h) = List·Memᴰ·tail (List·Memᴰ·head refl)
+  enter-listed j (fineEnter h) = List·Memᴰ·tail (List·Memᴰ·head refl)
+  enter-listed j (malformedEnter h) = List·Memᴰ·tail (List·Memᴰ·tail (List·Memᴰ·head refl))
+  enter-listed j (unendingEnter h) = List·Memᴰ·tail (List·Memᴰ·tail (List·Memᴰ·tail (List·Memᴰ·head refl)))
+  enter-listed j (beyondEnter h) = List·Memᴰ·tail (List·Memᴰ·tail (List·Memᴰ·tail (List·Memᴰ·tail (List·Memᴰ·head refl))))
+  enter-listed j (deadEnter z h) = List·Memᴰ·tail (List·Memᴰ·tail (List·Memᴰ·tail (List·Memᴰ·tail (List·Memᴰ·tail (List·Memᴰ·head refl)))))
+  enter-listed j (tallEnter z h) = List·Memᴰ·tail (List·Memᴰ·tail (List·Memᴰ·tail (List·Memᴰ·tail (List·Memᴰ·tail (List·Memᴰ·tail (List·Memᴰ·head refl))))))
+  enter-listed j (fullPause z h i) = List·Memᴰ·tail (List·Memᴰ·tail (List·Memᴰ·tail (List·Memᴰ·tail (List·Memᴰ·tail (List·Memᴰ·tail (List·Memᴰ·tail (List·Memᴰ·head refl)))))))
+  enter-listed j (fullCell s) = List·Memᴰ·tail (List·Memᴰ·tail (List·Memᴰ·tail (List·Memᴰ·tail (List·Memᴰ·tail (List·Memᴰ·tail (List·Memᴰ·tail (List·Memᴰ·head refl)))))))
+  enter-listed j (crowdedCell s) =
+      List·Memᴰ·tail (List·Memᴰ·tail (List·Memᴰ·tail (List·Memᴰ·tail (List·Memᴰ·tail (List·Memᴰ·tail (List·Memᴰ·tail (List·Memᴰ·tail (List·Memᴰ·head refl))))))))
+
+  module _ (fair : Fair cubeKids deepest t) where
+    well : fits t ≡ true → WellFormed cubeKids deepest t
+    well e = go fair
+      where
+        go : Fair cubeKids deepest t → WellFormed cubeKids deepest t
+        go (inl n) = absurd (true≢false (sym e ∙ n))
+        go (inr w) = w
+
+    passes : far k d ≡ false → malformed l ≡ false → unending l ≡ false → outside l k d ≡ false → Passed t root d k l bytes
+    passes a b c e = record { near = a; formed = b; ending = c; within = e }
+
+    enter-ladder : enterOf t root d k l .no ≡ ladder (enterRungs t root d k l)
+    enter-ladder = climbed (fits t) (far k d) (malformed l) (unending l) (outside l k d) (liveOrEmpty (cap t) (W t) root) (eightOf t root d l) (enterOf t root d k l .no)
+        (record {
+          first = λ a. sym (ap (λ (o : Out). o .no) (enter-unsized t root d k l a));
+          second = λ a b. asks-no t root d k l bytes 2 (aim-2 l k d b) a;
+          third = λ a b c. asks-no t root d k l bytes 13 (aim-13 l k d b c) a;
+          fourth = λ a b c e. asks-no t root d k l bytes 14 (aim-14 l k d b c e) a;
+          fifth = λ a b c e f. asks-no t root d k l bytes 3 (aim-3 l k d b c e f) a;
+          sixth = λ a b c e f g. four t root d k l bytes (well a) (passes b c e f) g;
+          seventh = λ a b c e f g h. eight t root d k l bytes (well a) (passes b c e f) (there-live t root g) h;
+          last = λ a b c e f g h. late t root d k l bytes (well a) (passes b c e f) (there-live t root g) h;
+        })
+
+    -- Entering a reading: refusals 1, 2, 13, 14, 3, 4, 8, 10 and 11, each given exactly if it is the first in this order that applies.
+    pub enter-refusals : Given (EnterWhy t root d k l) (1 ∷ 2 ∷ 13 ∷ 14 ∷ 3 ∷ 4 ∷ 8 ∷ 10 ∷ 11 ∷ []) (enterOf t root d k l .no)
+    enter-refusals = subst (Given Why (order (enterRungs t root d k l))) (sym enter-ladder)
+        (ladder-given Why (enterRungs t root d k l)
+        (omega arith) enter-listed (
+          via (not (fits t)) (unsized t) unsizedEnter why-1,
+          λ a. (
+            two,
+            λ b. (
+              via (malformed l) (thirteen l) malformedEnter why-13,
+              λ c. (
+                via (unending l) (fourteen l (off (malformed l) (thirteen l) (λ m. c (malformedEnter m)))) unendingEnter why-14,
+                λ e. (
+                  via (outside l k d) (three l k d) beyondEnter why-3,
+                  λ f. (
+                    via (not (liveOrEmpty (cap t) (W t) root)) (dead t root) (λ n. deadEnter (n .0) (n .1)) why-4,
+                    λ g. (
+                      tells (eightOf t root d l) eight-why why-8,
+                      λ h. (
+                        is-number _ 10 (from-ten t root d k l bytes (w a) (p b c e f) (there g) (low-enough h))
+                            (to-ten t root d k l bytes (w a) (p b c e f) (there g) (low-enough h)),
+                        λ i. (
+                          is-number _ 11 (from-eleven t root d k l bytes (w a) (p b c e f) (there g) (low-enough h))
+                              (to-eleven t root d k l bytes (w a) (p b c e f) (there g) (low-enough h) i),
+                          λ _. tt,
+                        ),
+                      ),
+                    ),
+                  ),
+                ),
+              ),
+            ),
+          ),
+        ))
+      where
+        w : (Why 1 → ⊥) → WellFormed cubeKids deepest t
+        w a = well (holds-on (fits t) (unsized t) (λ n. a (unsizedEnter n)))
+
+        p : (Why 2 → ⊥) → (Why 13 → ⊥) → (Why 14 → ⊥) → (Why 3 → ⊥) → Passed t root d k l bytes
+        p b c e f =
+            let m = off (malformed l) (thirteen l) (λ n. c (malformedEnter n)) in
+            passes (off (far k d) two b) m (off (unending l) (fourteen l m) (λ n. e (unendingEnter n))) (off (outside l k d) (three l k d) (λ n. f (beyondEnter n)))
+
+        there : (Why 4 → ⊥) → LiveOr0 (cap t) (W t) root
+        there g = there-live t root (holds-on (liveOrEmpty (cap t) (W t) root) (dead t root) (λ n. g (deadEnter (n .0) (n .1))))
+
+        low-enough : (Why 8 → ⊥) → eightOf t root d l ≡ false
+        low-enough h = split (eightOf t root d l) (λ e. absurd (h (eight-why e))) (λ e. e)
