@@ -1,7 +1,7 @@
 -- What a bar does, as any call: one hold granted on its answer if it is accepted, none taken, and slots recycled by the releases of the passing roots.
 use mathlib.Core.Path.{_≡_, refl, sym, ap, _∙_, subst}
 use mathlib.Core.Logic.{_≢_, inl, inr}
-use Prim.Native.Nat.{ℕ, zero, suc, _+_, _≤_, _<_}
+use Prim.Native.Nat.{ℕ, suc, _≤_}
 use native.Mathlib.Decide.{ℕ-discrete}
 use native.Mathlib.Omega.{arith}
 use Rattle.basics.specs.Limits.{deepest, cubeKids, kidWords, largestValue}
@@ -9,7 +9,7 @@ use Rattle.paths.specs.declared.IVec3.{IVec3}
 use Rattle.paths.specs.Paths.{place}
 use Rattle.nodes.proofs.Sums.{cases}
 use Rattle.arena.specs.Calls.{Out, said, refused, Fair, fits, releaseOf}
-use Rattle.arena.specs.Tables.{Tables, cap, W, WellFormed}
+use Rattle.arena.specs.Tables.{Tables, WellFormed}
 use Rattle.ledger.specs.Ledger.{on, ifAccepted, holdsOn}
 use Rattle.ledger.specs.Fates.{ended}
 use Rattle.ledger.proofs.Effects.{on-zero, on-same, on-diff, accepted, unaccepted}
@@ -21,7 +21,7 @@ use Rattle.calls.proofs.Once.{ended-small, grown-ends-none}
 use Rattle.edit.specs.Edit.{editOf}
 use Rattle.edit.proofs.Does.{edit-grows, edit-does}
 use Rattle.bars.specs.Bars.{passOf, barOf, passEnds, barEnds}
-use Rattle.bars.proofs.Ways.{edit, passed, edit-stays, pass-all, ends-none, ends-on, ends-stop, bar-on, bar-stop, bar-ends-on, bar-ends-stop, bar-by, bar-unsized}
+use Rattle.bars.proofs.Ways.{editAt, passed, pass-all, ends-none, ends-on, ends-stop, bar-ends-on, bar-ends-stop, bar-by, bar-unsized}
 
 fit : cubeKids ≤ kidWords
 fit = omega arith
@@ -68,9 +68,9 @@ Ready u r = WellFormed cubeKids deepest u × Held u r
 module _ (d y z v : ℕ) (high : v ≤ largestValue) where
   -- ## One cell
 
-  module _ (u : Tables) (r x : ℕ) (w : WellFormed cubeKids deepest u) (ok : edit d y z v u r x .no ≡ 0) where
+  module _ (u : Tables) (r x : ℕ) (w : WellFormed cubeKids deepest u) (ok : editAt d y z v u r x .no ≡ 0) where
     abbrev o : Out
-    o = edit d y z v u r x
+    o = editAt d y z v u r x
 
     pub edited : Does cubeKids deepest u (o .after) (λ a. on a (o .id)) (λ a. 0) (λ s. 0)
     edited = edit-grants w r d (place x y z) v high ok
@@ -95,10 +95,10 @@ module _ (d y z v : ℕ) (high : v ≤ largestValue) where
 
   -- ## From a passing root on
 
-  pub ready-first : (u : Tables) (r x : ℕ) → WellFormed cubeKids deepest u → edit d y z v u r x .no ≡ 0 → Ready (edit d y z v u r x .after) (edit d y z v u r x .id)
+  pub ready-first : (u : Tables) (r x : ℕ) → WellFormed cubeKids deepest u → editAt d y z v u r x .no ≡ 0 → Ready (editAt d y z v u r x .after) (editAt d y z v u r x .id)
   ready-first u r x w ok = (edited u r x w ok .well, answer-held u r x w ok)
 
-  pub ready-next : (u : Tables) (r x : ℕ) → Ready u r → edit d y z v u r x .no ≡ 0 → Ready (passed d y z v u r x) (edit d y z v u r x .id)
+  pub ready-next : (u : Tables) (r x : ℕ) → Ready u r → editAt d y z v u r x .no ≡ 0 → Ready (passed d y z v u r x) (editAt d y z v u r x .id)
   ready-next u r x (w, h) ok = (stepped u r x w ok h .well, next-held u r x w ok h)
 
   abbrev Passes : Tables → ℕ → ℕ → ℕ → Out → Type 0
@@ -115,18 +115,18 @@ module _ (d y z v : ℕ) (high : v ≤ largestValue) where
           (record { well = w; size = refl; balance = λ a. refl; turns = n .turns; keeps = n .keeps; spares = λ a l. refl })
           (λ a. sym (accepted (said 0 r u) (on a r) refl)) (λ a. refl) (λ s l. sym (ends-none d y z v u r x s))
 
-      more : (u : Tables) (r x k : ℕ) (i : Out) → Ready u r → edit d y z v u r x .no ≡ 0 → Passes (passed d y z v u r x) (edit d y z v u r x .id) (suc x) k i → Passes u r x (suc k) i
+      more : (u : Tables) (r x k : ℕ) (i : Out) → Ready u r → editAt d y z v u r x .no ≡ 0 → Passes (passed d y z v u r x) (editAt d y z v u r x .id) (suc x) k i → Passes u r x (suc k) i
       more u r x k i (w, h) ok rest =
-          let o = edit d y z v u r x in
+          let o = editAt d y z v u r x in
           does-as cubeKids deepest fit (λ a. ifAccepted i (on a (i .id))) (λ a. on a r) (passEnds d y z v u r x (suc k))
           (does-net cubeKids deepest fit (λ a. ifAccepted i (on a (i .id))) (λ a. on a r) (λ a. on a (o .id)) w (stepped u r x w ok h) rest
           (λ a. (omega arith, omega arith, omega arith, omega arith)))
           (λ a. refl) (λ a. refl) (λ s l. sym (ends-on d y z v u r x k s ok))
 
-      stop : (u : Tables) (r x k : ℕ) → Ready u r → edit d y z v u r x .no ≢ 0
-          → Passes u r x (suc k) (refused (edit d y z v u r x .no) (releaseOf deepest u r .after))
+      stop : (u : Tables) (r x k : ℕ) → Ready u r → editAt d y z v u r x .no ≢ 0
+          → Passes u r x (suc k) (refused (editAt d y z v u r x .no) (releaseOf deepest u r .after))
       stop u r x k (w, h) bad =
-          let i = refused (edit d y z v u r x .no) (releaseOf deepest u r .after) in
+          let i = refused (editAt d y z v u r x .no) (releaseOf deepest u r .after) in
           does-as cubeKids deepest fit (λ a. ifAccepted i (on a (i .id))) (λ a. on a r) (passEnds d y z v u r x (suc k)) (held-does w r h)
           (λ a. sym (unaccepted i (on a (i .id)) bad)) (λ a. refl) (λ s l. sym (ends-stop d y z v u r x k s bad))
 
@@ -139,7 +139,7 @@ module _ {t : Tables} (w : WellFormed cubeKids deepest t) (root d y z x k v : �
   bar-does = bar-by d y z v t root x k
       (λ i. Does cubeKids deepest t (i .after) (λ a. ifAccepted i (on a (i .id))) (λ a. 0) (λ s. barEnds t root d y z x k v s))
       (λ ok.
-      let o = edit d y z v t root x in
+      let o = editAt d y z v t root x in
       let i = passOf d y z v (o .after) (o .id) (suc x) k in
       let rest = pass-does d y z v high k (o .after) (o .id) (suc x) (ready-first d y z v high t root x w ok) in
       does-as cubeKids deepest fit (λ a. ifAccepted i (on a (i .id))) (λ a. 0) (λ s. barEnds t root d y z x k v s)
@@ -147,7 +147,7 @@ module _ {t : Tables} (w : WellFormed cubeKids deepest t) (root d y z x k v : �
       (λ a. (omega arith, omega arith, omega arith, omega arith)))
       (λ a. refl) (λ a. refl) (λ s l. omega (arith, bar-ends-on d y z v t root x k s ok)))
       (λ bad.
-      let i = refused (edit d y z v t root x .no) t in
+      let i = refused (editAt d y z v t root x .no) t in
       does-as cubeKids deepest fit (λ a. ifAccepted i (on a (i .id))) (λ a. 0) (λ s. barEnds t root d y z x k v s) (does-none cubeKids deepest fit t w)
       (λ a. sym (unaccepted i (on a (i .id)) bad)) (λ a. refl) (λ s l. sym (bar-ends-stop d y z v t root x k s bad)))
 
@@ -155,13 +155,13 @@ pass-ends-few : (d y z v k : ℕ) (u : Tables) (r x s : ℕ) → passEnds d y z 
 pass-ends-few d y z v k u r x s =
     pass-all d y z v (λ u r x k. Unit) (λ u r x k o. passEnds d y z v u r x k s ≤ k)
     (λ u r x i. omega (arith, ends-none d y z v u r x s)) (λ u r x k i e. tt)
-    (λ u r x k o i e h. omega (arith, ends-on d y z v u r x k s e, ended-small (edit d y z v u r x .after) (passed d y z v u r x) s))
+    (λ u r x k o i e h. omega (arith, ends-on d y z v u r x k s e, ended-small (editAt d y z v u r x .after) (passed d y z v u r x) s))
     (λ u r x k i e. omega (arith, ends-stop d y z v u r x k s e, ended-small u (releaseOf deepest u r .after) s)) k u r x tt
 
 -- Each slot is recycled at most once for each cell after the first: by each release of a passing root. On any tables.
 pub bar-ends-few : (t : Tables) (root d y z x k v s : ℕ) → barEnds t root d y z x k v s ≤ k
-bar-ends-few t root d y z x k v s = cases (ℕ-discrete (edit d y z v t root x .no) 0)
-    (λ e. let o = edit d y z v t root x in omega (arith, bar-ends-on d y z v t root x k s e, pass-ends-few d y z v k (o .after) (o .id) (suc x) s))
+bar-ends-few t root d y z x k v s = cases (ℕ-discrete (editAt d y z v t root x .no) 0)
+    (λ e. let o = editAt d y z v t root x in omega (arith, bar-ends-on d y z v t root x k s e, pass-ends-few d y z v k (o .after) (o .id) (suc x) s))
     (λ e. omega (arith, bar-ends-stop d y z v t root x k s e))
 
 -- Tables that are well formed or not sized stay so.

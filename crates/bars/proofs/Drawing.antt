@@ -1,6 +1,6 @@
 -- The cube that an accepted bar leaves, cell by cell.
 use mathlib.Core.Path.{_≡_, refl, sym, ap, _∙_, subst}
-use Prim.Native.Nat.{ℕ, zero, suc, _+_, _^_, _≤_, _<_}
+use Prim.Native.Nat.{ℕ, suc, _+_, _^_, _≤_, _<_}
 use native.Mathlib.Decide.{ℕ-discrete, decLt}
 use native.Mathlib.Omega.{arith}
 use borrow.Author.Tests.{ltb-true}
@@ -16,7 +16,7 @@ use Rattle.tree.proofs.Grow.{root-later, height-later}
 use Rattle.arena.specs.Calls.{Out}
 use Rattle.arena.specs.Tables.{Tables, cap, W, WellFormed}
 use Rattle.calls.specs.Cells.{spot, Answers, Alike}
-use Rattle.calls.specs.Does.{Held, Kept}
+use Rattle.calls.specs.Does.{Kept}
 use Rattle.calls.proofs.Expanding.{look-at, expand-at}
 use Rattle.calls.proofs.Follows.{held-there, there-kept}
 use Rattle.calls.proofs.Once.{ended-small}
@@ -25,13 +25,12 @@ use Rattle.read_cell.specs.Calls.{lookOf}
 use Rattle.read_cell.proofs.Calls.{look-inside}
 use Rattle.read_cell.proofs.Meaning.{wf-made}
 use Rattle.edit.specs.Edit.{editNo}
-use Rattle.edit.specs.Promises.{Reads}
 use Rattle.edit.proofs.Edits.{accepted-past, edit-right, edit-number}
 use Rattle.edit.proofs.Law.{deep}
 use Rattle.edit.proofs.Theorems.{edit-reads}
 use Rattle.bars.specs.Bars.{passOf, barOf, Drawn}
-use Rattle.bars.proofs.Ways.{edit, passed, pass-all, bar-by, bar-first}
-use Rattle.bars.proofs.Does.{held-one, held-does, edited, answer-held, still-held, stepped, next-held, Ready, ready-first, ready-next}
+use Rattle.bars.proofs.Ways.{editAt, passed, pass-all, bar-by, bar-first}
+use Rattle.bars.proofs.Does.{held-one, held-does, edited, answer-held, still-held, next-held, Ready, ready-first, ready-next}
 use Rattle.bars.proofs.Theorems.{bar-accepted}
 
 fit : cubeKids ≤ kidWords
@@ -40,7 +39,7 @@ fit = omega arith
 -- ## One cell
 
 -- what the number 0 of an edit says of the cell
-module _ (t : Tables) (root d x y z v : ℕ) (ok : edit d y z v t root x .no ≡ 0) where
+module _ (t : Tables) (root d x y z v : ℕ) (ok : editAt d y z v t root x .no ≡ 0) where
   pub number : editNo t root d (place x y z) v ≡ 0
   number = sym (edit-number t root d (place x y z) v) ∙ ok
 
@@ -104,9 +103,9 @@ shown-then d y z v x j k p q = record {
 }
 
 -- an accepted edit is one cell
-module _ {t : Tables} (w : WellFormed cubeKids deepest t) (root d x y z v : ℕ) (high : v ≤ largestValue) (ok : edit d y z v t root x .no ≡ 0) where
+module _ {t : Tables} (w : WellFormed cubeKids deepest t) (root d x y z v : ℕ) (high : v ≤ largestValue) (ok : editAt d y z v t root x .no ≡ 0) where
   abbrev o : Out
-  o = edit d y z v t root x
+  o = editAt d y z v t root x
 
   pub edit-low : heightAt (W (o .after)) (o .id) ≤ d
   edit-low = edit-right w root d (place x y z) v high (number t root d x y z v ok) .edited .low
@@ -142,24 +141,24 @@ shown-more d y z v x k {t} {a} {u} {b} {w} {c} p q =
 
 module _ (d y z v : ℕ) (high : v ≤ largestValue) where
   -- the release of the passing root keeps the next one
-  pub answer-kept : (u : Tables) (r x : ℕ) → Ready u r → edit d y z v u r x .no ≡ 0
-      → Kept cubeKids deepest (edit d y z v u r x .after) (passed d y z v u r x) (edit d y z v u r x .id)
+  pub answer-kept : (u : Tables) (r x : ℕ) → Ready u r → editAt d y z v u r x .no ≡ 0
+      → Kept cubeKids deepest (editAt d y z v u r x .after) (passed d y z v u r x) (editAt d y z v u r x .id)
   answer-kept u r x (w, h) ok =
-      let o = edit d y z v u r x in
+      let o = editAt d y z v u r x in
       let e = edited d y z v high u r x w ok in
       there-kept fit (e .well) (held-does (e .well) r (still-held d y z v high u r x w ok h)) (o .id)
       (held-there (o .after) (o .id) (answer-held d y z v high u r x w ok)) (held-there (passed d y z v u r x) (o .id) (next-held d y z v high u r x w ok h))
       (let s = ended-small (o .after) (passed d y z v u r x) (slot (o .id)) in omega arith)
 
   -- the next root made and the passing one released: one cell
-  step-shown : (u : Tables) (r x : ℕ) → Ready u r → edit d y z v u r x .no ≡ 0 → Shown d y z v x 1 u r (passed d y z v u r x) (edit d y z v u r x .id)
+  step-shown : (u : Tables) (r x : ℕ) → Ready u r → editAt d y z v u r x .no ≡ 0 → Shown d y z v x 1 u r (passed d y z v u r x) (editAt d y z v u r x .id)
   step-shown u r x (w, h) ok =
-      let o = edit d y z v u r x in
+      let o = editAt d y z v u r x in
       shown-then d y z v x 1 0 (edit-shown w r d x y z v high ok)
       (shown-kept d y z v (x + 1) (o .id) (shallow u r d x y z v ok) (edited d y z v high u r x w ok .well)
       (held-there (o .after) (o .id) (answer-held d y z v high u r x w ok)) (answer-kept u r x (w, h) ok))
 
-  pub step-low : (u : Tables) (r x : ℕ) → Ready u r → edit d y z v u r x .no ≡ 0 → heightAt (W u) r ≤ d → heightAt (W (passed d y z v u r x)) (edit d y z v u r x .id) ≤ d
+  pub step-low : (u : Tables) (r x : ℕ) → Ready u r → editAt d y z v u r x .no ≡ 0 → heightAt (W u) r ≤ d → heightAt (W (passed d y z v u r x)) (editAt d y z v u r x .id) ≤ d
   step-low u r x i ok low = step-shown u r x i ok .low low
 
   pass-shown : (k : ℕ) (u : Tables) (r x : ℕ) → Ready u r → passOf d y z v u r x k .no ≡ 0
@@ -179,7 +178,7 @@ module _ (d y z v : ℕ) (high : v ≤ largestValue) where
   bar-shown : {t : Tables} → WellFormed cubeKids deepest t → (root x k : ℕ) → barOf t root d y z x k v .no ≡ 0
       → Shown d y z v x (suc k) t root (barOf t root d y z x k v .after) (barOf t root d y z x k v .id)
   bar-shown {t} w root x k =
-      let o = edit d y z v t root x in
+      let o = editAt d y z v t root x in
       bar-by d y z v t root x k (λ i. i .no ≡ 0 → Shown d y z v x (suc k) t root (i .after) (i .id))
       (λ e ok. shown-more d y z v x k (edit-shown w root d x y z v high e) (pass-shown k (o .after) (o .id) (suc x) (ready-first d y z v high t root x w e) ok))
       (λ bad ok. absurd (bad ok))
@@ -195,14 +194,16 @@ bar-drawn {t} w root d y z x k v high ok =
     let p = bar-accepted w root d y z x k v high ok in
     let i = cell t root d x y z v e in
     let one : 1 ≤ suc k = omega arith in
+    let there = held-there u r (held-one u r (omega (arith, p .balance r))) in
     record {
+      deep = shallow t root d x y z v e;
       inside = (i .in-y, i .in-z, omega (arith, s .last one));
       at = λ a q. s .at a (q .0, q .1, q .2, (let m = q .3 in omega arith));
       elsewhere = λ a q. s .elsewhere a (λ m. q (m .0, m .1, m .2, (let n = m .3 in omega arith)));
       cube = λ h l n.
-          let there = held-there u r (held-one u r (omega (arith, p .balance r))) in
           let c = expand-at (p .well) h r there l n in
           record { accepted = c .accepted; size = c .size; cells = λ a. c .cells a ∙ sym (look-at (p .well) (shallow t root d x y z v e) r there a .value) };
+      there = there;
       low = s .low (accepted-past t root d (place x y z) v (number t root d x y z v e) .1);
       tidy = s .tidy;
     }

@@ -1,7 +1,7 @@
 -- The numbers of a bar: where the refusals before 10 are past for the whole bar, it is accepted or refused by 10 or 11.
 use mathlib.Core.Path.{_≡_, refl, sym, _∙_, subst}
 use mathlib.Core.Logic.{inl, inr}
-use Prim.Native.Nat.{ℕ, zero, suc, _+_, _^_, _≤_, _<_}
+use Prim.Native.Nat.{ℕ, suc, _+_, _^_, _≤_, _<_}
 use native.Mathlib.Decide.{ℕ-discrete}
 use native.Mathlib.Omega.{arith}
 use lib.Dec.{leb}
@@ -13,7 +13,7 @@ use Rattle.nodes.specs.Words.{slot}
 use Rattle.nodes.proofs.Sums.{cases, split}
 use Rattle.tree.specs.Tree.{LiveOr0}
 use Rattle.tree.specs.Lacks.{Need, have, lack}
-use Rattle.arena.specs.Calls.{Out, fullOf, freeSlots}
+use Rattle.arena.specs.Calls.{fullOf, freeSlots}
 use Rattle.arena.specs.Tables.{Tables, cap, W, WellFormed}
 use Rattle.arena.proofs.Fits.{sized-fits}
 use Rattle.calls.proofs.Follows.{held-there}
@@ -22,7 +22,7 @@ use Rattle.read_cell.proofs.Laws.{live-there}
 use Rattle.edit.specs.Edit.{resultOf, grantNo, cellNo, cellAt, editNo}
 use Rattle.edit.proofs.Edits.{edit-number}
 use Rattle.bars.specs.Bars.{Late, passOf, barOf}
-use Rattle.bars.proofs.Ways.{edit, passed, pass-all, bar-by}
+use Rattle.bars.proofs.Ways.{editAt, pass-all, bar-by}
 use Rattle.bars.proofs.Does.{Ready, ready-first, ready-next}
 use Rattle.bars.proofs.Drawing.{edit-low, step-low}
 
@@ -43,7 +43,7 @@ module _ {t : Tables} (w : WellFormed cubeKids deepest t) (root d x y z v : ℕ)
   unfolding editNo cellNo
   past-grant = rw (eq-eqb (lookNo t root d (place x y z)) 0 look-none, le-leb (heightAt (W t) root) d low)
 
-  edit-late : Late (edit d y z v t root x .no)
+  edit-late : Late (editAt d y z v t root x .no)
   edit-late = subst Late (sym (edit-number t root d (place x y z) v ∙ past-grant)) (grant-late t (resultOf cubeKids t v (cellAt d (place x y z)) root))
 
 module _ (d y z v : ℕ) (high : v ≤ largestValue) (h : d ≤ deepest) (hy : y < 2 ^ d) (hz : z < 2 ^ d) where
@@ -62,7 +62,7 @@ module _ (d y z v : ℕ) (high : v ≤ largestValue) (h : d ≤ deepest) (hy : y
 pub bar-late : {t : Tables} → WellFormed cubeKids deepest t → (root d y z x k v : ℕ) → v ≤ largestValue → d ≤ deepest → y < 2 ^ d → z < 2 ^ d → x + k < 2 ^ d
     → LiveOr0 (cap t) (W t) root → heightAt (W t) root ≤ d → Late (barOf t root d y z x k v .no)
 bar-late {t} w root d y z x k v high h hy hz hx there low =
-    let o = edit d y z v t root x in
+    let o = editAt d y z v t root x in
     bar-by d y z v t root x k (λ i. Late (i .no))
     (λ e. pass-late d y z v high h hy hz k (o .after) (o .id) (suc x) (ready-first d y z v high t root x w e, edit-low w root d x y z v high e, omega arith))
     (λ bad. edit-late w root d x y z v h (omega arith) hy hz there low)

@@ -1,12 +1,12 @@
 -- A bar is a run of changes with distinct cells, so entering its cells in any order gives the same id.
-use mathlib.Core.Path.{_≡_, refl, sym, _∙_, subst}
+use mathlib.Core.Path.{_≡_, refl, _∙_, subst}
 use mathlib.Core.Logic.{_⊎_, inl, inr}
 use mathlib.Core.List.{List, [], _∷_, List·Permᴰ}
 use Prim.Native.Nat.{ℕ, zero, suc, _+_, _^_, _≤_, _<_}
 use native.Mathlib.Omega.{arith}
 use Rattle.basics.specs.Limits.{deepest, cubeKids, kidWords, largestValue}
 use Rattle.paths.specs.Paths.{place, whole}
-use Rattle.nodes.specs.Words.{Words, slot}
+use Rattle.nodes.specs.Words.{Words}
 use Rattle.tree.specs.Cells.{cubePath}
 use Rattle.tree.specs.Tree.{WellMade, Keeps, Root}
 use Rattle.tree.specs.Edits.{Change, Edited, Not-at, Distinct, Run, done, enter, other}
@@ -15,15 +15,13 @@ use Rattle.tree.proofs.Orders.{any-order}
 use Rattle.arena.specs.Calls.{Out}
 use Rattle.arena.specs.Tables.{Tables, cap, W, WellFormed}
 use Rattle.ledger.specs.Ledger.{on, holdsOn}
-use Rattle.ledger.specs.Fates.{Lives}
-use Rattle.ledger.proofs.Effects.{on-same, on-diff}
 use Rattle.calls.specs.Does.{Held, Kept}
 use Rattle.calls.proofs.Follows.{spared-kept}
 use Rattle.read_cell.proofs.Meaning.{wf-made}
 use Rattle.edit.proofs.Edits.{edit-right}
 use Rattle.bars.specs.Bars.{passOf, barOf, changesOf}
-use Rattle.bars.proofs.Ways.{edit, passed, pass-all, bar-by}
-use Rattle.bars.proofs.Does.{held-does, edited, answer-held, still-held, stepped, next-held, Ready, ready-first, ready-next}
+use Rattle.bars.proofs.Ways.{editAt, passed, pass-all, bar-by}
+use Rattle.bars.proofs.Does.{held-does, edited, still-held, stepped, Ready, ready-first, ready-next}
 use Rattle.bars.proofs.Drawing.{number, answer-kept, bar-drawn}
 
 fit : cubeKids ≤ kidWords
@@ -62,11 +60,11 @@ module _ (d y z v : ℕ) (high : v ≤ largestValue) (c h : ℕ) where
     size : cap u ≡ c
     spare : (h ≡ 0) ⊎ (on h r < holdsOn u h)
 
-  edit-edited : (u : Tables) (r x : ℕ) → WellFormed cubeKids deepest u → cap u ≡ c → edit d y z v u r x .no ≡ 0
-      → Edited cubeKids c d (W u) r (cubePath d x y z) v (W (edit d y z v u r x .after)) (edit d y z v u r x .id)
+  edit-edited : (u : Tables) (r x : ℕ) → WellFormed cubeKids deepest u → cap u ≡ c → editAt d y z v u r x .no ≡ 0
+      → Edited cubeKids c d (W u) r (cubePath d x y z) v (W (editAt d y z v u r x .after)) (editAt d y z v u r x .id)
   unfolding whole
   edit-edited u r x w e ok =
-      let o = edit d y z v u r x in
+      let o = editAt d y z v u r x in
       subst (λ (c : ℕ). Edited cubeKids c d (W u) r (cubePath d x y z) v (W (o .after)) (o .id)) e
       (edit-right w r d (place x y z) v high (number u r d x y z v ok) .edited)
 
@@ -74,9 +72,9 @@ module _ (d y z v : ℕ) (high : v ≤ largestValue) (c h : ℕ) where
   kept-at {u} {w} a e k = subst (λ (c : ℕ). Keeps cubeKids c (W u) (W w) a) e (k .keeps)
 
   -- one cell: the edit, and the release of the passing root, which keeps the answer and h
-  module _ (u : Tables) (r x : ℕ) (i : Beside u r) (ok : edit d y z v u r x .no ≡ 0) where
+  module _ (u : Tables) (r x : ℕ) (i : Beside u r) (ok : editAt d y z v u r x .no ≡ 0) where
     abbrev o : Out
-    o = edit d y z v u r x
+    o = editAt d y z v u r x
 
     w : WellFormed cubeKids deepest u
     w = i .ready .0
@@ -120,14 +118,14 @@ module _ (d y z v : ℕ) (high : v ≤ largestValue) (c h : ℕ) where
 bar-run : {t : Tables} → WellFormed cubeKids deepest t → (root d y z x k v : ℕ) → v ≤ largestValue → (h : ℕ) → Held t h → barOf t root d y z x k v .no ≡ 0
     → Run cubeKids (cap t) d h (W t) root (changesOf d y z v x (suc k)) (W (barOf t root d y z x k v .after)) (barOf t root d y z x k v .id)
 bar-run {t} w root d y z x k v high h held =
-    let o = edit d y z v t root x in
+    let o = editAt d y z v t root x in
     bar-by d y z v t root x k (λ i. i .no ≡ 0 → Run cubeKids (cap t) d h (W t) root (changesOf d y z v x (suc k)) (W (i .after)) (i .id))
     (λ e ok. rw (changes-more d y z v x k) (enter (cube-cell d x y z) (edit-edited d y z v high (cap t) h t root x w refl e)
     (pass-run d y z v high (cap t) h k (o .after) (o .id) (suc x)
     (record { ready = ready-first d y z v high t root x w e; size = edited d y z v high t root x w e .size; spare = first e held }) ok)))
     (λ bad ok. absurd (bad ok))
   where
-    first : edit d y z v t root x .no ≡ 0 → Held t h → (h ≡ 0) ⊎ (on h (edit d y z v t root x .id) < holdsOn (edit d y z v t root x .after) h)
+    first : editAt d y z v t root x .no ≡ 0 → Held t h → (h ≡ 0) ⊎ (on h (editAt d y z v t root x .id) < holdsOn (editAt d y z v t root x .after) h)
     first e (inl q) = inl q
     first e (inr l) = inr (omega (arith, edited d y z v high t root x w e .balance h))
 

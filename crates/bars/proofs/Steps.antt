@@ -24,7 +24,7 @@ use Rattle.edit.specs.Edit.{editOf}
 use Rattle.edit.proofs.Edits.{edit-fair}
 use Rattle.bars.specs.Bars.{passOf, barOf}
 use Rattle.bars.specs.Models.{nextOf, onOf}
-use Rattle.bars.proofs.Ways.{edit, passed, edit-stays, pass-none, pass-on, pass-stop, bar-on, bar-stop}
+use Rattle.bars.proofs.Ways.{editAt, passed, edit-stays, pass-none, pass-on, pass-stop, bar-on, bar-stop}
 
 -- ## One turn
 
@@ -42,9 +42,9 @@ module _ (d y z v : ℕ) where
       (λ e. on-yes o x 0 e ∙ pass-none d y z v (o .after) (o .id) x ∙ ap (λ (k : ℕ). said k (o .id) (o .after)) (sym e))
       (λ e. on-no o x 0 e)
 
-  on-first : (t : Tables) (root x k : ℕ) → onOf d y z v (edit d y z v t root x) (suc x) k ≡ barOf t root d y z x k v
+  on-first : (t : Tables) (root x k : ℕ) → onOf d y z v (editAt d y z v t root x) (suc x) k ≡ barOf t root d y z x k v
   on-first t root x k =
-      let o = edit d y z v t root x in
+      let o = editAt d y z v t root x in
       cases (ℕ-discrete (o .no) 0)
       (λ e. on-yes o (suc x) k e ∙ sym (bar-on d y z v t root x k e))
       (λ e. on-no o (suc x) k e ∙ edit-stays d y z v t root x e ∙ sym (bar-stop d y z v t root x k e))
@@ -52,7 +52,7 @@ module _ (d y z v : ℕ) where
   on-next : (t : Tables) (r x k : ℕ) → onOf d y z v (nextOf t r d (place x y z) v) (suc x) k ≡ passOf d y z v t r x (suc k)
   unfolding nextOf
   on-next t r x k =
-      let o = edit d y z v t r x in
+      let o = editAt d y z v t r x in
       let i = said (o .no) (o .id) (passed d y z v t r x) in
       cases (ℕ-discrete (o .no) 0)
       (λ e. on-yes i (suc x) k e ∙ sym (pass-on d y z v t r x k e))
@@ -70,7 +70,7 @@ module _ (d y z v : ℕ) where
       ap (passOf d y z v t r x) a ∙ sym (on-yes (said 0 r t) x k refl)
       ∙ ap (λ (n : ℕ). onOf d y z v (said 0 r t) n k) b ∙ ap (λ (o : Out). onOf d y z v o (x + 0) k) (sym (pass-none d y z v t r x))
   pass-then (suc j) k t r x =
-      let o = edit d y z v t r x in
+      let o = editAt d y z v t r x in
       let u = passed d y z v t r x in
       let a : suc j + k ≡ suc (j + k) = omega arith in
       let b : suc x + j ≡ x + suc j = omega arith in
@@ -86,7 +86,7 @@ module _ (d y z v : ℕ) where
 -- A bar of j + k cells after the first is the bar of j, and, if that was accepted, the k cells more from its answer on. On any tables.
 pub bar-then : (t : Tables) (root d y z x j k v : ℕ) → barOf t root d y z x (j + k) v ≡ onOf d y z v (barOf t root d y z x j v) (suc x + j) k
 bar-then t root d y z x j k v =
-    let o = edit d y z v t root x in
+    let o = editAt d y z v t root x in
     cases (ℕ-discrete (o .no) 0)
     (λ e.
     bar-on d y z v t root x (j + k) e ∙ pass-then d y z v j k (o .after) (o .id) (suc x)
@@ -171,5 +171,5 @@ bar-law a k f e root d y z x more v small p at m k₁ f₁ e₁ edited o on fair
     let q : madeOf m k₁ f₁ e₁ ≡ editOf t root d (place x y z) v = edited fair ∙ ap (λ (c : IVec3). editOf t root d c v) at in
     let s : x + 1 ≡ suc x = omega arith in
     on (subst (λ (i : Out). Fair cubeKids deepest (i .after)) (sym q) (edit-fair root d (place x y z) v (omega arith) fair))
-    ∙ ap (λ (i : Out). onOf d y z v i (x + 1) more) q ∙ ap (λ (n : ℕ). onOf d y z v (edit d y z v t root x) n more) s
+    ∙ ap (λ (i : Out). onOf d y z v i (x + 1) more) q ∙ ap (λ (n : ℕ). onOf d y z v (editAt d y z v t root x) n more) s
     ∙ on-first d y z v t root x more

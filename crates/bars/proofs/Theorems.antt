@@ -13,16 +13,16 @@ use Rattle.paths.specs.declared.IVec3.{IVec3}
 use Rattle.tree.specs.Tree.{LiveOr0, Below}
 use Rattle.tree.specs.Demand.{At}
 use Rattle.tree.proofs.Grow.{extends-keeps}
-use Rattle.arena.specs.Calls.{Out, releaseOf}
+use Rattle.arena.specs.Calls.{countsOf}
 use Rattle.arena.specs.Tables.{Tables, cap, W, WellFormed}
-use Rattle.ledger.specs.Ledger.{on, holdsOn}
+use Rattle.ledger.specs.Ledger.{on}
 use Rattle.ledger.specs.Fates.{Lives, Grew}
 use Rattle.ledger.proofs.Effects.{holds-dead, on-diff, accepted, unaccepted}
 use Rattle.calls.specs.Cells.{Alike}
 use Rattle.calls.specs.Does.{Does, Kept}
 use Rattle.calls.specs.Living.{SameLife}
 use Rattle.calls.proofs.Compose.{does-as, does-net}
-use Rattle.calls.proofs.Lasting.{untaken-extends, untaken-grew, untaken-only, same-life}
+use Rattle.calls.proofs.Lasting.{untaken-extends, untaken-grew, untaken-only, same-life, life-counts}
 use Rattle.calls.proofs.Living.{held-released}
 use Rattle.calls.proofs.Roots.{kept-reads, kept-cube}
 use Rattle.read_cell.specs.Calls.{expandOf}
@@ -121,3 +121,7 @@ module _ {t : Tables} (w : WellFormed cubeKids deepest t) (root d y z x k v : �
       let o = barOf t root d y z x k v in
       same-life fit w (does-as cubeKids deepest fit (λ a. 0) (λ a. 0) (barEnds t root d y z x k v) (bar-does w root d y z x k v high)
       (λ a. unaccepted o (on a (o .id)) bad) (λ a. refl) (λ s l. refl))
+
+  -- So the call for counts answers every id as before.
+  pub bar-counts : barOf t root d y z x k v .no ≢ 0 → (a : ℕ) → countsOf (barOf t root d y z x k v .after) a ≡ countsOf t a
+  bar-counts bad = life-counts w bar-well (bar-refused bad)

@@ -18,15 +18,15 @@ use Rattle.bars.specs.Bars.{passOf, barOf, passEnds, barEnds}
 
 module _ (d y z v : ℕ) where
   -- the edit of the cell at x of the root r in u
-  abbrev pub edit : Tables → ℕ → ℕ → Out
-  edit u r x = editOf u r d (place x y z) v
+  abbrev pub editAt : Tables → ℕ → ℕ → Out
+  editAt u r x = editOf u r d (place x y z) v
 
   -- and then r released
   abbrev pub passed : Tables → ℕ → ℕ → Tables
-  passed u r x = releaseOf deepest (edit u r x .after) r .after
+  passed u r x = releaseOf deepest (editAt u r x .after) r .after
 
   -- a refused edit is its number, INVALID, and the tables as they were
-  pub edit-stays : (u : Tables) (r x : ℕ) → edit u r x .no ≢ 0 → edit u r x ≡ refused (edit u r x .no) u
+  pub edit-stays : (u : Tables) (r x : ℕ) → editAt u r x .no ≢ 0 → editAt u r x ≡ refused (editAt u r x .no) u
   edit-stays u r x n =
       let e = edit-number u r d (place x y z) v in
       edit-refused u r d (place x y z) v (λ q. n (e ∙ q)) ∙ ap (λ (k : ℕ). refused k u) (sym e)
@@ -37,67 +37,67 @@ module _ (d y z v : ℕ) where
   unfolding passOf
   pass-none u r x = refl
 
-  pub pass-on : (u : Tables) (r x k : ℕ) → edit u r x .no ≡ 0 → passOf d y z v u r x (suc k) ≡ passOf d y z v (passed u r x) (edit u r x .id) (suc x) k
+  pub pass-on : (u : Tables) (r x k : ℕ) → editAt u r x .no ≡ 0 → passOf d y z v u r x (suc k) ≡ passOf d y z v (passed u r x) (editAt u r x .id) (suc x) k
   unfolding passOf
-  pass-on u r x k e = rw (eq-eqb (edit u r x .no) 0 e)
+  pass-on u r x k e = rw (eq-eqb (editAt u r x .no) 0 e)
 
-  pub pass-stop : (u : Tables) (r x k : ℕ) → edit u r x .no ≢ 0 → passOf d y z v u r x (suc k) ≡ refused (edit u r x .no) (releaseOf deepest u r .after)
+  pub pass-stop : (u : Tables) (r x k : ℕ) → editAt u r x .no ≢ 0 → passOf d y z v u r x (suc k) ≡ refused (editAt u r x .no) (releaseOf deepest u r .after)
   unfolding passOf
-  pass-stop u r x k e = rw (ne-eqb (edit u r x .no) 0 e)
+  pass-stop u r x k e = rw (ne-eqb (editAt u r x .no) 0 e)
 
   pub ends-none : (u : Tables) (r x s : ℕ) → passEnds d y z v u r x 0 s ≡ 0
   unfolding passEnds
   ends-none u r x s = refl
 
-  pub ends-on : (u : Tables) (r x k s : ℕ) → edit u r x .no ≡ 0
-      → passEnds d y z v u r x (suc k) s ≡ ended (edit u r x .after) (passed u r x) s + passEnds d y z v (passed u r x) (edit u r x .id) (suc x) k s
+  pub ends-on : (u : Tables) (r x k s : ℕ) → editAt u r x .no ≡ 0
+      → passEnds d y z v u r x (suc k) s ≡ ended (editAt u r x .after) (passed u r x) s + passEnds d y z v (passed u r x) (editAt u r x .id) (suc x) k s
   unfolding passEnds
-  ends-on u r x k s e = rw (eq-eqb (edit u r x .no) 0 e)
+  ends-on u r x k s e = rw (eq-eqb (editAt u r x .no) 0 e)
 
-  pub ends-stop : (u : Tables) (r x k s : ℕ) → edit u r x .no ≢ 0 → passEnds d y z v u r x (suc k) s ≡ ended u (releaseOf deepest u r .after) s
+  pub ends-stop : (u : Tables) (r x k s : ℕ) → editAt u r x .no ≢ 0 → passEnds d y z v u r x (suc k) s ≡ ended u (releaseOf deepest u r .after) s
   unfolding passEnds
-  ends-stop u r x k s e = rw (ne-eqb (edit u r x .no) 0 e)
+  ends-stop u r x k s e = rw (ne-eqb (editAt u r x .no) 0 e)
 
   -- Induction over the cells: `Inv` is so before each edit, and `Good` is then so of what the rest comes to.
   module _ (Inv : Tables → ℕ → ℕ → ℕ → Type 0) (Good : Tables → ℕ → ℕ → ℕ → Out → Type 0)
       (none : (u : Tables) (r x : ℕ) → Inv u r x 0 → Good u r x 0 (said 0 r u))
-      (next : (u : Tables) (r x k : ℕ) → Inv u r x (suc k) → edit u r x .no ≡ 0 → Inv (passed u r x) (edit u r x .id) (suc x) k)
-      (more : (u : Tables) (r x k : ℕ) (o : Out) → Inv u r x (suc k) → edit u r x .no ≡ 0 → Good (passed u r x) (edit u r x .id) (suc x) k o → Good u r x (suc k) o)
-      (stop : (u : Tables) (r x k : ℕ) → Inv u r x (suc k) → edit u r x .no ≢ 0 → Good u r x (suc k) (refused (edit u r x .no) (releaseOf deepest u r .after))) where
+      (next : (u : Tables) (r x k : ℕ) → Inv u r x (suc k) → editAt u r x .no ≡ 0 → Inv (passed u r x) (editAt u r x .id) (suc x) k)
+      (more : (u : Tables) (r x k : ℕ) (o : Out) → Inv u r x (suc k) → editAt u r x .no ≡ 0 → Good (passed u r x) (editAt u r x .id) (suc x) k o → Good u r x (suc k) o)
+      (stop : (u : Tables) (r x k : ℕ) → Inv u r x (suc k) → editAt u r x .no ≢ 0 → Good u r x (suc k) (refused (editAt u r x .no) (releaseOf deepest u r .after))) where
     pub pass-all : (k : ℕ) (u : Tables) (r x : ℕ) → Inv u r x k → Good u r x k (passOf d y z v u r x k)
     pass-all zero u r x i = subst (Good u r x 0) (sym (pass-none u r x)) (none u r x i)
-    pass-all (suc k) u r x i = cases (ℕ-discrete (edit u r x .no) 0)
+    pass-all (suc k) u r x i = cases (ℕ-discrete (editAt u r x .no) 0)
         (λ e. subst (Good u r x (suc k)) (sym (pass-on u r x k e))
-        (more u r x k (passOf d y z v (passed u r x) (edit u r x .id) (suc x) k) i e (pass-all k (passed u r x) (edit u r x .id) (suc x) (next u r x k i e))))
+        (more u r x k (passOf d y z v (passed u r x) (editAt u r x .id) (suc x) k) i e (pass-all k (passed u r x) (editAt u r x .id) (suc x) (next u r x k i e))))
         (λ e. subst (Good u r x (suc k)) (sym (pass-stop u r x k e)) (stop u r x k i e))
 
   -- ## The whole bar
 
   module _ (t : Tables) (root x k : ℕ) where
-    pub bar-on : edit t root x .no ≡ 0 → barOf t root d y z x k v ≡ passOf d y z v (edit t root x .after) (edit t root x .id) (suc x) k
+    pub bar-on : editAt t root x .no ≡ 0 → barOf t root d y z x k v ≡ passOf d y z v (editAt t root x .after) (editAt t root x .id) (suc x) k
     unfolding barOf
-    bar-on e = rw (eq-eqb (edit t root x .no) 0 e)
+    bar-on e = rw (eq-eqb (editAt t root x .no) 0 e)
 
-    pub bar-stop : edit t root x .no ≢ 0 → barOf t root d y z x k v ≡ refused (edit t root x .no) t
+    pub bar-stop : editAt t root x .no ≢ 0 → barOf t root d y z x k v ≡ refused (editAt t root x .no) t
     unfolding barOf
-    bar-stop e = rw (ne-eqb (edit t root x .no) 0 e)
+    bar-stop e = rw (ne-eqb (editAt t root x .no) 0 e)
 
-    pub bar-ends-on : (s : ℕ) → edit t root x .no ≡ 0 → barEnds t root d y z x k v s ≡ passEnds d y z v (edit t root x .after) (edit t root x .id) (suc x) k s
+    pub bar-ends-on : (s : ℕ) → editAt t root x .no ≡ 0 → barEnds t root d y z x k v s ≡ passEnds d y z v (editAt t root x .after) (editAt t root x .id) (suc x) k s
     unfolding barEnds
-    bar-ends-on s e = rw (eq-eqb (edit t root x .no) 0 e)
+    bar-ends-on s e = rw (eq-eqb (editAt t root x .no) 0 e)
 
-    pub bar-ends-stop : (s : ℕ) → edit t root x .no ≢ 0 → barEnds t root d y z x k v s ≡ 0
+    pub bar-ends-stop : (s : ℕ) → editAt t root x .no ≢ 0 → barEnds t root d y z x k v s ≡ 0
     unfolding barEnds
-    bar-ends-stop s e = rw (ne-eqb (edit t root x .no) 0 e)
+    bar-ends-stop s e = rw (ne-eqb (editAt t root x .no) 0 e)
 
     -- its first edit is refused, or it is what passes on from there
-    pub bar-by : (P : Out → Type 0) → (edit t root x .no ≡ 0 → P (passOf d y z v (edit t root x .after) (edit t root x .id) (suc x) k))
-        → (edit t root x .no ≢ 0 → P (refused (edit t root x .no) t)) → P (barOf t root d y z x k v)
-    bar-by P on stop = cases (ℕ-discrete (edit t root x .no) 0) (λ e. subst P (sym (bar-on e)) (on e)) (λ e. subst P (sym (bar-stop e)) (stop e))
+    pub bar-by : (P : Out → Type 0) → (editAt t root x .no ≡ 0 → P (passOf d y z v (editAt t root x .after) (editAt t root x .id) (suc x) k))
+        → (editAt t root x .no ≢ 0 → P (refused (editAt t root x .no) t)) → P (barOf t root d y z x k v)
+    bar-by P on stop = cases (ℕ-discrete (editAt t root x .no) 0) (λ e. subst P (sym (bar-on e)) (on e)) (λ e. subst P (sym (bar-stop e)) (stop e))
 
     -- a bar that is accepted had its first cell accepted
-    pub bar-first : barOf t root d y z x k v .no ≡ 0 → edit t root x .no ≡ 0
-    bar-first ok = cases (ℕ-discrete (edit t root x .no) 0) (λ e. e) (λ e. absurd (e (sym (ap (λ (o : Out). o .no) (bar-stop e)) ∙ ok)))
+    pub bar-first : barOf t root d y z x k v .no ≡ 0 → editAt t root x .no ≡ 0
+    bar-first ok = cases (ℕ-discrete (editAt t root x .no) 0) (λ e. e) (λ e. absurd (e (sym (ap (λ (o : Out). o .no) (bar-stop e)) ∙ ok)))
 
 -- ## On any tables
 
@@ -105,7 +105,7 @@ module _ (t : Tables) (root d y z x v : ℕ) where
   -- A bar of one cell is the edit.
   pub bar-one : barOf t root d y z x 0 v ≡ editOf t root d (place x y z) v
   bar-one =
-      let o = edit d y z v t root x in
+      let o = editAt d y z v t root x in
       bar-by d y z v t root x 0 (λ b. b ≡ o)
       (λ e. pass-none d y z v (o .after) (o .id) (suc x) ∙ ap (λ (k : ℕ). said k (o .id) (o .after)) (sym e))
       (λ e. sym (edit-stays d y z v t root x e))

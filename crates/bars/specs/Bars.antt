@@ -9,7 +9,7 @@ use Rattle.basics.specs.Limits.{deepest, deepestCube, cubeKids}
 use Rattle.basics.specs.Pick.{pick}
 use Rattle.paths.specs.Paths.{place}
 use Rattle.nodes.specs.Values.{heightAt}
-use Rattle.tree.specs.Tree.{Root}
+use Rattle.tree.specs.Tree.{LiveOr0, Root}
 use Rattle.tree.specs.Cells.{cubePath}
 use Rattle.tree.specs.Demand.{At}
 use Rattle.tree.specs.Edits.{Change}
@@ -75,12 +75,14 @@ abbrev pub OnBar : {d : ℕ} → ℕ → ℕ → ℕ → ℕ → At d → Type 0
 OnBar y z a b s = (s .y ≡ y) × (s .z ≡ z) × (a ≤ s .x) × (s .x ≤ b)
 
 -- The answer r in u shows the cube of the root in t with the cells from a to b at y and z set to v: lookup and expansion. The bar lies inside; the
--- answer is no taller than d, and tidy if the root was.
+-- answer is EMPTY or live, no taller than d, and tidy if the root was.
 pub record Drawn (d : ℕ) (t : Tables) (root y z a b v : ℕ) (u : Tables) (r : ℕ) : Type 0 where
+  pub deep : d ≤ deepest
   pub inside : (y < 2 ^ d) × (z < 2 ^ d) × (b < 2 ^ d)
   pub at : (s : At d) → OnBar y z a b s → Answers u r s v
   pub elsewhere : (s : At d) → ¬ (OnBar y z a b s) → Alike u r t root s
   pub cube : d ≤ deepestCube → (l : List ℕ) → length l ≡ 8 ^ d → Expands d u r l (λ s. lookOf u r d (spot s) .value)
+  pub there : LiveOr0 (cap u) (W u) r
   pub low : heightAt (W u) r ≤ d
   pub tidy : Root cubeKids (cap t) d (W t) root → Root cubeKids (cap u) d (W u) r
 

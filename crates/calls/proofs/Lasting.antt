@@ -158,18 +158,6 @@ module _ {n tallest : ℕ} (m : n ≤ kidWords) {t u : Tables} {times : ℕ → 
 pub life-refl : (t : Tables) → SameLife t t
 life-refl t = record { size = refl; lives = λ y. ((λ l. l), (λ l. l)); words = λ y l f k. refl; count = refl }
 
-pub life-trans : {t u v : Tables} → SameLife t u → SameLife u v → SameLife t v
-life-trans p q = record {
-  size = q .size ∙ p .size;
-  lives = λ y. ((λ l. q .lives y .0 (p .lives y .0 l)), (λ l. p .lives y .1 (q .lives y .1 l)));
-  words = λ y l f k. q .words y (p .lives y .0 l) f k ∙ p .words y l f k;
-  count = q .count ∙ p .count;
-}
-
--- No node ended.
-pub life-grew : {t u : Tables} → SameLife t u → Grew t u
-life-grew s = record { size = s .size; stays = λ y l. (s .lives y .0 l, (λ f h. s .words y l f (omega arith))) }
-
 -- Every id, live or not, has the holds that it had ..
 pub life-holds : {t u : Tables} → SameLife t u → (y : ℕ) → holdsOn u y ≡ holdsOn t y
 life-holds {t} {u} s y = by-life t y

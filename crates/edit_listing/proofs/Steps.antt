@@ -11,7 +11,7 @@ use mir.ValLaws.{toZ-ofZ}
 use borrow.Author.Tests.{eq-eqb, ne-eqb}
 use Rattle.basics.specs.Limits.{deepest, cubeKids, kidWords}
 use Rattle.paths.specs.declared.IVec3.{IVec3}
-use Rattle.arena.specs.Tables.{Tables, tables}
+use Rattle.arena.specs.Tables.{tables}
 use Rattle.arena.specs.Calls.{Out, Fair, madeOf, answeredOf, releaseOf, freshOf}
 use Rattle.arena.specs.declared.Made.{Made}
 use Rattle.arena.specs.declared.Answer.{Answer}

@@ -7,3 +7,5 @@ pub mod Roots
 pub mod Between
 pub mod Orders
 pub mod Freed
+pub mod Painting
+pub mod Bars
