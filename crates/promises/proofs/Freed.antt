@@ -3,13 +3,14 @@ use mathlib.Core.Path.{_≡_, refl, sym, ap, _∙_, subst}
 use mathlib.Core.Logic.{inl, inr, ⊎-elim}
 use mathlib.Core.List.{List, [], _∷_, _++_}
 use Prim.Native.Nat.{ℕ, zero, suc, _+_, _-_, _≤_, _<_}
-use native.Mathlib.Decide.{decLt}
+use native.Mathlib.Decide.{ℕ-discrete, decLt}
 use native.Mathlib.Omega.{arith}
 use lib.ListN.{drop}
-use Rattle.basics.specs.Limits.{deepest, cubeKids, kidWords}
+use Rattle.basics.specs.Limits.{deepest, cubeKids, kidWords, largestValue}
 use Rattle.nodes.specs.Words.{slot}
-use Rattle.nodes.proofs.Sums.{cases}
-use Rattle.arena.specs.Calls.{empties, freshSlot, internLeafOf, internBranchOf}
+use Rattle.nodes.proofs.Sums.{cases, split}
+use Rattle.paths.specs.Paths.{place}
+use Rattle.arena.specs.Calls.{Out, empties, fits, freshSlot, holdNo, internLeafOf, internBranchOf}
 use Rattle.arena.specs.Tables.{Tables, LiveSlot, WellFormed}
 use Rattle.ledger.specs.Fates.{HasContent}
 use Rattle.ledger.specs.Refusals.{HasIds}
@@ -19,8 +20,16 @@ use Rattle.ledger.proofs.Stack.{fresh-stack, fresh-last, release-stack, release
 use Rattle.calls.specs.Does.{Since, now, then as onward, Fresh, fresh, History}
 use Rattle.calls.proofs.Follows.{fresh-made}
 use Rattle.edit.proofs.Slots.{edit-draws}
+use Rattle.metres.specs.Record.{Bytes, aimOf}
+use Rattle.metres.specs.declared.Aim.{Aim}
+use Rattle.metres.specs.declared.Aim.the-variants.{Nothing, Cells, No}
+use Rattle.bars.specs.Bars.{barOf}
+use Rattle.bars.proofs.Ways.{editAt, pass-all, bar-by}
+use Rattle.readings.specs.Enter.{pauseOf, askedOf, enterOf}
+use Rattle.readings.proofs.Aims.{Sound, aim-sound}
+use Rattle.readings.proofs.Law.{paused, unpaused, enter-unsized, enter-sized}
 use Rattle.promises.specs.Freed.{freedAfter, Freeing, bare, then, Used}
-use Rattle.promises.specs.Promises.{Call, leaf, branch, hold, release, voxel, Handed, outcome, Step, call, NoRelease, Unreleased, none, and}
+use Rattle.promises.specs.Promises.{Call, leaf, branch, hold, release, voxel, Handed, outcome, Step, call, entry, NoRelease, Unreleased, none, and}
 use Rattle.promises.proofs.Calls.{call-does}
 
 fit : cubeKids ≤ kidWords
@@ -56,12 +65,47 @@ freeing-stack (then {t = t} {fs = fs} h c k) =
     let r = freeing-stack h in
     (call-does (r .0) c k .well, call-stack (r .0) fs (r .1) c k)
 
-step-freeing : {t u : Tables} {g k j : ℕ → ℕ} {fs : List ℕ} → Freeing t fs → Step t u g k j → (gs : List ℕ) × Freeing u gs
-step-freeing {t} {fs = fs} h (call c k) = (freedAfter t fs c, then h c k)
+abbrev Frees : Tables → Type 0
+Frees t = (gs : List ℕ) × Freeing t gs
 
-since-freeing : {t u : Tables} {g k j : ℕ → ℕ} → Fresh t → Since Step t u g k j → (fs : List ℕ) × Freeing u fs
+after-call : {t : Tables} → Frees t → (c : Call) → Handed c → Frees (outcome t c .after)
+after-call {t} (fs, h) c k = (freedAfter t fs c, then h c k)
+
+-- a bar is edits and releases
+bar-freeing : {t : Tables} → Frees t → (root d y z x k v : ℕ) → v ≤ largestValue → Frees (barOf t root d y z x k v .after)
+bar-freeing {t} s root d y z x k v high =
+    let o = editAt d y z v t root x in
+    bar-by d y z v t root x k (λ i. Frees (i .after))
+    (λ e.
+    pass-all d y z v (λ u r x k. Frees u) (λ u r x k i. Frees (i .after)) (λ u r x i. i)
+    (λ u r x k i e. after-call (after-call i (voxel r d (place x y z) v) high) (release r) tt) (λ u r x k i p e h. h)
+    (λ u r x k i bad. after-call i (release r) tt) k (o .after) (o .id) (suc x) (after-call s (voxel root d (place x y z) v) high))
+    (λ bad. s)
+
+-- a pause is a hold, or nothing
+pause-freeing : {t : Tables} → Frees t → (root : ℕ) → Frees (pauseOf t root .after)
+pause-freeing {t} s root = cases (ℕ-discrete (holdNo t root) 0)
+    (λ z. subst (λ (o : Out). Frees (o .after)) (sym (paused t root z)) (after-call s (hold root) tt))
+    (λ z. subst (λ (o : Out). Frees (o .after)) (sym (unpaused t root z)) s)
+
+asked-freeing : {t : Tables} → Frees t → (root d : ℕ) (m : Aim) → Sound d m → Frees (askedOf t root d m .after)
+unfolding askedOf
+asked-freeing s root d (Nothing) g = pause-freeing s root
+asked-freeing s root d (Cells a b y z v) g = bar-freeing s root d y z a (b - a) v (g .small)
+asked-freeing s root d (No n) g = s
+
+entry-freeing : {t : Tables} → Frees t → (root d k : ℕ) (l : List ℕ) → Bytes l → Frees (enterOf t root d k l .after)
+entry-freeing {t} s root d k l bytes = split (fits t)
+    (λ f. subst (λ (o : Out). Frees (o .after)) (enter-sized t root d k l f) (asked-freeing s root d (aimOf l k d) (aim-sound l k d bytes)))
+    (λ f. subst (λ (o : Out). Frees (o .after)) (enter-unsized t root d k l f) s)
+
+step-freeing : {t u : Tables} {g k j : ℕ → ℕ} → Frees t → Step t u g k j → Frees u
+step-freeing s (call c k) = after-call s c k
+step-freeing s (entry b e i l h) = entry-freeing s b e i l h
+
+since-freeing : {t u : Tables} {g k j : ℕ → ℕ} → Fresh t → Since Step t u g k j → Frees u
 since-freeing f now = ([], bare f)
-since-freeing f (onward r c) = step-freeing (since-freeing f r .1) c
+since-freeing f (onward r c) = step-freeing (since-freeing f r) c
 
 -- Whatever the calls were, there are such.
 pub history-freeing : {t : Tables} {granted taken : ℕ → ℕ} → History Step t granted taken → (fs : List ℕ) × Freeing t fs
