@@ -1,6 +1,7 @@
 pub mod Ways
 pub mod Steps
 pub mod Does
+pub mod Granting
 pub mod Theorems
 pub mod Drawing
 pub mod Numbers

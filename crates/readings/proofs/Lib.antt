@@ -2,3 +2,4 @@ pub mod Aims
 pub mod Law
 pub mod Stops
 pub mod Does
+pub mod Theorems
