@@ -67,9 +67,9 @@ pub zero-cell : (d : ℕ) → At 0 ≡ placed true 0 d
 unfolding placed
 zero-cell d = rw (lt-leb (2 ^ d) 0 (pow-pos d))
 
-pub whole-minus-zero : (b d : ℕ) → b ≡ 2 ^ 63 → At 0 ≡ placed (negative b) (units b) d
+pub whole-minus-zero : (b d : ℕ) → b ≤ 2 ^ 63 → 2 ^ 63 ≤ b → At 0 ≡ placed (negative b) (units b) d
 unfolding size
-whole-minus-zero b d e = subst (λ (k : ℕ). At 0 ≡ placed (negative k) (units k) d) (sym e) (zero-cell d)
+whole-minus-zero b d h g = let e : 2 ^ 63 ≡ b = omega arith in subst (λ (k : ℕ). At 0 ≡ placed (negative k) (units k) d) e (zero-cell d)
 
 -- only where both fields are 0 the number is zero
 some : (x t : ℕ) → 0 < x + t → 0 < size x t

@@ -14,15 +14,17 @@ use lib.Ieee.Digits.{size-le, back}
 use lib.Ieee.Fits.{core, round-is, down-pos, mul-fits}
 use lib.Ieee.Exact.{HasValue, odd-sign, units-val}
 use lib.Ieee.Bits.{ofBits-toBits, nanBits-is, cond-no}
-use lib.Ieee.Compare.{nan-differs}
+use lib.Ieee.Compare.{nan-differs, differs-from-itself}
 use lib.Ieee.Scale.{finite}
+use Rattle.basics.specs.Limits.{finestEdge}
 use Rattle.metres.specs.Bits.{negative, exponent, fraction, size, units, placed, cellOf}
+use Rattle.metres.specs.declared.Coordinate.{Coordinate}
 use Rattle.metres.specs.declared.Coordinate.the-variants.{Outside}
 use Rattle.metres.proofs.Laws.{far, with-lead}
 
 -- ---- the float 2 ^ k, for the seven k
 
-pub power-is : (k : ℕ) → k ≤ 6 → ofBits binary64 ((1023 + k) * 2 ^ 52) ≡ fin false 1 (pos k)
+pub power-is : (k : ℕ) → k ≤ finestEdge → ofBits binary64 ((1023 + k) * 2 ^ 52) ≡ fin false 1 (pos k)
 unfolding ofBits
 power-is zero h = refl
 power-is (suc zero) h = refl
@@ -36,7 +38,7 @@ power-is (suc (suc (suc (suc (suc (suc (suc k))))))) h = absurd (none k h)
     none : (k : ℕ) → suc (suc (suc (suc (suc (suc (suc k)))))) ≤ 6 → ⊥
     none k h = omega arith
 
-pub power-no-nan : (k : ℕ) → k ≤ 6 → T (not (nanBits binary64 ((1023 + k) * 2 ^ 52)))
+pub power-no-nan : (k : ℕ) → k ≤ finestEdge → T (not (nanBits binary64 ((1023 + k) * 2 ^ 52)))
 unfolding isNan
 power-no-nan k h = subst (λ (b : Bool). T (not b)) (sym (nanBits-is binary64 ((1023 + k) * 2 ^ 52) ∙ ap isNan (power-is k h))) tt
 
@@ -165,7 +167,7 @@ beyond s n d D h = far s n d (le-trans (pow-mono (go d D)) h)
 grow : (n k : ℕ) → n ≤ n * 2 ^ k
 grow n k = le-trans (le-of-eq (sym (mul-one n))) (mul-le-mul-left n (pow-pos k))
 
-pub nan-cell : (k d : ℕ) → d ≤ 10 → Outside ≡ cellOf (toBits binary64 nan) k d
+nan-cell : (k d : ℕ) → d ≤ 10 → Outside ≡ cellOf (toBits binary64 nan) k d
 unfolding toBits size
 nan-cell k d D = beyond false ((2 ^ 52 + 2 ^ 51) * 2 ^ 2046 * 2 ^ k) d D (le-trans (lit≤ tt) (grow ((2 ^ 52 + 2 ^ 51) * 2 ^ 2046) k))
 
@@ -188,7 +190,7 @@ unfolding mul toBits
 inf-times true k = refl
 inf-times false k = refl
 
-pub product-cell : (x : Float) (k d : ℕ) → d ≤ 10 → T (fits binary64 x) → T (not (isNan x))
+product-cell : (x : Float) (k d : ℕ) → d ≤ 10 → T (fits binary64 x) → T (not (isNan x))
     → placed (negative (toBits binary64 (mul binary64 x (fin false 1 (pos k))))) (units (toBits binary64 (mul binary64 x (fin false 1 (pos k))))) d ≡ cellOf (toBits binary64 x) k d
 unfolding isNan
 product-cell nan k d D F N = absurd N
@@ -224,15 +226,29 @@ round-no-nan s n c =
     let k = span (u / c) - 53 in
     grains-no-nan s (nearest (u / (c * 2 ^ k)) (compare (u % (c * 2 ^ k) * 2) (c * 2 ^ k))) k
 
-pub product-no-nan : (x : Float) (k : ℕ) → T (not (isNan x)) → T (not (isNan (mul binary64 x (fin false 1 (pos k)))))
+product-no-nan : (x : Float) (k : ℕ) → T (not (isNan x)) → T (not (isNan (mul binary64 x (fin false 1 (pos k)))))
 unfolding isNan
 product-no-nan nan k N = absurd N
 product-no-nan (inf s) k N = subst (λ (y : Float). T (not (isNan y))) (sym (inf-times s k)) tt
 product-no-nan (fin s m e) k N = subst (λ (y : Float). T (not (isNan y))) (sym (mul-is s m e k)) (round-no-nan s (m * up e * (1 * 2 ^ k)) (down e * 1))
 
 -- what equals itself is no NaN
-pub equals-itself : (x : Float) → ne x x ≡ false → T (not (isNan x))
+equals-itself : (x : Float) → ne x x ≡ false → T (not (isNan x))
 unfolding isNan
 equals-itself nan h = absurd (true≢false (sym nan-differs ∙ h))
 equals-itself (inf s) h = tt
 equals-itself (fin s m e) h = tt
+
+-- ---- `cell_of`, by its test and by what its callees answered
+
+module _ (x : Float) (k d : ℕ) where
+  pub nan-outside : d ≤ 10 → ne x x ≡ true → Outside ≡ cellOf (toBits binary64 x) k d
+  nan-outside D h = rw (differs-from-itself x (rw h tt)) (nan-cell k d D)
+
+  module _ (p : Float) (e : p ≡ fin false 1 (pos k)) (h : ne x x ≡ false) where
+    pub product-number : T (not (isNan (mul binary64 x p)))
+    product-number = rw e (product-no-nan x k (equals-itself x h))
+
+    pub product-placed : (r : Coordinate) → d ≤ 10 → fits binary64 x ≡ true → r ≡ placed (negative (toBits binary64 (mul binary64 x p))) (units (toBits binary64 (mul binary64 x p))) d
+        → r ≡ cellOf (toBits binary64 x) k d
+    product-placed r D f g = (rw e at g) ∙ product-cell x k d D (rw f tt) (equals-itself x h)
