@@ -2,20 +2,20 @@
 use mathlib.Core.Path.{_≡_, refl, sym, ap, _∙_, subst}
 use mathlib.Core.Bool.{Bool, true, false, not, _&&_, _||_}
 use mathlib.Core.List.{List}
-use Prim.Native.Nat.{ℕ, zero, suc, _+_, _*_, _^_, _≤_, _<_}
+use Prim.Native.Nat.{ℕ, _+_, _^_, _≤_, _<_}
 use native.Mathlib.Omega.{arith}
 use lib.ListN.{getD}
 use mir.Val.{Fits}
 use mir.Syntax.{w8}
-use lib.Dec.{T, ltb, eqb}
+use lib.Dec.{T, eqb}
 use lib.Ieee.{Float, binary64, ofBits, toBits}
 use lib.Ieee.Bits.{toBits-ofBits, nanBits-is}
-use borrow.Author.Tests.{lt-ltb, le-ltb, ne-eqb, not-false}
+use borrow.Author.Tests.{lt-ltb, le-ltb}
 use Rattle.basics.specs.Limits.{deepest, finestEdge}
 use Rattle.basics.specs.Pick.{pick}
 use Rattle.metres.specs.Bits.{finite, placed, missed, cellNumber, cellOf}
-use Rattle.metres.specs.Record.{Bytes, word64, kindIn, valueIn, xIn, yIn, zIn, secondIn, lastIn, wrong, malformed, allFinite, unending, outside, pointAt, said, readingOf, aimOf}
-use Rattle.metres.specs.Models.{spotIn, spotOf, cellsIn, cellsOf, aimAt}
+use Rattle.metres.specs.Record.{Bytes, word64, kindIn, valueIn, xIn, yIn, zIn, secondIn, lastIn, malformed, allFinite, unending, outside, pointAt, said, readingOf, aimOf}
+use Rattle.metres.specs.Models.{spotIn, cellsIn, cellsOf, aimAt}
 use Rattle.metres.specs.declared.Coordinate.{Coordinate}
 use Rattle.metres.specs.declared.Coordinate.the-variants.{At, Outside}
 use Rattle.metres.specs.declared.Spot.{Spot}

@@ -1,5 +1,5 @@
 -- The cell of a number by its bits: what the tests of `whole` say.
-use mathlib.Core.Path.{_≡_, refl, sym, ap, _∙_, subst}
+use mathlib.Core.Path.{_≡_, sym, ap, _∙_, subst}
 use mathlib.Core.Bool.{Bool, true, false}
 use Prim.Native.Nat.{ℕ, zero, suc, _+_, _-_, _*_, _/_, _%_, _^_, _≤_, _<_}
 use native.Mathlib.Nat.{le-trans, le-of-eq, le-of-lt, mul-pos, lt-of-lt-of-le, mul-comm, mul-le-mul-right, le-add-right, mod-lt, mod-eq-of-lt, div-eq-of-lt, div-lt-iff-lt-mul, le-div-iff-mul-le}

@@ -1,5 +1,5 @@
 -- A reading as numbers.
-use mathlib.Core.Path.{_≡_, refl, sym, _∙_}
+use mathlib.Core.Path.{_≡_, refl}
 use Prim.Native.Nat.{ℕ}
 use lib.Ieee.{Float, binary64, ofBits, toBits}
 use Rattle.metres.specs.Record.{Fields, fieldsAt, fieldsOf}

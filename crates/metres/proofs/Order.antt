@@ -1,5 +1,5 @@
 -- `<` of two f64 is `belowBits` of their bits.
-use mathlib.Core.Path.{_≡_, refl, sym, ap, _∙_, subst}
+use mathlib.Core.Path.{_≡_, refl, sym, ap, _∙_}
 use mathlib.Core.Bool.{Bool, true, false, not, _&&_, cond}
 use Prim.Native.Nat.{ℕ, zero, suc, _+_, _*_, _/_, _%_, _^_, _≤_, _<_}
 use native.Mathlib.Nat.{le-trans, le-of-eq, lt-of-lt-of-le, mod-lt, mul-pos, mul-comm, mul-assoc, mul-right-comm, mul-le-mul-right, le-of-mul-le-mul-right, add-mul, zero-mul}
@@ -9,7 +9,7 @@ use lib.Pow.{pow-pos, pow-mono}
 use lib.Ieee.{Float, nan as nanFloat, inf, fin, binary64, up, down, odd, lt, nanBits, ofFields, ofBits}
 use lib.Ieee.Fits.{down-pos}
 use lib.Ieee.Scale.{finite as finiteFloat}
-use borrow.Author.Tests.{lt-ltb, le-ltb, ltb-true, ltb-false, eqb-true, eqb-false, not-true, not-false}
+use borrow.Author.Tests.{lt-ltb, le-ltb, ltb-true, ltb-false, eqb-true, eqb-false}
 use Rattle.metres.specs.Bits.{negative, exponent, fraction, nan, finite, size, units, less, belowBits}
 use Rattle.metres.proofs.Laws.{size-lt}
 use Rattle.metres.proofs.Product.{Units, read, ofBits-fields}
@@ -142,9 +142,6 @@ numbers (fin i x e) (fin j y d) s t n m a b = rw (sym (a .0), sym (b .0)) (go i 
     go true false = unfold less in cross-zero (x * up e) (y * up d) n m (2 ^ 1074) (down e) (down d) (pow-pos 1074) q (a .1) (b .1)
     go false true = unfold less in refl
     go false false = unfold less in cross-up (x * up e) (y * up d) n m (2 ^ 1074) (down e) (down d) (pow-pos 1074) q (a .1) (b .1)
-
-some : (n m : ℕ) → n < m → ltb 0 (n + m) ≡ true
-some n m h = lt-ltb 0 (n + m) (omega arith)
 
 same : (n : ℕ) → ltb n n ≡ false
 same n = le-ltb n n (omega arith)

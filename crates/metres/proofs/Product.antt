@@ -1,15 +1,15 @@
 -- An f64 times 2 ^ k, read by its bits: the size is 2 ^ k times as large, or the product is an infinity, and then both are far outside.
 use mathlib.Core.Path.{_≡_, refl, sym, ap, _∙_, subst}
 use mathlib.Core.Logic.{_⊎_, inl, inr}
-use mathlib.Core.Bool.{Bool, true, false, not, _&&_, cond, true≢false}
+use mathlib.Core.Bool.{Bool, true, false, not, cond, true≢false}
 use Prim.Native.Nat.{ℕ, zero, suc, _+_, _-_, _*_, _/_, _%_, _^_, _≤_, _<_, compare, Ordering, Ordering·lt, compare·zero-suc}
-use native.Mathlib.Nat.{le-trans, le-of-eq, lt-of-lt-of-le, lt-irrefl, mod-lt, mul-one, one-mul, mul-comm, mul-assoc, mul-left-comm, mul-right-comm, mul-pos, mul-le-mul-left, mul-div-cancel, mul-mod-left, eq-of-mul-eq-mul-right}
+use native.Mathlib.Nat.{le-trans, le-of-eq, lt-irrefl, mod-lt, mul-one, one-mul, mul-comm, mul-assoc, mul-right-comm, mul-pos, mul-le-mul-left, mul-div-cancel, mul-mod-left, eq-of-mul-eq-mul-right}
 use native.Mathlib.Omega.{arith}
-use lib.IntN.{ℤ, pos, negsuc}
-use lib.Dec.{T, leb, ltb, eqb, lit≤, ltb→lt, nltb→le}
+use lib.IntN.{ℤ, pos}
+use lib.Dec.{T, ltb, eqb, lit≤, ltb→lt, nltb→le}
 use lib.Arith.{le→nltb}
 use lib.Pow.{pow-add, pow-pos, pow-mono, shl-lt}
-use lib.Ieee.{units as grains, size as span, Float, nan, inf, fin, binary64, up, down, unlike, nearest, odd, round, mul, ne, fits, isNan, nanBits, ofFields, ofBits, toBits}
+use lib.Ieee.{units as grains, size as span, Float, nan, inf, fin, binary64, up, down, nearest, odd, round, mul, ne, fits, isNan, nanBits, ofFields, ofBits, toBits}
 use lib.Ieee.Digits.{size-le, back}
 use lib.Ieee.Fits.{core, round-is, down-pos, mul-fits}
 use lib.Ieee.Exact.{HasValue, odd-sign, units-val}

@@ -2,29 +2,25 @@
 use mathlib.Core.Path.{_≡_, refl, sym, ap, _∙_, subst}
 use mathlib.Core.Logic.{_≢_, _⊎_, inl, inr, ⊎-elim, _↔_}
 use mathlib.Core.Bool.{Bool, true, false, not, _&&_, _||_, true≢false}
-use mathlib.Core.List.{List, [], _∷_, List·Memᴰ·head, List·Memᴰ·tail}
-use Prim.Native.Nat.{ℕ, zero, suc, _+_, _*_, _/_, _%_, _^_, _≤_, _<_, zero-le}
-use native.Mathlib.Nat.{lt-irrefl, le-trans, le-of-eq, lt-of-lt-of-le, mul-comm, mul-pos, zero-mul, mul-le-mul-right, mul-div-le, lt-mul-div-succ, le-div-iff-mul-le, div-lt-iff-lt-mul, eq-of-mul-eq-mul-right}
+use mathlib.Core.List.{List, List·Memᴰ·head, List·Memᴰ·tail}
+use Prim.Native.Nat.{ℕ, _+_, _*_, _/_, _^_, _≤_, _<_, zero-le}
+use native.Mathlib.Nat.{lt-irrefl, le-trans, le-of-eq, lt-of-lt-of-le, mul-comm, zero-mul, mul-le-mul-right, mul-div-le, lt-mul-div-succ, le-div-iff-mul-le, div-lt-iff-lt-mul, eq-of-mul-eq-mul-right}
 use native.Mathlib.Omega.{arith}
 use lib.ListN.{length}
 use lib.Dec.{T, leb, ltb, eqb}
 use lib.Pow.{pow-pos, shr-mono}
-use lib.Ieee.{binary64, ofBits, toBits}
-use borrow.Author.Tests.{le-leb, lt-leb, leb-true, leb-false, le-ltb, ltb-true, ltb-false, eq-eqb, ne-eqb, eqb-true, eqb-false, not-true, not-false}
+use borrow.Author.Tests.{le-leb, leb-true, leb-false, le-ltb, ltb-true, ltb-false, eq-eqb, ne-eqb, eqb-true, eqb-false, not-true, not-false}
 use Rattle.basics.specs.Limits.{deepest, finestEdge, largestValue}
 use Rattle.basics.specs.Pick.{pick}
 use Rattle.basics.specs.Ladder.{ladder, order, Decides, Listed, Given}
-use Rattle.basics.proofs.Ladder.{off, out, tells, via, rung-if, ladder-given}
+use Rattle.basics.proofs.Ladder.{off, out, tells, via, ladder-given}
 use Rattle.basics.proofs.Rungs.{past-no}
-use Rattle.metres.specs.Bits.{negative, exponent, fraction, nan, finite, size, units, less, belowBits, floorOf, noCell, placed, missed, cellNumber, cellOf}
-use Rattle.metres.specs.Record.{Bytes, word64, recordBytes, kindIn, valueIn, spareIn, xIn, yIn, zIn, secondIn, lastIn, wrong, malformed, allFinite, unending, outside, said, readingOf, Fields, fieldsAt, fieldsIn, fieldsOf, aimOf}
+use Rattle.metres.specs.Bits.{negative, exponent, fraction, nan, finite, size, units, less, belowBits, floorOf, placed, missed, cellNumber, cellOf}
+use Rattle.metres.specs.Record.{Bytes, recordBytes, kindIn, valueIn, spareIn, xIn, yIn, zIn, secondIn, lastIn, wrong, malformed, allFinite, unending, outside, said, readingOf, fieldsAt, fieldsIn, fieldsOf, aimOf}
 use Rattle.metres.specs.Why.{Malformed, wrongLength, unknownKind, spareBytes, pauseValue, pauseX, pauseY, pauseZ, pauseSecond, shotSecond, barFalls, Endless, Unending, endlessX, endlessY, endlessZ, endlessSecond, Off, belowZero, tooFar, Beyond, beyondX, beyondY, beyondZ, beyondSecond, RecordWhy, deepRecord, fineRecord, malformedRecord, unendingRecord, beyondRecord, aimNo, recordRungs, Floor, Aimed}
-use Rattle.metres.specs.declared.Coordinate.{Coordinate}
 use Rattle.metres.specs.declared.Coordinate.the-variants.{At, Outside}
-use Rattle.metres.specs.declared.Aim.{Aim}
 use Rattle.metres.specs.declared.Aim.the-variants.{Nothing, Cells, No}
-use Rattle.metres.specs.declared.Reading.{Reading}
-use Rattle.metres.specs.declared.Reading.the-variants.{Point, Bar, Pause, Refused}
+use Rattle.metres.specs.declared.Reading.the-variants.{Refused}
 use Rattle.metres.proofs.Laws.{zero-cell}
 use Rattle.metres.proofs.Parsing.{both, neither, Right, pause, shot, bar, right-known, right-pause, right-second, right-bar, Formed, well-formed, all-finite, finite-point, finite-second}
 use Rattle.metres.proofs.Aiming.{bits-back, word64-lt}
@@ -102,10 +98,10 @@ module _ (b k d : ℕ) where
   off-from e (belowZero h g) = lt-irrefl 0 (subst (λ (n : ℕ). 0 < n) (at-least-zero e h) g)
   off-from e (tooFar h) = lt-irrefl (cellNumber b k) (lt-of-lt-of-le (within e) (le-div-iff-mul-le (pow-pos 1074) .1 h))
 
-  pub off-decides : Decides (missed b k d) (Off b k d)
+  off-decides : Decides (missed b k d) (Off b k d)
   off-decides = tells (missed b k d) (λ e. off-to (either under over e)) off-from
 
-  pub floor-of : missed b k d ≡ false → Floor b k d (cellNumber b k)
+  floor-of : missed b k d ≡ false → Floor b k d (cellNumber b k)
   floor-of e =
       let f = floored scaled (cellNumber b k) (2 ^ 1074) (pow-pos 1074) refl in
       record { reached = f .0; passed = f .1; risen = at-least-zero e; inside = within e }
@@ -142,6 +138,17 @@ module _ (b k d : ℕ) where
 pub minus-zero : (k d : ℕ) → cellOf 0x8000_0000_0000_0000 k d ≡ At 0
 unfolding size
 minus-zero k d = ap (λ (n : ℕ). placed true n d) (zero-mul (2 ^ k)) ∙ sym (zero-cell d)
+
+-- ---- a NaN or an infinity
+
+endless : (b : ℕ) → finite b ≡ false → Endless b
+endless b e = eqb-true (exponent b) 2047 (not-false (eqb (exponent b) 2047) e)
+
+not-endless : (b : ℕ) → T (finite b) → Endless b → ⊥
+not-endless b f e = rw (eq-eqb (exponent b) 2047 e) at f
+
+zero-ends : (b : ℕ) → b ≡ 0 → Endless b → ⊥
+zero-ends b e h = not-endless b (subst (λ (n : ℕ). T (finite n)) (sym e) tt) h
 
 -- ---- refusal 13
 
@@ -213,15 +220,6 @@ module _ (l : List ℕ) where
 
   -- ---- refusal 14
 
-  endless : (b : ℕ) → finite b ≡ false → Endless b
-  endless b e = eqb-true (exponent b) 2047 (not-false (eqb (exponent b) 2047) e)
-
-  not-endless : (b : ℕ) → T (finite b) → Endless b → ⊥
-  not-endless b f e = rw (eq-eqb (exponent b) 2047 e) at f
-
-  zero-ends : (b : ℕ) → b ≡ 0 → Endless b → ⊥
-  zero-ends b e h = not-endless b (subst (λ (n : ℕ). T (finite n)) (sym e) tt) h
-
   module _ (f : Formed l) where
     -- a number that isn't finite is not one of a pause, and not the second x of a shot
     used : (b : ℕ) → (kind ≡ 0 → b ≡ 0) → Endless b → kind ≡ 0 → ⊥
@@ -288,7 +286,7 @@ module _ (l : List ℕ) where
         (⊎-elim (λ a. beyondY n (off-decides (yIn l) k d .0 a)) (λ a. beyondZ n (off-decides (zIn l) k d .0 a)))) (missing (h .1))
 
     -- a shot or a bar that 3 does not refuse has all its cells
-    pub all-placed : outside l k d ≡ false → kind ≢ 0
+    all-placed : outside l k d ≡ false → kind ≢ 0
         → (missed (xIn l) k d ≡ false) × (missed (lastIn l) k d ≡ false) × (missed (yIn l) k d ≡ false) × (missed (zIn l) k d ≡ false)
     unfolding outside
     all-placed e n =
@@ -405,13 +403,13 @@ module _ (l : List ℕ) (k d : ℕ) where
     refusal n i = let q : _≡_ {A = ℕ} 0 1 = cc in clash q
 
     -- what the tests of an accepted record say
-    pub record Accepted : Type 0 where
-      pub low : ltb deepest d || ltb finestEdge k ≡ false
-      pub formed : malformed l ≡ false
-      pub ends : unending l ≡ false
-      pub placed-all : outside l k d ≡ false
-      pub no-pause : kindIn l ≢ 0
-      pub same : Cells (cellNumber (xIn l) k) (cellNumber (lastIn l) k) (cellNumber (yIn l) k) (cellNumber (zIn l) k) (valueIn l) ≡ Cells first last y z v
+    record Accepted : Type 0 where
+      low : ltb deepest d || ltb finestEdge k ≡ false
+      formed : malformed l ≡ false
+      ends : unending l ≡ false
+      placed-all : outside l k d ≡ false
+      no-pause : kindIn l ≢ 0
+      same : Cells (cellNumber (xIn l) k) (cellNumber (lastIn l) k) (cellNumber (yIn l) k) (cellNumber (zIn l) k) (valueIn l) ≡ Cells first last y z v
 
     accepted : Accepted
     unfolding aimOf

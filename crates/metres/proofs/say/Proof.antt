@@ -1,4 +1,3 @@
-use borrow.Author.Needs.{needs}
 use Rattle.metres.proofs.Parsing.{finite-point, second-no-nan, said-pause, said-point, said-bar}
 use Rattle.metres.proofs.say.Statement.{statement}
 use Rattle.metres.proofs.say.Tie as tie

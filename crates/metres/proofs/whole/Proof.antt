@@ -1,5 +1,6 @@
 -- Each branch of its tests is a law of proofs/Laws.antt.
 use borrow.Author.Needs.{needs}
+use native.Mathlib.Omega.{arith}
 use Rattle.metres.proofs.Laws.{whole-negative, whole-minus-zero, whole-low, whole-far, whole-fits, whole-near}
 use Rattle.metres.proofs.whole.Statement.{statement}
 use Rattle.metres.proofs.whole.Tie as tie
@@ -7,6 +8,6 @@ use Rattle.metres.proofs.whole.Tie as tie
 pub whole-spec : {M : Type 1} → statement M
 whole-spec =
     tie.close
-    (tie.spec (λ c. search (needs, whole-negative)) (λ c. search (needs, whole-minus-zero)) (λ c. search (needs, whole-low)) (λ c. search needs)
-    (λ c. search (needs, whole-far)) (λ c. search needs) (λ c. search needs) (λ c. search needs) (λ c. search (needs, whole-fits))
-    (λ c. search (needs, whole-near)))
+    (tie.spec (λ c. whole-negative (c .before .args .bits) (c .before .args .d) (omega arith) (omega arith)) (λ c. search (needs, whole-minus-zero))
+    (λ c. search (needs, whole-low)) (λ c. search needs) (λ c. search (needs, whole-far)) (λ c. search needs) (λ c. search needs) (λ c. search needs)
+    (λ c. search (needs, whole-fits)) (λ c. search (needs, whole-near)))
