@@ -60,7 +60,7 @@ pub enum Aim {
 }
 
 // The cell of a coordinate, or none.
-enum Coordinate {
+pub enum Coordinate {
     At(u16),
     Outside,
 }
