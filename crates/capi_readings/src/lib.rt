@@ -2,7 +2,7 @@
 // `readings`, and its contract cites the same definition. A slice goes as its address and its length, an id as its raw number.
 ghost use mathlib.Core.Path.{_≡_};
 ghost use Rattle.basics.specs.Limits.{deepest, cubeKids};
-ghost use Rattle.metres.specs.Record.{fieldsBy, fieldsIn};
+ghost use Rattle.metres.specs.Record.{structOf, readingOf};
 ghost use Rattle.arena.specs.Calls.{Fair};
 ghost use Rattle.arena.specs.Lent.{before, made};
 ghost use Rattle.readings.specs.Enter.{enterOf};
@@ -13,7 +13,7 @@ use metres::ReadingFields;
 
 #[no_mangle]
 pub extern "C" fn fenpiling_parse_reading(bytes: &[u8]) -> ReadingFields
-    ensures { λ r. ⌜ fieldsBy r ≡ fieldsIn (now (bytes .entry)) ⌝ }
+    ensures { λ r. ⌜ r ≡ structOf (readingOf (now (bytes .entry))) ⌝ }
 {
     metres::fields(metres::parse(bytes))
 }

@@ -16,12 +16,13 @@ use Rattle.basics.specs.Ladder.{ladder, order, Decides, Listed, Given}
 use Rattle.basics.proofs.Ladder.{off, out, tells, via, ladder-given}
 use Rattle.basics.proofs.Rungs.{past-no}
 use Rattle.metres.specs.Bits.{negative, exponent, fraction, nan, finite, size, units, less, belowBits, floorOf, placed, missed, cellNumber, cellOf}
-use Rattle.metres.specs.Record.{Bytes, recordBytes, kindIn, valueIn, spareIn, xIn, yIn, zIn, secondIn, lastIn, wrong, malformed, allFinite, unending, outside, said, readingOf, fieldsAt, fieldsIn, fieldsOf, aimOf}
+use Rattle.metres.specs.Record.{Bytes, recordBytes, kindIn, valueIn, spareIn, xIn, yIn, zIn, secondIn, lastIn, wrong, malformed, allFinite, unending, outside, said, readingOf, fieldsAt, fieldsIn, fieldsOf, fieldsBy, structOf, aimOf}
 use Rattle.metres.specs.Why.{Malformed, wrongLength, unknownKind, spareBytes, pauseValue, pauseX, pauseY, pauseZ, pauseSecond, shotSecond, barFalls, Endless, Unending, endlessX, endlessY, endlessZ, endlessSecond, Off, belowZero, tooFar, Beyond, beyondX, beyondY, beyondZ, beyondSecond, RecordWhy, deepRecord, fineRecord, malformedRecord, unendingRecord, beyondRecord, aimNo, recordRungs, Floor, Aimed}
 use Rattle.metres.specs.declared.Coordinate.the-variants.{At, Outside}
 use Rattle.metres.specs.declared.Aim.the-variants.{Nothing, Cells, No}
 use Rattle.metres.specs.declared.Reading.the-variants.{Refused}
 use Rattle.metres.proofs.Laws.{zero-cell}
+use Rattle.metres.proofs.Numbers.{struct-fields}
 use Rattle.metres.proofs.Parsing.{both, neither, Right, pause, shot, bar, right-known, right-pause, right-second, right-bar, Formed, well-formed, all-finite, finite-point, finite-second}
 use Rattle.metres.proofs.Aiming.{bits-back, word64-lt}
 
@@ -486,3 +487,7 @@ reading-fields l h = go (malformed l) (unending l) refl refl
     go false false e f =
         said-fields (valueIn l) (xIn l) (yIn l) (zIn l) (secondIn l) (word64-lt l 8 h) (word64-lt l 16 h) (word64-lt l 24 h) (word64-lt l 32 h)
         (all-finite l f) (kindIn l) (well-formed l e .right)
+
+-- So does the struct that C and Rust get.
+pub struct-says : (l : List ℕ) → Bytes l → fieldsBy (structOf (readingOf l)) ≡ fieldsIn l
+struct-says l h = struct-fields (readingOf l) ∙ reading-fields l h

@@ -4,7 +4,7 @@ use mathlib.Core.List.{List}
 use Prim.Native.Nat.{ℕ, _+_, _*_, _<_}
 use lib.ListN.{length, getD}
 use lib.Dec.{ltb, eqb}
-use lib.Ieee.{binary64, ofBits, toBits}
+use lib.Ieee.{Float, binary64, ofBits, toBits}
 use Rattle.basics.specs.Limits.{deepest, finestEdge}
 use Rattle.basics.specs.Pick.{pick}
 use Rattle.metres.specs.Bits.{finite, belowBits, missed, cellNumber}
@@ -119,9 +119,22 @@ fieldsOf (Bar p second v) = fieldsAt 0 2 v (toBits binary64 (p .x)) (toBits bina
 fieldsOf Pause = fieldsAt 0 0 0 0 0 0 0
 fieldsOf (Refused n) = fieldsAt n 0 0 0 0 0 0
 
--- those of the struct that has each f64 as itself
+-- the struct that has each f64 as itself, and its fields
+abbrev pub structAt : ℕ → ℕ → ℕ → Float → Float → Float → Float → ReadingFields
+structAt n k v x y z w = record { no = n; kind = k; value = v; x = x; y = y; z = z; second = w }
+
 abbrev pub fieldsBy : ReadingFields → Fields
 fieldsBy r = fieldsAt (r .no) (r .kind) (r .value) (toBits binary64 (r .x)) (toBits binary64 (r .y)) (toBits binary64 (r .z)) (toBits binary64 (r .second))
+
+-- zero, with all bits zero
+abbrev pub zero64 : Float
+zero64 = ofBits binary64 0
+
+unfoldable pub structOf : Reading → ReadingFields
+structOf (Point p v) = structAt 0 1 v (p .x) (p .y) (p .z) zero64
+structOf (Bar p second v) = structAt 0 2 v (p .x) (p .y) (p .z) second
+structOf Pause = structAt 0 0 0 zero64 zero64 zero64 zero64
+structOf (Refused n) = structAt n 0 0 zero64 zero64 zero64 zero64
 
 -- ## What a record asks for, in a cube of side 2 ^ d with an edge of 2 ^ -k metres
 

@@ -12,7 +12,7 @@ ghost use lib.Ieee.{binary64, fin, toBits};
 ghost use lib.Dec.{T};
 ghost use Rattle.basics.specs.Limits.{finestEdge};
 ghost use Rattle.metres.specs.Bits.{finite, nan, negative, units, placed, cellOf, belowBits};
-ghost use Rattle.metres.specs.Record.{word16, word32, word64, allFinite, wrong, pointAt, said, readingOf, fieldsAt, fieldsOf, fieldsBy, aimOf};
+ghost use Rattle.metres.specs.Record.{word16, word32, word64, allFinite, wrong, pointAt, said, readingOf, structAt, zero64, structOf, aimOf};
 ghost use Rattle.metres.specs.Models.{Word, judged, spotOf, cellsOf};
 
 // A record has so many bytes.
@@ -292,7 +292,7 @@ pub fn parse(bytes: &[u8]) -> Reading
 
 // A reading as numbers.
 pub fn fields(reading: Reading) -> ReadingFields
-    ensures { λ r. ⌜ fieldsBy r ≡ fieldsOf reading ⌝ }
+    ensures { λ r. ⌜ r ≡ structOf reading ⌝ }
 {
     match reading {
         Reading::Point(p, value) => ReadingFields {
@@ -320,7 +320,7 @@ pub fn fields(reading: Reading) -> ReadingFields
 
 // A pause, or a refusal, as numbers.
 fn no_reading(number: u32) -> ReadingFields
-    ensures { λ r. ⌜ fieldsBy r ≡ fieldsAt number 0 0 0 0 0 0 ⌝ }
+    ensures { λ r. ⌜ r ≡ structAt number 0 0 zero64 zero64 zero64 zero64 ⌝ }
 {
     ReadingFields {
         no: number,
