@@ -149,7 +149,7 @@ module _ (l : List ℕ) (k d : ℕ) where
   aim-fine h g = rw (le-ltb deepest d h, lt-ltb finestEdge k g)
 
   module _ (r : Reading) (deep : d ≤ deepest) (fine : k ≤ finestEdge) (bytes : (i : ℕ) → Fits w8 (getD l i 0)) (e : r ≡ readingOf l) where
-    pub aim-by : (a : Aim) (s : Reading) → r ≡ s → a ≡ aimAt s k d → a ≡ aimOf l k d
+    aim-by : (a : Aim) (s : Reading) → r ≡ s → a ≡ aimAt s k d → a ≡ aimOf l k d
     unfolding aimOf
     aim-by a s f g =
         g ∙ ap (λ (t : Reading). aimAt t k d) (sym f ∙ e) ∙ rw (le-ltb deepest d deep, le-ltb finestEdge k fine) (reading-asks l k d (λ i. bytes i .fits))
