@@ -9,3 +9,4 @@ pub mod Orders
 pub mod Freed
 pub mod Painting
 pub mod Bars
+pub mod Readings

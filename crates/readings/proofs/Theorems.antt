@@ -54,6 +54,11 @@ module _ (t : Tables) (root d k : ℕ) (l : List ℕ) where
     unfolding askedOf
     enter-pause e = enters Nothing e
 
+    pub pause-answers : aimOf l k d ≡ Nothing → enterOf t root d k l .no ≡ 0 → enterOf t root d k l .id ≡ root
+    pause-answers e ok = cases (ℕ-discrete (holdNo t root) 0)
+        (λ z. ap (λ (o : Out). o .id) (enter-pause e ∙ paused t root z))
+        (λ z. absurd (z (sym (ap (λ (o : Out). o .no) (enter-pause e ∙ unpaused t root z)) ∙ ok)))
+
     -- A shot or a bar edits the cells that the record asks for ..
     pub enter-bar : {a b y z v : ℕ} → aimOf l k d ≡ Cells a b y z v → enterOf t root d k l ≡ barOf t root d y z a (b - a) v
     unfolding askedOf
