@@ -1,5 +1,2 @@
-pub mod Puts
-pub mod Steps
-pub mod Blocks
+pub mod Records
 pub mod Whole
-pub mod Holding

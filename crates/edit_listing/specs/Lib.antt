@@ -1,4 +1,1 @@
 pub mod Listing
-pub mod Lent
-pub mod Holding
-pub mod Models

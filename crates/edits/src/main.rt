@@ -7,10 +7,10 @@
 // `live` line.
 ghost use Prim.Native.Nat.{_+_, _≤_};
 ghost use lib.ListN.{length};
-use edit_listing::Run;
 use libc::STDERR_FILENO;
 use libc::STDIN_FILENO;
 use libc::STDOUT_FILENO;
+use listing::Run;
 
 // The slots of the arena. Its tables have 8 and 7 words and 3 cells a slot, 64,512 bytes.
 const SLOTS: usize = 512;
@@ -126,7 +126,7 @@ fn one_block(fd: i32, run: Run, kids: &mut [u64], facts: &mut [u64], find: &mut 
 
 fn say_end(run: Run, cut: usize) {
     let mut lines = [0u8; LINES];
-    let len = edit_listing::ending(run, cut, &mut lines);
+    let len = listing::ending(run, cut, &mut lines);
     say_start(&lines, len);
 }
 
@@ -154,7 +154,7 @@ fn list(fd: i32) {
     let mut kids = [0u64; KIDS];
     let mut facts = [0u64; FACTS];
     let mut find = [0u16; CELLS];
-    let start = edit_listing::start(SLOTS, &mut kids, &mut facts, &mut find);
+    let start = listing::start(SLOTS, &mut kids, &mut facts, &mut find);
     if start.no != 0 {
         io::write_all(STDERR_FILENO, b"edits: the tables do not fit\n");
         return;

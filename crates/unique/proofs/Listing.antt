@@ -2,9 +2,10 @@
 use mathlib.Core.Path.{_≡_, refl, sym, ap, ap₂, _∙_}
 use mathlib.Core.List.{List}
 use Prim.Native.Nat.{ℕ}
-use Rattle.edit_listing.specs.declared.Ran.{Ran}
-use Rattle.edit_listing.specs.declared.Step.{Step}
-use Rattle.edit_listing.specs.Listing.{Stepped, Told, stateOf, toldOf}
+use Rattle.listing.specs.declared.Ran.{Ran}
+use Rattle.listing.specs.declared.Step.{Step}
+use Rattle.listing.specs.Listing.{Stepped, Told, stateOf, toldOf}
+use Rattle.edit_listing.specs.Listing.{edits}
 use Rattle.unique.specs.Listing.{Listing, start, records, ending, ListingSaid, ListingMeets, ListingSpeaks, steppedOf, ranOf}
 use Rattle.unique.proofs.One.{one}
 
@@ -32,5 +33,5 @@ ran-one = one ranOf
 pub listing-determined : (q : Listing) → ListingSpeaks q → (a b : ListingSaid q) → ListingMeets q a → ListingMeets q b → a ≡ b
 listing-determined (start c k f e) s a b p q = stepped-one a b p q
 listing-determined (records r k f e x o) s a b p q =
-    ran-one a b (p .1 s) (q .1 s ∙ ap (toldOf (stateOf r k f e) x o) (q .0 ∙ sym (p .0)))
+    ran-one a b (p .1 s) (q .1 s ∙ ap (toldOf edits (stateOf r k f e) x o) (q .0 ∙ sym (p .0)))
 listing-determined (ending r cut o) s a b p q = ap₂ (λ (n : ℕ) (l : List ℕ). (n, l)) (p .1 ∙ sym (q .1)) (p .0 ∙ sym (q .0))

@@ -6,10 +6,11 @@ use lib.ListN.{length}
 use Rattle.basics.specs.Limits.{deepest, cubeKids}
 use Rattle.basics.specs.Puts.{putsFrom}
 use Rattle.arena.specs.Calls.{Fair}
-use Rattle.edit_listing.specs.declared.Run.{Run}
-use Rattle.edit_listing.specs.declared.Ran.{Ran}
-use Rattle.edit_listing.specs.declared.Step.{Step}
-use Rattle.edit_listing.specs.Listing.{Stepped, Told, stateOf, startOf, takenOf, toldOf, endingOf}
+use Rattle.listing.specs.declared.Run.{Run}
+use Rattle.listing.specs.declared.Ran.{Ran}
+use Rattle.listing.specs.declared.Step.{Step}
+use Rattle.listing.specs.Listing.{Stepped, Told, stateOf, startOf, takenOf, toldOf, endingOf}
+use Rattle.edit_listing.specs.Listing.{wholeIn, edits}
 
 -- A call: the run that it is handed, and the lists that are lent: the tables k, f and e, the bytes, and the room o for what it writes.
 pub data Listing : Type 0 where
@@ -34,7 +35,7 @@ ranOf a = record { state = stateOf (a .0 .run) (a .1) (a .2) (a .3); records = a
 abbrev pub ListingMeets : (q : Listing) → ListingSaid q → Type 0
 ListingMeets (start c k f e) a = steppedOf a ≡ startOf c k f e
 ListingMeets (records r k f e b o) a =
-    (a .0 .records ≡ takenOf (length b) (length o)) × (Fair cubeKids deepest (stateOf r k f e .tables) → ranOf a ≡ toldOf (stateOf r k f e) b o (a .0 .records))
+    (a .0 .records ≡ takenOf (wholeIn (length b)) (length o)) × (Fair cubeKids deepest (stateOf r k f e .tables) → ranOf a ≡ toldOf edits (stateOf r k f e) b o (a .0 .records))
 ListingMeets (ending r cut o) a = (a .1 ≡ putsFrom o 0 (endingOf cut (r .arena .live))) × (a .0 ≡ length (endingOf cut (r .arena .live)))
 
 -- on which tables it speaks

@@ -9,11 +9,11 @@ use capi_ids::Packed;
 use capi_paths::Cell;
 use capi_paths::Child;
 use capi_paths::Text;
-use edit_listing::Ran;
-use edit_listing::Run;
-use edit_listing::Step;
 use ids::BlockId;
 use ids_text::IdText;
+use listing::Ran;
+use listing::Run;
+use listing::Step;
 use paths::ChildIndex;
 use paths::Decoded;
 use paths::IVec3;
@@ -283,7 +283,7 @@ fn exported_text_meets(number: u64) -> Text
 fn start_meets(capacity: usize, kids: &mut [u64], facts: &mut [u64], find: &mut [u16]) -> Step
     ensures { λ r. ⌜ ListingMeets (start capacity (now (kids .entry)) (now (facts .entry)) (now (find .entry))) (r, now (kids .exit), now (facts .exit), now (find .exit)) ⌝ }
 {
-    edit_listing::start(capacity, kids, facts, find)
+    listing::start(capacity, kids, facts, find)
 }
 
 fn records_meets(
@@ -302,5 +302,5 @@ fn records_meets(
 fn ending_meets(run: Run, cut: usize, out: &mut [u8]) -> usize
     ensures { λ r. ⌜ ListingMeets (ending run cut (now (out .entry))) (r, now (out .exit)) ⌝ }
 {
-    edit_listing::ending(run, cut, out)
+    listing::ending(run, cut, out)
 }

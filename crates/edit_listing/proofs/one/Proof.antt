@@ -1,15 +1,19 @@
+use native.Mathlib.Omega.{arith}
 use borrow.Author.Needs.{needs}
-use Rattle.edit_listing.proofs.Blocks.{one-is}
+use Rattle.listing.proofs.Steps.{one-is}
+use Rattle.edit_listing.proofs.Records.{edited-is, edits-enter}
 use Rattle.edit_listing.proofs.one.Statement.{statement}
 use Rattle.edit_listing.proofs.one.Tie as tie
 
 returns : tie.Need-returns
 returns c =
-    let start = c .before .before .before .before .before .before .before .before .before .before .before .before .before .before .before .before .before .before .before .before .before in
-    let step = c .before .before .before .before .before .before .before .before .before .before .edit-once in
-    let lined = c .before .before .with-line in (
-      lined .ensures .3,
-      one-is (start .args .run) _ _ _ _ _ _ _ _ _ (c .before .before .before .before .before .before .before .before .before .before .before .before .before .before .before .cell-in .ensures) (c .before .before .before .before .before .before .before .before .before .before .before .before .before .before .value-in .ensures) (step .result) _ _ _ (lined .result) _ (step .ensures) (lined .ensures .0) (lined .ensures .1) (lined .ensures .2),
+    let gone = c .before .before .before .before .before .before .before .before .after-record in
+    let edited = c .before .before .before .before .before .before .before .before .before .before .before .before .before .before .before .before .before .before .before in
+    let value = edited .before .before .before .before in
+    let known = value .before .before .before .before in
+    let start = known .before .before .before .before in (
+      gone .ensures .0,
+      one-is edits-enter (start .args .run) _ _ _ _ _ (λ i. omega (arith, known .shared-slice-known .given i)) (edited .set-voxel .result) _ _ _ (λ fair. edited-is _ _ _ _ _ _ (value .before .cell-in .ensures) (value .value-in .ensures) (edited .set-voxel .ensures fair)) (gone .result) _ _ _ _ (gone .ensures .1),
     )
 
 pub one-spec : {M : Type 1} → statement M

@@ -5,4 +5,4 @@ use Rattle.edit_listing.proofs.value_in.Tie as tie
 
 pub value-in-spec : {M : Type 1} → statement M
 unfolding valueIn
-value-in-spec = tie.close (tie.spec (λ c. search needs) (λ c. search needs) (λ c κs. search needs) (λ c. search needs))
+value-in-spec = tie.close (tie.spec (λ c κs. search needs) (λ c. search needs))

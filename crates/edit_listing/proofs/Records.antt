@@ -1,0 +1,57 @@
+-- The records of edits: what one comes to, and that each grants its answer and nothing else.
+use mathlib.Core.Path.{_≡_, ap, ap₂, _∙_}
+use mathlib.Core.List.{List}
+use Prim.Native.Nat.{ℕ, _+_, _-_, _*_, _≤_, _<_}
+use native.Mathlib.Omega.{arith}
+use lib.IntN.{pos}
+use lib.ListN.{length, take, drop, length-take, length-drop}
+use mir.Syntax.{w32}
+use mir.Val.{toZ}
+use mir.ValLaws.{toZ-ofZ}
+use Rattle.basics.specs.Limits.{largestValue}
+use Rattle.paths.specs.declared.IVec3.{IVec3}
+use Rattle.arena.specs.Tables.{Tables}
+use Rattle.arena.specs.Calls.{Out}
+use Rattle.edit.specs.Edit.{editOf}
+use Rattle.edit.proofs.Edits.{edit-unfit}
+use Rattle.edit.proofs.Does.{edit-does}
+use Rattle.listing.specs.Listing.{recordIn, Bytes}
+use Rattle.listing.specs.Holding.{Enters}
+use Rattle.edit_listing.specs.Listing.{recordWidth, wholeIn, word, cellIn, valueIn, recordDepth, editIn, edits}
+
+-- ---- a record, and its numbers
+
+-- record i stands whole in the bytes
+pub record-is : (b : List ℕ) (i : ℕ) → i < wholeIn (length b)
+    → (take (8 * i + 8 - 8 * i) (drop (8 * i) b) ≡ recordIn recordWidth b i) × (recordWidth ≤ length (take (8 * i + 8 - 8 * i) (drop (8 * i) b)))
+unfolding recordIn
+record-is b i h =
+    let w : 8 * i + 8 - 8 * i ≡ 8 = omega arith in
+    let e = ap (λ (n : ℕ). take n (drop (8 * i) b)) w in
+    (e, omega (arith, ap length e, length-take 8 (drop (8 * i) b), length-drop (8 * i) b))
+
+-- a coordinate of 16 bits is read back as it is
+coord-is : (x v : ℕ) → x ≡ v → x < 65536 → toZ w32 x ≡ pos v
+coord-is x v e h = toZ-ofZ w32 (pos x) (record { sfits = omega arith }) ∙ ap pos e
+
+pub cell-is : (r : List ℕ) (x y z : ℕ) → x ≡ word r 0 → x < 65536 → y ≡ word r 2 → y < 65536 → z ≡ word r 4 → z < 65536
+    → _≡_ {A = IVec3} (record { x = toZ w32 x; y = toZ w32 y; z = toZ w32 z }) (cellIn r)
+unfolding cellIn
+cell-is r x y z ex hx ey hy ez hz = rw (coord-is x (word r 0) ex hx, coord-is y (word r 2) ey hy, coord-is z (word r 4) ez hz)
+
+value-small : (r : List ℕ) → Bytes r → valueIn r ≤ largestValue
+unfolding valueIn word
+value-small r h = omega (arith, h 6, h 7)
+
+-- ---- what an edit asks of the tables, and grants
+
+pub edited-is : (t : Tables) (root : ℕ) (p : IVec3) (v : ℕ) (r : List ℕ) (o : Out) → p ≡ cellIn r → v ≡ valueIn r → o ≡ editOf t root recordDepth p v → o ≡ editIn t root r
+unfolding editIn
+edited-is t root p v r o ep ev e = e ∙ ap₂ (λ (q : IVec3) (w : ℕ). editOf t root recordDepth q w) ep ev
+
+pub edits-enter : Enters edits
+unfolding editIn
+edits-enter = record {
+  unfit = λ t root r f. edit-unfit t root recordDepth (cellIn r) (valueIn r) f;
+  grants = λ t root r b w. let d = edit-does w root recordDepth (cellIn r) (valueIn r) (value-small r b) in record { well = d .well; balance = d .balance };
+}

@@ -1,0 +1,5 @@
+pub mod Puts
+pub mod Steps
+pub mod Blocks
+pub mod Whole
+pub mod Holding

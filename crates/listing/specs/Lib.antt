@@ -1,0 +1,4 @@
+pub mod Listing
+pub mod Lent
+pub mod Holding
+pub mod Models

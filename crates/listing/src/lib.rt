@@ -1,0 +1,227 @@
+// The listing of records, whatever a record does: the lines that say what came of each, and how the run goes on from its answer.
+// What the calls answer and leave: specs/Listing.antt. Records that edit are in the crate edit_listing.
+use arena::Arena;
+use arena::Made;
+use ids::BlockId;
+use ids_text::IdText;
+use std::num::wrapping_add_u64;
+ghost use mathlib.Core.Path.{_≡_};
+ghost use Prim.Native.Nat.{_+_, _<_, _≤_, _^_};
+ghost use mathlib.Core.List.{[], _∷_, _++_};
+ghost use lib.ListN.{length, set, take};
+ghost use Rattle.basics.specs.Limits.{deepest, cubeKids};
+ghost use Rattle.basics.specs.Puts.{putsFrom};
+ghost use Rattle.ids_text.specs.Text.{textOf};
+ghost use Rattle.arena.specs.Calls.{Fair};
+ghost use Rattle.listing.specs.Lent.{handed, stepped, lined};
+ghost use Rattle.listing.specs.Listing.{digitsOf, decimal, lineOf, widest, shortOf, endingOf, linedOf, startOf};
+ghost use Rattle.listing.specs.Models.{steppedOf};
+
+// A line has at most so many bytes.
+pub const WIDEST: usize = 84;
+
+// What stands between two records: the arena's state, the root, and how many records there were.
+pub struct Run {
+    pub arena: Arena,
+    pub root: BlockId,
+    pub count: u64,
+}
+
+// What a block came to: how many records it took and how many bytes their lines have.
+pub struct Ran {
+    pub run: Run,
+    pub records: usize,
+    pub len: usize,
+}
+
+// What the start came to, and what a record did: the run, and the refusal, 0 if there is none.
+pub struct Step {
+    pub run: Run,
+    pub no: u32,
+}
+
+// What a record came to, and how many bytes its line has.
+pub struct Lined {
+    pub run: Run,
+    pub len: usize,
+}
+
+// ---- writing
+
+// Writes one byte; nothing past the end.
+fn put(out: &mut [u8], at: usize, byte: u8)
+    ensures { λ _. ⌜ now (out .exit) ≡ set (now (out .entry)) at byte ⌝ }
+{
+    if at < out.len() {
+        out[at] = byte;
+    }
+}
+
+// Writes the first n bytes of a text.
+fn put_text(out: &mut [u8], at: usize, text: &[u8], n: usize)
+    requires { ⌜ (at + n < 2 ^ 64) × (n ≤ length (now text)) ⌝ }
+    ensures { λ _. ⌜ now (out .exit) ≡ putsFrom (now (out .entry)) at (take n (now (text .entry))) ⌝ }
+{
+    let mut i: usize = 0;
+    while i < n {
+        put(out, at + i, text[i]);
+        i += 1;
+    }
+}
+
+// Writes a number in at most `left` decimal digits, and answers how many it took.
+fn put_digits(out: &mut [u8], at: usize, n: u64, left: usize) -> usize
+    requires { ⌜ at + left < 2 ^ 64 ⌝ }
+    ensures { λ r. ⌜ (now (out .exit) ≡ putsFrom (now (out .entry)) at (digitsOf left n)) × (r ≡ length (digitsOf left n)) × (r ≤ left) ⌝ }
+{
+    if left == 0 {
+        return 0;
+    }
+    if n < 10 {
+        put(out, at, (48 + n) as u8);
+        return 1;
+    }
+    let front = put_digits(out, at, n / 10, left - 1);
+    put(out, at + front, (48 + n % 10) as u8);
+    front + 1
+}
+
+// Writes a number in decimal and a byte after it; answers how many bytes that is.
+fn put_number(out: &mut [u8], at: usize, n: u64, end: u8) -> usize
+    requires { ⌜ at + 21 < 2 ^ 64 ⌝ }
+    ensures { λ r. ⌜ (now (out .exit) ≡ putsFrom (now (out .entry)) at (decimal n ++ (end ∷ []))) × (r ≡ length (decimal n ++ (end ∷ []))) × (r ≤ 21) ⌝ }
+{
+    let digits = put_digits(out, at, n, 20);
+    put(out, at + digits, end);
+    digits + 1
+}
+
+// The text of an id, in the first bytes of an array.
+fn text_of(id: BlockId) -> IdText
+    ensures { λ r. ⌜ (r .len ≡ length (textOf (id .0))) × (r .len ≤ 41) × (take (r .len) (r .bytes) ≡ textOf (id .0)) × (41 ≡ length (r .bytes)) ⌝ }
+{
+    ids_text::text(id)
+}
+
+// Writes the text of an id and a byte after it; answers how many bytes that is.
+fn put_id(out: &mut [u8], at: usize, id: BlockId, end: u8) -> usize
+    requires { ⌜ at + 42 < 2 ^ 64 ⌝ }
+    ensures { λ r. ⌜ (now (out .exit) ≡ putsFrom (now (out .entry)) at (textOf (id .0) ++ (end ∷ []))) × (r ≡ length (textOf (id .0) ++ (end ∷ []))) × (r ≤ 42) ⌝ }
+{
+    let text = text_of(id);
+    let bytes = text.bytes;
+    let len = text.len;
+    put_text(out, at, &bytes, len);
+    put(out, at + len, end);
+    len + 1
+}
+
+// Writes the line of a record; answers how many bytes it has.
+fn put_line(out: &mut [u8], number: u64, no: u32, root: BlockId) -> usize
+    ensures { λ r. ⌜ (now (out .exit) ≡ putsFrom (now (out .entry)) 0 (lineOf number no (root .0))) × (r ≡ length (lineOf number no (root .0))) × (r ≤ widest) ⌝ }
+{
+    let a = put_number(out, 0, number, b' ');
+    let b = put_number(out, a, no as u64, b' ');
+    let c = put_id(out, a + b, root, b'\n');
+    a + b + c
+}
+
+// Writes the last lines: a cut last record of `cut` bytes if there is one, and how many nodes live; answers how many bytes they have.
+pub fn ending(run: Run, cut: usize, out: &mut [u8]) -> usize
+    ensures { λ r. ⌜ (now (out .exit) ≡ putsFrom (now (out .entry)) 0 (endingOf cut (run .arena .live))) × (r ≡ length (endingOf cut (run .arena .live))) ⌝ }
+{
+    let short = put_short(out, cut);
+    put_text(out, short, b"live ", 5);
+    let live = put_number(out, short + 5, run.arena.live as u64, b'\n');
+    short + 5 + live
+}
+
+// Writes the line of a cut last record; answers how many bytes it has, none for none.
+fn put_short(out: &mut [u8], cut: usize) -> usize
+    ensures { λ r. ⌜ (now (out .exit) ≡ putsFrom (now (out .entry)) 0 (shortOf cut)) × (r ≡ length (shortOf cut)) × (r ≤ 27) ⌝ }
+{
+    if cut == 0 {
+        return 0;
+    }
+    put_text(out, 0, b"short ", 6);
+    let number = put_number(out, 6, cut as u64, b'\n');
+    6 + number
+}
+
+// ---- from record to record
+
+// A fresh arena over the tables, with nothing in it, before the first record. Where the tables do not fit the capacity it answers 1, and so does every record.
+pub fn start(capacity: usize, kids: &mut [u64], facts: &mut [u64], find: &mut [u16]) -> Step
+    ensures { λ r. ⌜ stepped r kids facts find ≡ startOf capacity (now (kids .entry)) (now (facts .entry)) (now (find .entry)) ⌝ }
+{
+    let fresh = arena_hold::fresh(capacity, kids, facts, find);
+    let arena = fresh.arena;
+    Step {
+        run: Run {
+            arena: arena,
+            root: BlockId::EMPTY,
+            count: 0,
+        },
+        no: fresh.no,
+    }
+}
+
+// From a root and a count, after the answer to a record: accepted, its id is the root and the old root is released; refused, the old root stays.
+fn step_to(
+    root: BlockId,
+    count: u64,
+    made: Made,
+    kids: &mut [u64],
+    facts: &mut [u64],
+    find: &mut [u16],
+) -> Step
+    ensures { λ r. ⌜ (Fair cubeKids deepest (handed made kids facts find .after)
+        → stepped r kids facts find ≡ steppedOf (root .0) count (handed made kids facts find)) ⌝ }
+{
+    let number = wrapping_add_u64(count, 1);
+    let answered = made.arena;
+    if made.no != 0 {
+        return Step {
+            run: Run {
+                arena: answered,
+                root: root,
+                count: number,
+            },
+            no: made.no,
+        };
+    }
+    let released = arena_release::release(answered, kids, facts, find, root);
+    let arena = released.arena;
+    let next = made.id;
+    Step {
+        run: Run {
+            arena: arena,
+            root: next,
+            count: number,
+        },
+        no: 0,
+    }
+}
+
+// The same, with the record's line at the start of `out`.
+pub fn after_record(
+    root: BlockId,
+    count: u64,
+    made: Made,
+    kids: &mut [u64],
+    facts: &mut [u64],
+    find: &mut [u16],
+    out: &mut [u8],
+) -> Lined
+    ensures { λ r. ⌜ (r .len ≤ widest)
+        × (Fair cubeKids deepest (handed made kids facts find .after)
+        → lined r kids facts find out ≡ linedOf (root .0) count (handed made kids facts find) (now (out .entry))) ⌝ }
+{
+    let step = step_to(root, count, made, kids, facts, find);
+    let run = step.run;
+    let line = put_line(out, run.count, step.no, run.root);
+    Lined {
+        run: run,
+        len: line,
+    }
+}
