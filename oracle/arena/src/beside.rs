@@ -1,11 +1,12 @@
 //! The port beside document 01, call by call; and beside them the original with document 01 in the original's order of freeing.
-use crate::call::{Answered, Call, document};
+use crate::call::{Answered, Call, Entry, document};
 use crate::check;
 use crate::lent::Lent;
 use crate::original::Companion;
 use crate::tally::Tally;
 use reference::arena::{Arena, Order, Slot};
 use reference::document01::EMPTY;
+use reference::survey;
 
 /// To this capacity every slot is compared after every call, and a call that is refused may not change the finding table.
 const ALWAYS_WHOLE: usize = 100;
@@ -76,34 +77,13 @@ impl Beside {
 
     /// Runs a call on all sides and compares. The error is the difference in words.
     pub fn call(&mut self, call: &Call<u64>, tally: &mut Tally) -> Result<Answered, String> {
-        if self.is_always_whole {
-            self.find.copy_from_slice(self.port.find());
-        }
+        self.note_find();
         let (freed_before, next_before) = (self.document.freed().len(), self.document.next());
         let port = self.port.call(call);
         let expected = document(&mut self.document, call);
-        self.calls += 1;
-        if port != expected {
-            return Err(format!(
-                "the port answers {port:x?}, document 01 says {expected:x?}"
-            ));
-        }
-        if !self.port.is_intact() {
-            return Err("the port wrote outside its tables".to_string());
-        }
-        self.same_state()?;
-        if self.is_always_whole || self.calls.is_multiple_of(WHOLE_EVERY) {
-            self.same_tables()?;
-            tally.whole += 1;
-        } else {
-            self.same_touched(freed_before)?;
-        }
-        if self.is_always_whole && expected.no != 0 && self.port.find() != self.find {
-            return Err("the refused call changes the finding table".to_string());
-        }
-        let check_every = CHECK_EVERY.max(2 * self.document.capacity());
-        if self.calls.is_multiple_of(check_every as u64) {
-            self.well_formed(tally)?;
+        self.same(&port, &expected, freed_before, tally)?;
+        if expected.no != 0 {
+            self.same_find()?;
         }
         tally.count(call, &expected, &self.document, freed_before, next_before);
         if let Some(companion) = &mut self.companion {
@@ -116,6 +96,82 @@ impl Beside {
             }
         }
         Ok(expected)
+    }
+
+    /// Enters a reading on the port and by documents 01 and 02, and compares. The original, which has no readings, does not run beside. A bar that is
+    /// refused with 10 or 11 may have moved what no live node has.
+    pub fn enter(&mut self, entry: &Entry, tally: &mut Tally) -> Result<Answered, String> {
+        assert_eq!(self.original, Original::Absent);
+        self.note_find();
+        let port = self.port.enter(entry);
+        let (no, id) = (self.document).enter(entry.root, entry.depth, entry.edge, entry.record);
+        let expected = Answered::made(no, id);
+        // A bar may take slots that were freed long ago, and free them again: all of them are compared.
+        self.same(&port, &expected, 0, tally)?;
+        let is_bar = survey::parse(entry.record).is_ok_and(|reading| reading.is_bar());
+        if no != 0 && !(is_bar && matches!(no, 10 | 11)) {
+            self.same_find()?;
+        }
+        Ok(expected)
+    }
+
+    /// Holds a node until it has so many holds, on the port and by document 01; the tables are compared at the end alone.
+    pub fn hold_until(&mut self, id: u64, holds: u32) -> Result<(), String> {
+        assert_eq!(self.original, Original::Absent);
+        let hold = Call::Hold(id);
+        while self.document.node(id).holds < holds {
+            let (port, expected) = (self.port.call(&hold), document(&mut self.document, &hold));
+            if port != expected {
+                return Err(format!("{hold:x?} answers {port:x?}, not {expected:x?}"));
+            }
+        }
+        self.same_tables()
+    }
+
+    /// Keeps the finding table to compare, where every slot is compared.
+    fn note_find(&mut self) {
+        if self.is_always_whole {
+            self.find.copy_from_slice(self.port.find());
+        }
+    }
+
+    /// The finding table is as it was kept.
+    fn same_find(&self) -> Result<(), String> {
+        if self.is_always_whole && self.port.find() != self.find {
+            return Err("the refused call changes the finding table".to_string());
+        }
+        Ok(())
+    }
+
+    /// Compares the answers to a call, the states, and the tables; before it `freed_before` slots were freed.
+    fn same(
+        &mut self,
+        port: &Answered,
+        expected: &Answered,
+        freed_before: usize,
+        tally: &mut Tally,
+    ) -> Result<(), String> {
+        self.calls += 1;
+        if port != expected {
+            return Err(format!(
+                "the port answers {port:x?}, the documents say {expected:x?}"
+            ));
+        }
+        if !self.port.is_intact() {
+            return Err("the port wrote outside its tables".to_string());
+        }
+        self.same_state()?;
+        if self.is_always_whole || self.calls.is_multiple_of(WHOLE_EVERY) {
+            self.same_tables()?;
+            tally.whole += 1;
+        } else {
+            self.same_touched(freed_before)?;
+        }
+        let check_every = CHECK_EVERY.max(2 * self.document.capacity());
+        if self.calls.is_multiple_of(check_every as u64) {
+            self.well_formed(tally)?;
+        }
+        Ok(())
     }
 
     /// Sees that the port's tables are well formed, and that the arena check says so.

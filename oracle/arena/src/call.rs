@@ -29,6 +29,16 @@ impl<Id: Copy> Call<Id> {
     }
 }
 
+/// A reading to be entered: the arguments of the call. The original has none like it.
+#[derive(Clone, Copy, Debug)]
+pub struct Entry<'a> {
+    pub root: u64,
+    pub depth: u32,
+    /// Cells have an edge of 2^-edge metres.
+    pub edge: u32,
+    pub record: &'a [u8],
+}
+
 /// What a call answers. A call that answers no id has EMPTY here, and one that answers no counts has 0.
 #[derive(Clone, Copy, Debug, PartialEq, Eq)]
 pub struct Answered {

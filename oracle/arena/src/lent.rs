@@ -1,7 +1,8 @@
 //! The port's arena on tables that stand between guard words.
-use crate::call::{Answered, Call};
+use crate::call::{Answered, Call, Entry};
 use port::arena::{self, Arena, Tables};
 use port::model::{self, Cell, Looked};
+use port::readings;
 use reference::document01::EMPTY;
 use reference::tables::Tables as View;
 
@@ -177,6 +178,20 @@ impl Lent {
         };
         self.arena = state;
         answered
+    }
+
+    pub fn enter(&mut self, entry: &Entry) -> Answered {
+        let state = self.arena;
+        let made = readings::enter(
+            state,
+            &mut self.tables(),
+            entry.root,
+            entry.depth,
+            entry.edge,
+            entry.record,
+        );
+        self.arena = made.arena;
+        Answered::made(made.no, made.id)
     }
 
     pub fn look(&mut self, id: u64, depth: u32, cell: [i32; 3]) -> Looked {

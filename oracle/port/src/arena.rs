@@ -110,25 +110,6 @@ unsafe extern "C" {
     ) -> Counted;
 }
 
-/// Calls an exported function with the tables as it takes them.
-macro_rules! call {
-    ($function:ident($first:expr, $tables:ident $(, $last:expr)?)) => {
-        // SAFETY: crates/capi_arena defines the function with these types, and proves that it is safe on any tables.
-        unsafe {
-            $function(
-                $first,
-                $tables.kids.as_mut_ptr(),
-                $tables.kids.len(),
-                $tables.facts.as_mut_ptr(),
-                $tables.facts.len(),
-                $tables.find.as_mut_ptr(),
-                $tables.find.len(),
-                $($last)?
-            )
-        }
-    };
-}
-
 #[inline]
 pub fn fresh(capacity: usize, tables: &mut Tables) -> Answer {
     call!(fenpiling_fresh(capacity, tables))

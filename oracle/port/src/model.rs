@@ -69,25 +69,6 @@ unsafe extern "C" {
     ) -> Made;
 }
 
-/// Calls an exported function with the tables as it takes them.
-macro_rules! call {
-    ($function:ident($first:expr, $tables:ident $(, $last:expr)*)) => {
-        // SAFETY: crates/capi_model defines the function with these types, and proves that it is safe on any tables.
-        unsafe {
-            $function(
-                $first,
-                $tables.kids.as_mut_ptr(),
-                $tables.kids.len(),
-                $tables.facts.as_mut_ptr(),
-                $tables.facts.len(),
-                $tables.find.as_mut_ptr(),
-                $tables.find.len(),
-                $($last),*
-            )
-        }
-    };
-}
-
 #[inline]
 pub fn check(arena: Arena, tables: &mut Tables) -> bool {
     call!(fenpiling_check(arena, tables))

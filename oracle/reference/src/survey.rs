@@ -123,6 +123,33 @@ pub fn parse(record: &[u8]) -> Result<Reading, u32> {
     Ok(reading)
 }
 
+impl Reading {
+    pub fn is_bar(&self) -> bool {
+        matches!(self, Reading::Bar { .. })
+    }
+
+    /// The cells that it edits, in rising order, and their value; refusal 3 if any lies outside the cube. A pause has no cell.
+    pub fn cells(&self, depth: u32, edge: u32) -> Result<(Vec<[i32; 3]>, u16), u32> {
+        let (point, second_x, value) = match *self {
+            Reading::Pause => return Ok((vec![], 0)),
+            Reading::Shot { at, value } => (at, at[0], value),
+            Reading::Bar {
+                from,
+                second_x,
+                value,
+            } => (from, second_x, value),
+        };
+        let [first, y, z] = point.map(|number| number.cell(edge));
+        let last = second_x.cell(edge);
+        let is_outside = |cell: i128| cell < 0 || cell >= 1 << depth;
+        if [first, last, y, z].into_iter().any(is_outside) {
+            return Err(3);
+        }
+        let cells = (first..=last).map(|x| [x, y, z].map(|cell| cell as i32));
+        Ok((cells.collect(), value))
+    }
+}
+
 impl Arena {
     /// The number of the refusal and INVALID, or 0 and the root with the reading entered. A bar that is refused on its way has moved slots.
     pub fn enter(&mut self, root: u64, depth: u32, edge: u32, record: &[u8]) -> (u32, u64) {
@@ -130,55 +157,36 @@ impl Arena {
         if depth > DEEPEST || edge > FINEST {
             return (2, INVALID);
         }
-        let (point, second_x, value) = match parse(record) {
-            Err(no) => return (no, INVALID),
-            Ok(Reading::Pause) => {
-                return match self.hold(root) {
-                    0 => (0, root),
-                    no => (no, INVALID),
-                };
-            }
-            Ok(Reading::Shot { at, value }) => (at, at[0], value),
-            Ok(Reading::Bar {
-                from,
-                second_x,
-                value,
-            }) => (from, second_x, value),
-        };
-        let [first, y, z] = point.map(|number| number.cell(edge));
-        let last = second_x.cell(edge);
-        let is_outside = |cell: i128| cell < 0 || cell >= 1 << depth;
-        if [first, last, y, z].into_iter().any(is_outside) {
-            return (3, INVALID);
+        match parse(record) {
+            Err(no) => (no, INVALID),
+            Ok(Reading::Pause) => match self.hold(root) {
+                0 => (0, root),
+                no => (no, INVALID),
+            },
+            Ok(reading) => match reading.cells(depth, edge) {
+                Err(no) => (no, INVALID),
+                Ok((cells, value)) => self.draw(root, depth, &cells, value),
+            },
         }
-        let cells = (first..=last).map(|x| [x, y, z].map(|cell| cell as i32));
-        self.draw(root, depth, cells, value)
     }
 
     /// Edits the cells one after the other. A passing root is released after the next is made, or refused.
-    fn draw(
-        &mut self,
-        root: u64,
-        depth: u32,
-        cells: impl Iterator<Item = [i32; 3]>,
-        value: u16,
-    ) -> (u32, u64) {
+    fn draw(&mut self, root: u64, depth: u32, cells: &[[i32; 3]], value: u16) -> (u32, u64) {
         let mut touched = vec![];
-        let mut passing = None;
-        let mut refusal = 0;
-        for cell in cells {
-            let (no, made) = self.edit(passing.unwrap_or(root), depth, cell, value);
+        let mut answer = (0, root);
+        for (at, cell) in cells.iter().enumerate() {
+            let (_, passing) = answer;
+            answer = self.edit(passing, depth, *cell, value);
             touched.append(&mut self.touched);
-            if let Some(passed) = passing.replace(made) {
-                assert_eq!(self.release(passed), 0);
+            if at > 0 {
+                assert_eq!(self.release(passing), 0);
                 touched.append(&mut self.touched);
             }
-            refusal = no;
-            if no != 0 {
+            if answer.0 != 0 {
                 break;
             }
         }
         self.touched = touched;
-        (refusal, passing.unwrap_or(INVALID))
+        answer
     }
 }
