@@ -1,10 +1,14 @@
 //! The calls on lent tables, as values, so that they can be drawn, counted and told.
 use crate::lent::Lent;
 use fenpiling_sys::{
-    Answer, Arena, Cell, Children, Made, fenpiling_check, fenpiling_counts, fenpiling_fresh,
-    fenpiling_get_at_depth, fenpiling_hold, fenpiling_intern_branch, fenpiling_intern_leaf,
-    fenpiling_release, fenpiling_set_voxel, fenpiling_to_vec,
+    Answer, Arena, Cell, Children, Made, Reading, fenpiling_check, fenpiling_counts,
+    fenpiling_enter_reading, fenpiling_fresh, fenpiling_get_at_depth, fenpiling_hold,
+    fenpiling_intern_branch, fenpiling_intern_leaf, fenpiling_parse_reading, fenpiling_release,
+    fenpiling_set_voxel, fenpiling_to_vec,
 };
+
+/// The bytes of a record and some more; as many of them are lent as a round's records are long.
+pub type Record = [u8; 48];
 
 /// A call with its arguments beside the arena.
 #[derive(Clone, Copy, Debug)]
@@ -19,10 +23,12 @@ pub enum Call {
     GetAtDepth(u64, u32, Cell),
     ToVec(u64, u32),
     SetVoxel(u64, u32, Cell, u16),
+    ParseReading(Record),
+    EnterReading(u64, u32, u32, Record),
 }
 
 /// The names of the calls, and the numbers that each can answer.
-pub const KINDS: [(&str, &[u32]); 10] = [
+pub const KINDS: [(&str, &[u32]); 12] = [
     ("fresh", &[0, 1]),
     ("intern_leaf", &[0, 1, 6, 10, 11]),
     ("intern_branch", &[0, 1, 4, 5, 7, 8, 10, 11]),
@@ -33,6 +39,8 @@ pub const KINDS: [(&str, &[u32]); 10] = [
     ("get_at_depth", &[0, 1, 2, 3, 4]),
     ("to_vec", &[0, 1, 2, 4, 9]),
     ("set_voxel", &[0, 1, 2, 3, 4, 8, 10, 11]),
+    ("parse_reading", &[0, 13, 14]),
+    ("enter_reading", &[0, 1, 2, 3, 4, 8, 10, 11, 13, 14]),
 ];
 
 impl Call {
@@ -49,6 +57,8 @@ impl Call {
             Call::GetAtDepth(..) => 7,
             Call::ToVec(..) => 8,
             Call::SetVoxel(..) => 9,
+            Call::ParseReading(_) => 10,
+            Call::EnterReading(..) => 11,
         }
     }
 
@@ -56,7 +66,11 @@ impl Call {
     pub fn changes(&self) -> bool {
         !matches!(
             self,
-            Call::Counts(_) | Call::Check | Call::GetAtDepth(..) | Call::ToVec(..)
+            Call::Counts(_)
+                | Call::Check
+                | Call::GetAtDepth(..)
+                | Call::ToVec(..)
+                | Call::ParseReading(_)
         )
     }
 
@@ -64,8 +78,17 @@ impl Call {
     pub fn exact_on_any(&self) -> bool {
         !matches!(
             self,
-            Call::InternLeaf(_) | Call::InternBranch(_) | Call::Release(_) | Call::SetVoxel(..)
+            Call::InternLeaf(_)
+                | Call::InternBranch(_)
+                | Call::Release(_)
+                | Call::SetVoxel(..)
+                | Call::EnterReading(..)
         )
+    }
+
+    /// Has the call moved what no live node has, though it is refused with this number? A bar that was refused on its way may.
+    pub fn may_have_moved(&self, no: u32) -> bool {
+        matches!(self, Call::EnterReading(_, _, _, [2, ..])) && matches!(no, 10 | 11)
     }
 }
 
@@ -75,6 +98,7 @@ pub struct Tables {
     pub facts: Lent<u64>,
     pub find: Lent<u16>,
     pub cube: Lent<u16>,
+    pub record: Lent<u8>,
 }
 
 /// What was lent, before a call.
@@ -100,6 +124,7 @@ impl Tables {
             && self.facts.canaries_live()
             && self.find.canaries_live()
             && self.cube.canaries_live()
+            && self.record.canaries_live()
     }
 
     pub fn copy(&mut self) -> Copied {
@@ -118,6 +143,12 @@ impl Tables {
             && self.find.words() == copied.find
     }
 
+    /// Are the live nodes the same as when the tables were copied, with the same words?
+    pub fn lives_as(&mut self, copied: &Copied) -> bool {
+        live_nodes(self.facts.words(), self.kids.words())
+            .eq(live_nodes(&copied.facts, &copied.kids))
+    }
+
     /// Is the cube as when it was copied?
     pub fn cube_as(&mut self, copied: &Copied) -> bool {
         self.cube.words() == copied.cube
@@ -129,6 +160,7 @@ impl Tables {
         let facts = self.facts.words();
         let find = self.find.words();
         let cube = self.cube.words();
+        let record = self.record.words();
         macro_rules! lend {
             ($function:ident($first:expr $(, $other:expr)*)) => {
                 // SAFETY: the slices go with their own lengths, and don't overlap.
@@ -175,8 +207,44 @@ impl Tables {
             Call::SetVoxel(root, depth, cell, value) => {
                 made(lend!(fenpiling_set_voxel(arena, root, depth, cell, value)))
             }
+            Call::ParseReading(bytes) => {
+                record.copy_from_slice(&bytes[..record.len()]);
+                // SAFETY: the slice goes with its own length.
+                let reading = unsafe { fenpiling_parse_reading(record.as_ptr(), record.len()) };
+                read(arena, reading.no, says_nothing(&reading))
+            }
+            Call::EnterReading(root, depth, k, bytes) => {
+                record.copy_from_slice(&bytes[..record.len()]);
+                let (address, length) = (record.as_ptr(), record.len());
+                made(lend!(fenpiling_enter_reading(
+                    arena, root, depth, k, address, length
+                )))
+            }
         }
     }
+
+    /// Is the record still the one that the last call was lent?
+    pub fn record_as(&mut self, bytes: &Record) -> bool {
+        let record = self.record.words();
+        *record == bytes[..record.len()]
+    }
+}
+
+/// The slots that have a live node, with their facts and children.
+fn live_nodes<'a>(
+    facts: &'a [u64],
+    kids: &'a [u64],
+) -> impl Iterator<Item = (usize, (&'a [u64], &'a [u64]))> {
+    let slots = facts.chunks(7).zip(kids.chunks(8));
+    slots
+        .enumerate()
+        .filter(|(_, (facts, _))| facts[0] >= 1 << 47)
+}
+
+/// Is all of the reading 0 but its number?
+fn says_nothing(reading: &Reading) -> bool {
+    let numbers = [reading.x, reading.y, reading.z, reading.second_x];
+    (reading.kind, reading.value) == (0, 0) && numbers.map(f64::to_bits) == [0; 4]
 }
 
 fn made(made: Made) -> Outcome {

@@ -19,6 +19,12 @@ impl Word for u16 {
     }
 }
 
+impl Word for u8 {
+    fn cut(number: u64) -> u8 {
+        number as u8
+    }
+}
+
 /// How memory is lent.
 #[derive(Clone, Copy)]
 pub enum Placing {

@@ -36,7 +36,7 @@ fn main() -> ExitCode {
 }
 
 fn run(rounds: u64, heap: bool) -> ExitCode {
-    let mut seen = [[0; 13]; 10];
+    let mut seen = round::Seen::default();
     for seed in 0..rounds {
         if let Err(fault) = round::play(seed, heap, &mut seen).and_then(|()| numbers_only(seed)) {
             println!("{fault}");

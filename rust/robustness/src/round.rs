@@ -1,11 +1,11 @@
 //! A round: tables made and damaged, and calls on them, each watched.
-use crate::calls::{Call, KINDS, Tables};
+use crate::calls::{Call, KINDS, Record, Tables};
 use crate::lent::{Lent, Placing, Word};
 use crate::numbers::Numbers;
 use fenpiling_sys::{Arena, Cell};
 
 /// How many calls of each kind answered each number.
-pub type Seen = [[u64; 13]; 10];
+pub type Seen = [[u64; 15]; KINDS.len()];
 
 /// What the tables of a round are.
 #[derive(Clone, Copy, Debug, PartialEq)]
@@ -60,6 +60,11 @@ pub fn play(seed: u64, heap: bool, seen: &mut Seen) -> Result<(), String> {
     }
     let cells = 1 << (3 * shallow(&mut numbers));
     let cube = if numbers.once_in(8) { cells + 1 } else { cells };
+    let record = if numbers.once_in(4) {
+        numbers.below(1 + size_of::<Record>())
+    } else {
+        40
+    };
     let placing = if heap {
         Placing::Heap
     } else {
@@ -75,6 +80,7 @@ pub fn play(seed: u64, heap: bool, seen: &mut Seen) -> Result<(), String> {
             facts: Lent::new(lengths[1], placing),
             find: Lent::new(lengths[2], placing),
             cube: Lent::new(cube, placing),
+            record: Lent::new(record, placing),
         },
         arena: Arena {
             capacity,
@@ -155,17 +161,32 @@ impl Round<'_> {
         if exact && outcome.spoils {
             return fault("refused and answered something");
         }
+        let is_state_kept = matches!(call, Call::Fresh(_)) || outcome.arena == self.arena;
+        if exact && refused && !call.may_have_moved(outcome.no) && !is_state_kept {
+            return fault("refused and changed the state");
+        }
         if let Some(copied) = copied {
-            if exact && (refused || !call.changes()) && !self.tables.arena_as(&copied) {
+            if exact && call.may_have_moved(outcome.no) {
+                if !self.tables.lives_as(&copied) {
+                    return fault("changed a live node");
+                }
+            } else if exact && (refused || !call.changes()) && !self.tables.arena_as(&copied) {
                 return fault("changed the arena's tables");
             }
             if (refused || !matches!(call, Call::ToVec(..))) && !self.tables.cube_as(&copied) {
                 return fault("changed the cube");
             }
         }
+        if let Call::ParseReading(bytes) | Call::EnterReading(_, _, _, bytes) = call
+            && !self.tables.record_as(&bytes)
+        {
+            return fault("changed the record");
+        }
         self.seen[call.kind()][outcome.no as usize] += 1;
-        if !refused {
+        if !refused || call.may_have_moved(outcome.no) {
             self.arena = outcome.arena;
+        }
+        if !refused {
             self.ids.extend(outcome.id);
         }
         Ok(())
@@ -175,7 +196,7 @@ impl Round<'_> {
     fn sensible(&mut self) -> Call {
         let id = self.numbers.of(&self.ids);
         let depth = shallow(&mut self.numbers);
-        match self.numbers.below(12) {
+        match self.numbers.below(15) {
             0 | 1 => Call::InternLeaf(1 + self.numbers.below(3) as u16),
             2 => {
                 let mut children = [0; 8];
@@ -189,6 +210,10 @@ impl Round<'_> {
             3 => Call::Hold(id),
             4..7 => Call::Release(id),
             7 => Call::GetAtDepth(id, depth, self.cell(depth)),
+            8..11 => {
+                let k = self.numbers.below(7) as u32;
+                Call::EnterReading(id, depth, k, self.reading(depth, k))
+            }
             _ => Call::SetVoxel(id, depth, self.cell(depth), self.numbers.below(4) as u16),
         }
     }
@@ -210,7 +235,7 @@ impl Round<'_> {
             _ => self.cell(depth),
         };
         let value = self.numbers.odd() as u16;
-        match self.numbers.below(20) {
+        match self.numbers.below(26) {
             0 => {
                 let capacity = self.numbers.of(&[0, 1, 2, 65_536, 65_537, usize::MAX]);
                 Call::Fresh(capacity)
@@ -237,8 +262,61 @@ impl Round<'_> {
                         .unwrap_or(depth),
                 )
             }
+            17 => Call::ParseReading(self.record(depth, 3)),
+            18..22 => {
+                let k = self.numbers.below(8) as u32;
+                Call::EnterReading(id, depth, k, self.record(depth, k))
+            }
             _ => Call::SetVoxel(id, depth, cell, value),
         }
+    }
+
+    /// A record of a shot, a bar or a pause, with numbers in a cube of the depth.
+    fn reading(&mut self, depth: u32, k: u32) -> Record {
+        let kind = self.numbers.of(&[0, 1, 1, 2, 2, 2]);
+        let [x, y, z, second_x] = [(); 4].map(|()| self.metres(depth, k));
+        let (numbers, value) = match kind {
+            0 => ([0.0; 4], 0),
+            1 => ([x, y, z, 0.0], self.numbers.below(4) as u16),
+            _ => (
+                [x.min(second_x), y, z, x.max(second_x)],
+                self.numbers.below(4) as u16,
+            ),
+        };
+        let mut record = [0; 48];
+        record[0] = kind;
+        record[4..6].copy_from_slice(&value.to_le_bytes());
+        for (bytes, number) in record[8..40].chunks_exact_mut(8).zip(numbers) {
+            bytes.copy_from_slice(&number.to_le_bytes());
+        }
+        record
+    }
+
+    /// A number in a cell of a cube of the depth.
+    fn metres(&mut self, depth: u32, k: u32) -> f64 {
+        let cell = self.numbers.below(1 << depth.min(7)) as f64;
+        let part = self.numbers.of(&[0.0, 0.5, 0.999]);
+        (cell + part) / f64::from(1 << k.min(7))
+    }
+
+    /// Such a record with bytes changed, or with numbers of any bits, or any bytes.
+    fn record(&mut self, depth: u32, k: u32) -> Record {
+        let mut record = self.reading(depth, k);
+        match self.numbers.below(4) {
+            0 => record.fill_with(|| self.numbers.any() as u8),
+            1 => {
+                let number = self.numbers.below(4);
+                let bits = match self.numbers.below(3) {
+                    0 => self.numbers.odd(),
+                    1 => self.numbers.any(),
+                    _ => 0x7FF << 52 | self.numbers.odd(),
+                };
+                record[8 + 8 * number..16 + 8 * number].copy_from_slice(&bits.to_le_bytes());
+            }
+            2 => damage(&mut self.numbers, &mut record),
+            _ => {}
+        }
+        record
     }
 
     /// An id that was answered, one that the tables name, or any number.
