@@ -5,122 +5,24 @@
  * 512 slots, from EMPTY, with the old root released after each accepted edit. The tables lie between canaries. After each record the cell is looked up
  * and every few the arena is checked; at the end the whole expansion is compared, and everything released.
  *
- * The library comes compiled from its prover, so that its code has no coverage instrumentation: only this file has. What the library does is fed back
- * as counters of what it answers: numbers, live nodes, slots given out and freed, masks of roots.
- *
  * Compiled with -DTELL it is a program that prints, of the file named, what the program `edits` has to print.
  */
-#include <fenpiling.h>
+#include "shared.h"
 
-#include <inttypes.h>
-#include <stdio.h>
-#include <stdlib.h>
-#include <string.h>
-
-#define CAPACITY 512
-#define DEPTH 6
-#define SIDE 64
 #define RECORD 8
 
 /* An edit makes at most so many nodes: one at each level. */
 #define PATH (DEPTH + 1)
-
-/* The arena is checked after the first of so many records, and after the last. */
-#define CHECKED 8
-
-#define CANARIES 64
-#define CANARY 0xA5
-
-static struct {
-    unsigned char before_kids[CANARIES];
-    uint64_t kids[FENPILING_KIDS_LENGTH(CAPACITY)];
-    unsigned char before_facts[CANARIES];
-    uint64_t facts[FENPILING_FACTS_LENGTH(CAPACITY)];
-    unsigned char before_find[CANARIES];
-    uint16_t find[FENPILING_FIND_LENGTH(CAPACITY)];
-    unsigned char before_cube[CANARIES];
-    uint16_t cube[FENPILING_CUBE_LENGTH(DEPTH)];
-    unsigned char after_cube[CANARIES];
-} lent, copy;
-
-#define TABLES \
-    lent.kids, FENPILING_KIDS_LENGTH(CAPACITY), lent.facts, FENPILING_FACTS_LENGTH(CAPACITY), lent.find, FENPILING_FIND_LENGTH(CAPACITY)
-
-/* The cube as a plain array; all 0 between inputs. */
-static uint16_t plain[FENPILING_CUBE_LENGTH(DEPTH)];
-
-/* libFuzzer reads this section as coverage. */
-enum { NUMBERS = 16, MASKS = 256, COUNTERS = NUMBERS + MASKS + 3 * CAPACITY };
-__attribute__((used, section("__libfuzzer_extra_counters"))) static unsigned char counters[COUNTERS];
-
-static void feed_back(uint32_t no, uint64_t root, fenpiling_arena arena)
-{
-    unsigned char *counter = counters;
-    counter[no % NUMBERS]++;
-    counter += NUMBERS;
-    counter[fenpiling_mask(root)] = 1;
-    counter += MASKS;
-    counter[arena.live % CAPACITY] = 1;
-    counter += CAPACITY;
-    counter[arena.next % CAPACITY] = 1;
-    counter += CAPACITY;
-    counter[arena.top % CAPACITY] = 1;
-}
-
-static void demand(int holds, const char *what)
-{
-    if (!holds) {
-        fprintf(stderr, "not so: %s\n", what);
-        abort();
-    }
-}
-
-static int canaries_live(const unsigned char *canaries)
-{
-    int live = 1;
-    for (int i = 0; i < CANARIES; i++)
-        live &= canaries[i] == CANARY;
-    return live;
-}
-
-static void demand_canaries(void)
-{
-    demand(canaries_live(lent.before_kids) && canaries_live(lent.before_facts) && canaries_live(lent.before_find) &&
-               canaries_live(lent.before_cube) && canaries_live(lent.after_cube),
-           "nothing is written outside what is lent");
-}
-
-/* Keeps the arena's tables, to compare. */
-static void keep(void)
-{
-    memcpy(copy.kids, lent.kids, sizeof lent.kids);
-    memcpy(copy.facts, lent.facts, sizeof lent.facts);
-    memcpy(copy.find, lent.find, sizeof lent.find);
-}
-
-static int kept(void)
-{
-    return memcmp(copy.kids, lent.kids, sizeof lent.kids) == 0 && memcmp(copy.facts, lent.facts, sizeof lent.facts) == 0 &&
-           memcmp(copy.find, lent.find, sizeof lent.find) == 0;
-}
 
 static unsigned u16_at(const uint8_t *data)
 {
     return data[0] | (unsigned)data[1] << 8;
 }
 
-static int same_arena(fenpiling_arena a, fenpiling_arena b)
-{
-    return a.capacity == b.capacity && a.next == b.next && a.top == b.top && a.live == b.live;
-}
-
 /* Plays the records, and prints what the program prints if `told` is there. */
 static void play(const uint8_t *data, size_t size, FILE *told)
 {
-    memset(&lent, CANARY, sizeof lent);
-    fenpiling_answer answer = fenpiling_fresh(CAPACITY, TABLES);
-    demand(answer.no == FENPILING_ACCEPTED, "a fresh arena is accepted");
-    fenpiling_arena arena = answer.arena;
+    fenpiling_arena arena = fresh_arena();
     uint64_t root = FENPILING_EMPTY;
     size_t records = size / RECORD;
 
@@ -139,7 +41,7 @@ static void play(const uint8_t *data, size_t size, FILE *told)
             if (plain[at] == value)
                 demand(made.id == root, "a cell that has the value already leaves the root");
             plain[at] = (uint16_t)value;
-            answer = fenpiling_release(made.arena, TABLES, root);
+            fenpiling_answer answer = fenpiling_release(made.arena, TABLES, root);
             demand(answer.no == FENPILING_ACCEPTED, "the old root can be released");
             arena = answer.arena;
             root = made.id;
@@ -153,11 +55,8 @@ static void play(const uint8_t *data, size_t size, FILE *told)
             fenpiling_looked looked = fenpiling_get_at_depth(arena, TABLES, root, DEPTH, cell);
             demand(looked.no == FENPILING_ACCEPTED && looked.value == plain[at], "the cell reads as in the plain cube");
         }
-        if (i % CHECKED == 0 || i + 1 == records) {
-            keep();
-            demand(fenpiling_check(arena, TABLES), "the arena is well formed");
-            demand(kept(), "the check changes nothing");
-        }
+        if (i % CHECKED == 0 || i + 1 == records)
+            demand_well_formed(arena);
         feed_back(made.no, root, arena);
         if (told) {
             fenpiling_id_text text = fenpiling_text(root);
@@ -170,14 +69,7 @@ static void play(const uint8_t *data, size_t size, FILE *told)
         fprintf(told, "live %zu\n", arena.live);
     }
 
-    demand(fenpiling_to_vec(arena, TABLES, root, DEPTH, lent.cube, FENPILING_CUBE_LENGTH(DEPTH)) == FENPILING_ACCEPTED,
-           "the expansion is accepted");
-    demand_canaries();
-    demand(memcmp(lent.cube, plain, sizeof plain) == 0, "the expansion is the plain cube");
-    answer = fenpiling_release(arena, TABLES, root);
-    demand(answer.no == FENPILING_ACCEPTED && answer.arena.live == 0, "nothing is live when the last root is released");
-    demand(fenpiling_check(answer.arena, TABLES), "the emptied arena is well formed");
-
+    finish(arena, root);
     for (size_t i = 0; i < records; i++) {
         const uint8_t *record = data + RECORD * i;
         unsigned x = u16_at(record), y = u16_at(record + 2), z = u16_at(record + 4);
@@ -203,10 +95,6 @@ int main(int count, char **words)
 }
 
 #else
-
-int LLVMFuzzerTestOneInput(const uint8_t *data, size_t size);
-size_t LLVMFuzzerCustomMutator(uint8_t *data, size_t size, size_t max_size, unsigned seed);
-size_t LLVMFuzzerMutate(uint8_t *data, size_t size, size_t max_size);
 
 int LLVMFuzzerTestOneInput(const uint8_t *data, size_t size)
 {
