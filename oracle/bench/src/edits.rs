@@ -12,7 +12,7 @@ use voxelis::{BlockId, VoxInterner};
 const EDITS: usize = 100;
 const DEEPEST: u32 = 6;
 
-trait Editing: Store {
+pub trait Editing: Store {
     /// The root with the voxel set; the old root keeps its hold.
     fn edit(&mut self, root: u64, voxel: &Voxel) -> u64;
     fn live(&self) -> usize;

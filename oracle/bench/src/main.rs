@@ -1,7 +1,8 @@
-//! Times the port's arena, reading and edits beside the original's: the same driver on the same inputs, in turn, in one run. To be built with
-//! --profile unchecked, so that the original runs as in a user's release build.
+//! Times the port's arena, reading and edits beside the original's, and its readings in metres beside single edits: the same driver on the same inputs, in
+//! turn, in one run. To be built with --profile unchecked, so that the original runs as in a user's release build.
 mod edits;
 mod reading;
+mod readings;
 mod refused;
 mod stores;
 mod work;
@@ -86,4 +87,5 @@ fn main() {
     refused::rows();
     reading::all();
     edits::rows();
+    readings::rows();
 }
