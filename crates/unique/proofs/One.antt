@@ -12,7 +12,7 @@ use Rattle.arena.specs.declared.Counted.{Counted}
 use Rattle.arena.specs.declared.Made.{Made}
 use Rattle.arena.specs.Calls.{Out, Numbers, madeOf, answeredOf, counted}
 use Rattle.read_cell.specs.Calls.{Expanded, expanded}
-use Rattle.unique.specs.Asked.{Plain, PlainSaid, PlainMeets, Asked, fromRaw, raw, packingNo, newLeaf, newBranch, index, generation, types, mask, hasChild, isLeaf, isBranch, isInvalid, isValid, isEmpty, text, path, position, child, fresh, hold, counts, leaf, branch, release, look, expand, edit, check, Left, Said, Meets, Speaks}
+use Rattle.unique.specs.Asked.{Plain, PlainSaid, PlainMeets, Asked, fromRaw, raw, packingNo, newLeaf, newBranch, index, generation, types, mask, hasChild, isLeaf, isBranch, isInvalid, isValid, isEmpty, text, path, position, child, parse, fresh, hold, counts, leaf, branch, release, look, expand, edit, enter, check, Left, Said, Meets, Speaks}
 
 -- what a contract equates can be undone: so two that it equates with one are one
 pub one : {A B : Type 0} (f : A → B) (back : B → A) → ((a : A) → back (f a) ≡ a) → {o : B} (a b : A) → f a ≡ o → f b ≡ o → a ≡ b
@@ -68,6 +68,7 @@ plain-determined (text c) = same
 plain-determined (path p) = same
 plain-determined (position c) = same
 plain-determined (child p k d) = same
+plain-determined (parse l) = same
 
 pub determined : (q : Asked) → Speaks q → (a b : Said q) → Meets q a → Meets q b → a ≡ b
 determined (fresh c k f e) s = answered-one
@@ -78,5 +79,6 @@ determined (branch t ks) s = λ a b p q. made-one a b (p s) (q s)
 determined (release t c) s = λ a b p q. answered-one a b (p cubeKids deepest (omega arith) (omega arith) s) (q cubeKids deepest (omega arith) (omega arith) s)
 determined (look t c d p) s = same
 determined (expand t c d l) s = expanded-one
+determined (enter t c d k l) s = λ a b p q. made-one a b (p s) (q s)
 determined (edit t c d p v) s = λ a b p q. made-one a b (p s) (q s)
 determined (check t) s = λ a b p q. ap₂ (λ (x : Bool) (y : List ℕ). (x, y)) (test-one (a .0) (b .0) (p .0) (q .0)) (same (a .1) (b .1) (p .1) (q .1))

@@ -22,6 +22,9 @@ use Rattle.arena.specs.Calls.{Fair, rawIds, madeOf, answeredOf, counted, freshO
 use Rattle.read_cell.specs.declared.Looked.{Looked}
 use Rattle.read_cell.specs.Calls.{lookOf, expanded, expandOf}
 use Rattle.edit.specs.Edit.{editOf}
+use Rattle.metres.specs.declared.Reading.{Reading}
+use Rattle.metres.specs.Record.{readingOf}
+use Rattle.readings.specs.Enter.{enterOf}
 
 -- ## Calls that are lent nothing
 
@@ -46,6 +49,7 @@ pub data Plain : Type 0 where
   path : IVec3 → Plain
   position : ℕ → Plain
   child : IVec3 → (level depth : ℕ) → Plain
+  parse : List ℕ → Plain
 
 -- what it answers
 abbrev pub PlainSaid : Plain → Type 0
@@ -68,6 +72,7 @@ PlainSaid (text b) = IdText
 PlainSaid (path p) = ℕ
 PlainSaid (position c) = Decoded
 PlainSaid (child p k d) = ChildIndex
+PlainSaid (parse l) = Reading
 
 -- its contract
 abbrev pub PlainMeets : (q : Plain) → PlainSaid q → Type 0
@@ -90,6 +95,7 @@ PlainMeets (text b) a = a ≡ idTextOf (b .0)
 PlainMeets (path p) a = a ≡ pathOf p
 PlainMeets (position c) a = a ≡ decodedOf c
 PlainMeets (child p k d) a = a ≡ childIndexOf p k d
+PlainMeets (parse l) a = a ≡ readingOf l
 
 -- ## Calls on lent tables
 
@@ -104,6 +110,7 @@ pub data Asked : Type 0 where
   look : Tables → BlockId → ℕ → IVec3 → Asked
   expand : Tables → BlockId → ℕ → (l : List ℕ) → Asked
   edit : Tables → BlockId → ℕ → IVec3 → ℕ → Asked
+  enter : Tables → BlockId → (depth k : ℕ) → List ℕ → Asked
   check : Tables → Asked
 
 -- the answer, and the tables kids, facts and find afterwards
@@ -121,6 +128,7 @@ Said (release t b) = Left Answer
 Said (look t b d p) = Looked
 Said (expand t b d l) = ℕ × List ℕ
 Said (edit t b d p v) = Left Made
+Said (enter t b d k l) = Left Made
 Said (check t) = Bool × List ℕ
 
 -- its contract
@@ -134,9 +142,10 @@ Meets (release t b) a = (n tallest : ℕ) → n ≤ kidWords → tallest ≤ dee
 Meets (look t b d p) a = a ≡ lookOf t (b .0) d p
 Meets (expand t b d l) a = expanded (a .0) (a .1) ≡ expandOf t (b .0) d l
 Meets (edit t b d p v) a = Fair cubeKids deepest t → madeOf (a .0) (a .1) (a .2) (a .3) ≡ editOf t (b .0) d p v
+Meets (enter t b d k l) a = Fair cubeKids deepest t → madeOf (a .0) (a .1) (a .2) (a .3) ≡ enterOf t (b .0) d k l
 Meets (check t) a = ((a .0 ≡ true) ↔ WellFormed cubeKids deepest t) × (a .1 ≡ t .nodes .facts)
 
--- on which tables it speaks: interning, release and edit on those that are not sized or well formed, all others on any
+-- on which tables it speaks: interning, release, edit and reading on those that are not sized or well formed, all others on any
 abbrev pub Speaks : Asked → Type 0
 Speaks (fresh c k f e) = Unit {0}
 Speaks (hold t b) = Unit {0}
@@ -147,4 +156,5 @@ Speaks (release t b) = Fair cubeKids deepest t
 Speaks (look t b d p) = Unit {0}
 Speaks (expand t b d l) = Unit {0}
 Speaks (edit t b d p v) = Fair cubeKids deepest t
+Speaks (enter t b d k l) = Fair cubeKids deepest t
 Speaks (check t) = Unit {0}

@@ -14,12 +14,14 @@ use ids_text::IdText;
 use listing::Ran;
 use listing::Run;
 use listing::Step;
+use metres::Reading;
+use metres::ReadingFields;
 use paths::ChildIndex;
 use paths::Decoded;
 use paths::IVec3;
 use read_cell::Looked;
-ghost use Rattle.unique.specs.Asked.{PlainMeets, fromRaw, raw, packingNo, newLeaf, newBranch, index, generation, types, mask, hasChild, isLeaf, isBranch, isInvalid, isValid, isEmpty, text, path, position, child};
-ghost use Rattle.unique.specs.Asked.{Meets, fresh, hold, counts, leaf, branch, release, look, expand, edit, check};
+ghost use Rattle.unique.specs.Asked.{PlainMeets, fromRaw, raw, packingNo, newLeaf, newBranch, index, generation, types, mask, hasChild, isLeaf, isBranch, isInvalid, isValid, isEmpty, text, path, position, child, parse};
+ghost use Rattle.unique.specs.Asked.{Meets, fresh, hold, counts, leaf, branch, release, look, expand, edit, enter, check};
 ghost use Rattle.unique.specs.Listing.{ListingMeets, start, records, ending};
 ghost use Rattle.unique.specs.Exports as exports;
 ghost use Rattle.unique.specs.Exports.{ExportMeets};
@@ -141,6 +143,12 @@ fn child_meets(cell: IVec3, level: u32, depth: u32) -> ChildIndex
     paths::child_index2(cell, level, depth)
 }
 
+fn parse_meets(bytes: &[u8]) -> Reading
+    ensures { λ r. ⌜ PlainMeets (parse (now (bytes .entry))) r ⌝ }
+{
+    metres::parse(bytes)
+}
+
 // ---- calls on lent tables
 
 fn fresh_meets(capacity: usize, kids: &mut [u64], facts: &mut [u64], find: &mut [u16]) -> Answer
@@ -240,6 +248,21 @@ fn edit_meets(
     edit::set_voxel(arena, kids, facts, find, root, depth, position, value)
 }
 
+fn enter_meets(
+    arena: Arena,
+    kids: &mut [u64],
+    facts: &mut [u64],
+    find: &mut [u16],
+    root: BlockId,
+    depth: u32,
+    k: u32,
+    bytes: &[u8],
+) -> Made
+    ensures { λ r. ⌜ Meets (enter (before arena kids facts find) root depth k (now (bytes .entry))) (r, now (kids .exit), now (facts .exit), now (find .exit)) ⌝ }
+{
+    readings::enter_reading(arena, kids, facts, find, root, depth, k, bytes)
+}
+
 fn check_meets(arena: Arena, kids: &[u64], facts: &mut [u64], find: &[u16]) -> bool
     ensures { λ r. ⌜ Meets (check (before arena kids facts find)) (r, now (facts .exit)) ⌝ }
 {
@@ -276,6 +299,12 @@ fn exported_text_meets(number: u64) -> Text
     ensures { λ r. ⌜ ExportMeets (exports.text number) r ⌝ }
 {
     capi_paths::fenpiling_text(number)
+}
+
+fn exported_parse_meets(bytes: &[u8]) -> ReadingFields
+    ensures { λ r. ⌜ ExportMeets (exports.parse (now (bytes .entry))) r ⌝ }
+{
+    capi_readings::fenpiling_parse_reading(bytes)
 }
 
 // ---- the listing of edit records
