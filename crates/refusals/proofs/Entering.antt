@@ -33,7 +33,7 @@ use Rattle.read_cell.proofs.Laws.{there-live}
 use Rattle.edit.specs.Edit.{editOf}
 use Rattle.metres.specs.Record.{Bytes, kindIn, valueIn, xIn, yIn, zIn, lastIn, malformed, unending, outside, aimOf}
 use Rattle.metres.specs.Bits.{cellNumber}
-use Rattle.metres.specs.Why.{Malformed, Unending, Beyond as RecordBeyond}
+use Rattle.metres.specs.Why.{Malformed, Unending, endlessX, endlessY, endlessZ, endlessSecond, Beyond as RecordBeyond, beyondX, beyondY, beyondZ, beyondSecond}
 use Rattle.metres.specs.declared.Aim.{Aim}
 use Rattle.metres.specs.declared.Aim.the-variants.{Nothing, Cells, No}
 use Rattle.metres.proofs.Theorems.{thirteen, fourteen, three}
@@ -528,3 +528,48 @@ module _ (t : Tables) (root d k : ℕ) (l : List ℕ) (bytes : Bytes l) where
 
         low-enough : (Why 8 → ⊥) → eightOf t root d l ≡ false
         low-enough h = split (eightOf t root d l) (λ e. absurd (h (eight-why e))) (λ e. e)
+
+-- ---- a pause
+
+no-cells : (b : Bool) (x y : Aim) → (IsCells x → ⊥) → (IsCells y → ⊥) → IsCells (pick b x y) → ⊥
+no-cells true x y p q = p
+no-cells false x y p q = q
+
+pause-cells : (l : List ℕ) (k d : ℕ) → kindIn l ≡ 0 → IsCells (aimOf l k d) → ⊥
+unfolding aimOf
+pause-cells l k d z =
+    rw (eq-eqb (kindIn l) 0 z)
+    (no-cells (far k d) (No 2) _ (λ i. i)
+    (no-cells (malformed l) (No 13) _ (λ i. i) (no-cells (unending l) (No 14) _ (λ i. i) (no-cells (outside l k d) (No 3) Nothing (λ i. i) (λ i. i)))))
+
+-- A pause is refused only by 1, 2, 13, 4 and 10: no other number applies to it.
+pub pause-only : (t : Tables) (root d k : ℕ) (l : List ℕ) → kindIn l ≡ 0 → (n : ℕ) → EnterWhy t root d k l n → (n ≡ 1) ⊎ (n ≡ 2) ⊎ (n ≡ 13) ⊎ (n ≡ 4) ⊎ (n ≡ 10)
+pause-only t root d k l z = go
+  where
+    stops : (n : ℕ) → StopsBy t root d k l n → ⊥
+    stops n (atCell a b y i v j e h ok w) = pause-cells l k d z (subst IsCells (sym e) tt)
+
+    unends : Unending l → ⊥
+    unends (endlessX p e) = p z
+    unends (endlessY p e) = p z
+    unends (endlessZ p e) = p z
+    unends (endlessSecond p e) = omega arith
+
+    strays : RecordBeyond l k d → ⊥
+    strays (beyondX p e) = p z
+    strays (beyondY p e) = p z
+    strays (beyondZ p e) = p z
+    strays (beyondSecond p e) = omega arith
+
+    go : (n : ℕ) → EnterWhy t root d k l n → (n ≡ 1) ⊎ (n ≡ 2) ⊎ (n ≡ 13) ⊎ (n ≡ 4) ⊎ (n ≡ 10)
+    go n (unsizedEnter h) = inl refl
+    go n (deepEnter h) = inr (inl refl)
+    go n (fineEnter h) = inr (inl refl)
+    go n (malformedEnter h) = inr (inr (inl refl))
+    go n (unendingEnter h) = absurd (unends h)
+    go n (beyondEnter h) = absurd (strays h)
+    go n (deadEnter p h) = inr (inr (inr (inl refl)))
+    go n (tallEnter p h) = absurd (p z)
+    go n (fullPause p h i) = inr (inr (inr (inr refl)))
+    go n (fullCell h) = absurd (stops n h)
+    go n (crowdedCell h) = absurd (stops n h)
