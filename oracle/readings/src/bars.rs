@@ -123,7 +123,7 @@ pub fn small_arenas(seed: u64, rounds: u64, tally: &mut Tally) -> Told {
 
 /// A bar that comes upon 1,000,000 holds at any of its cells: on the root that it has there, or has had.
 fn with_holds(random: &mut Random, tally: &mut Tally) -> Told {
-    let capacity = 12 + random.below(LARGEST - 11);
+    let capacity = 5 + random.below(LARGEST - 4);
     let mut sides = Sides::fresh(capacity, tally);
     let bar = loop {
         let bar = Bar::new(2 + random.below(5) as u32, random);

@@ -356,10 +356,16 @@ impl Round<'_> {
     /// Changes words of the tables, or of the state.
     fn damage(&mut self) {
         let numbers = &mut self.numbers;
-        match numbers.below(4) {
+        match numbers.below(5) {
             0 => damage(numbers, self.tables.kids.words()),
             1 => damage(numbers, self.tables.facts.words()),
             2 => damage(numbers, self.tables.find.words()),
+            // As many holds as a node can have.
+            3 => {
+                let facts = self.tables.facts.words();
+                let slot = numbers.below(facts.len() / 7);
+                facts[7 * slot + 3] = 1_000_000;
+            }
             _ => {
                 let odd = numbers.odd() as usize;
                 match numbers.below(8) {
