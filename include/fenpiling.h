@@ -140,7 +140,7 @@ typedef struct fenpiling_looked {
     uint16_t value;
 } fenpiling_looked;
 
-/* What a record says. The numbers are in metres; those that the kind does not use are 0, and so is a pause's value. Of a refused record all of it is 0. */
+/* What a record says. The numbers are in metres; those that the kind does not use are 0, and so is a pause's value. Of a refused record all but the number is 0. */
 typedef struct fenpiling_reading {
     uint32_t no;
     uint32_t kind;
