@@ -5,10 +5,9 @@
 use listing::Lined;
 use listing::Ran;
 use listing::Run;
-use listing::WIDEST;
 use paths::IVec3;
 ghost use mathlib.Core.Path.{_≡_};
-ghost use Prim.Native.Nat.{_+_, _*_, _<_, _≤_, min};
+ghost use Prim.Native.Nat.{_+_, _*_, _<_, _≤_};
 ghost use lib.ListN.{length};
 ghost use Rattle.basics.specs.Limits.{deepest, cubeKids};
 ghost use Rattle.arena.specs.Calls.{Fair};
@@ -88,12 +87,6 @@ fn record_in(bytes: &[u8], i: usize) -> &[u8]
     &bytes[from..from + RECORD]
 }
 
-fn least(x: usize, y: usize) -> usize
-    ensures { λ r. ⌜ r ≡ min x y ⌝ }
-{
-    if x < y { x } else { y }
-}
-
 // Edits the whole records of `bytes`, as far as `out` has room for their lines, and writes the lines at the start of `out`.
 pub fn edit_records(
     run: Run,
@@ -107,7 +100,7 @@ pub fn edit_records(
         × (Fair cubeKids deepest (before run kids facts find .tables)
         → told r kids facts find out ≡ toldOf edits (before run kids facts find) (now (bytes .entry)) (now (out .entry)) (r .records)) ⌝ }
 {
-    let most = least(bytes.len() / RECORD, out.len() / WIDEST);
+    let most = listing::taken(bytes.len() / RECORD, out.len());
     let mut now = run;
     let mut i: usize = 0;
     let mut len: usize = 0;

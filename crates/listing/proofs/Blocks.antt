@@ -1,7 +1,7 @@
 -- The records of a block, one after the other.
 use mathlib.Core.Path.{_≡_, refl, sym, ap, ap₂, _∙_}
 use mathlib.Core.List.{List, [], _∷_, _++_, append-nil}
-use Prim.Native.Nat.{ℕ, zero, suc, _+_, _-_, _*_, _/_, _≤_, _<_, min}
+use Prim.Native.Nat.{ℕ, zero, suc, _+_, _-_, _*_, _/_, _≤_, _<_}
 use native.Mathlib.Nat.{zero-add, suc-add}
 use native.Mathlib.Numerals.{add-one}
 use native.Mathlib.Omega.{arith}
@@ -65,6 +65,14 @@ module _ (k : Records) (s : State) (b o₀ : List ℕ) (i : ℕ) where
 
 -- ---- how many
 
+pub taken-all : (n room m : ℕ) → m ≡ room / 84 → n < m → n ≡ takenOf n room
+unfolding takenOf
+taken-all n room m e h = omega arith
+
+pub taken-lines : (n room m : ℕ) → m ≡ room / 84 → m ≤ n → m ≡ takenOf n room
+unfolding takenOf
+taken-lines n room m e h = omega arith
+
 taken-most : (n room : ℕ) → takenOf n room ≤ n
 unfolding takenOf
 taken-most n room = omega arith
@@ -91,13 +99,12 @@ kept-none : (k : Records) (s : State) (b o : List ℕ) → _≡_ {A = Progress} 
 unfolding keptAt stateAt linesAt putsFrom
 kept-none k s b o = refl
 
-pub loop-begun : (k : Records) (n : ℕ) (run : Run) (k₀ f₀ e₀ b o₀ : List ℕ) (most x y : ℕ) → x ≡ n → y ≡ length o₀ / 84 → most ≡ min x y
+pub loop-begun : (k : Records) (n : ℕ) (run : Run) (k₀ f₀ e₀ b o₀ : List ℕ) (most x : ℕ) → x ≡ n → most ≡ takenOf x (length o₀)
     → Loop k n run k₀ f₀ e₀ b o₀ most run k₀ f₀ e₀ o₀ 0 0
-unfolding takenOf
-loop-begun k n run k₀ f₀ e₀ b o₀ most x y ex ey e = record {
+loop-begun k n run k₀ f₀ e₀ b o₀ most x ex e = record {
   within = omega arith;
   short = omega arith;
-  many = e ∙ ap₂ min ex ey;
+  many = e ∙ ap (λ (j : ℕ). takenOf j (length o₀)) ex;
   kids = refl;
   facts = refl;
   find = refl;

@@ -14,11 +14,11 @@ ghost use Rattle.basics.specs.Puts.{putsFrom};
 ghost use Rattle.ids_text.specs.Text.{textOf};
 ghost use Rattle.arena.specs.Calls.{Fair};
 ghost use Rattle.listing.specs.Lent.{handed, stepped, lined};
-ghost use Rattle.listing.specs.Listing.{digitsOf, decimal, lineOf, widest, shortOf, endingOf, linedOf, startOf};
+ghost use Rattle.listing.specs.Listing.{digitsOf, decimal, lineOf, widest, shortOf, endingOf, linedOf, startOf, takenOf};
 ghost use Rattle.listing.specs.Models.{steppedOf};
 
 // A line has at most so many bytes.
-pub const WIDEST: usize = 84;
+const WIDEST: usize = 84;
 
 // What stands between two records: the arena's state, the root, and how many records there were.
 pub struct Run {
@@ -164,6 +164,14 @@ pub fn start(capacity: usize, kids: &mut [u64], facts: &mut [u64], find: &mut [u
         },
         no: fresh.no,
     }
+}
+
+// How many of so many records a block takes: all, as far as there is room for their lines.
+pub fn taken(records: usize, room: usize) -> usize
+    ensures { λ r. ⌜ r ≡ takenOf records room ⌝ }
+{
+    let lines = room / WIDEST;
+    if records < lines { records } else { lines }
 }
 
 // From a root and a count, after the answer to a record: accepted, its id is the root and the old root is released; refused, the old root stays.

@@ -1,0 +1,10 @@
+use borrow.Author.Needs.{needs}
+use Rattle.reading_listing.proofs.Records.{record-cut, record-whole}
+use Rattle.reading_listing.proofs.record_in.Statement.{statement}
+use Rattle.reading_listing.proofs.record_in.Tie as tie
+
+pub record-in-spec : {M : Type 1} → statement M
+record-in-spec =
+    tie.close
+    (tie.spec (λ c. search needs) (λ c. search needs) (λ c. search needs) (λ c. search needs) (λ c. search needs) (λ c. search record-cut)
+    (λ c. search needs) (λ c. search needs) (λ c. search needs) (λ c. search needs) (λ c. search record-whole))
