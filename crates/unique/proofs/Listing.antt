@@ -1,4 +1,4 @@
--- The contract of each call of the listing determines its answer and what it leaves.
+-- The contract of each call of the listings determines its answer and what it leaves.
 use mathlib.Core.Path.{_≡_, refl, sym, ap, ap₂, _∙_}
 use mathlib.Core.List.{List}
 use Prim.Native.Nat.{ℕ}
@@ -6,7 +6,8 @@ use Rattle.listing.specs.declared.Ran.{Ran}
 use Rattle.listing.specs.declared.Step.{Step}
 use Rattle.listing.specs.Listing.{Stepped, Told, stateOf, toldOf}
 use Rattle.edit_listing.specs.Listing.{edits}
-use Rattle.unique.specs.Listing.{Listing, start, records, ending, ListingSaid, ListingMeets, ListingSpeaks, steppedOf, ranOf}
+use Rattle.reading_listing.specs.Listing.{readings}
+use Rattle.unique.specs.Listing.{Listing, start, records, readingRecords, ending, ListingSaid, ListingMeets, ListingSpeaks, steppedOf, ranOf}
 use Rattle.unique.proofs.One.{one}
 
 stepped-one : {o : Stepped} (a b : Step × List ℕ × List ℕ × List ℕ) → steppedOf a ≡ o → steppedOf b ≡ o → a ≡ b
@@ -34,4 +35,6 @@ pub listing-determined : (q : Listing) → ListingSpeaks q → (a b : ListingSai
 listing-determined (start c k f e) s a b p q = stepped-one a b p q
 listing-determined (records r k f e x o) s a b p q =
     ran-one a b (p .1 s) (q .1 s ∙ ap (toldOf edits (stateOf r k f e) x o) (q .0 ∙ sym (p .0)))
+listing-determined (readingRecords r k f e i x o) s a b p q =
+    ran-one a b (p .1 s) (q .1 s ∙ ap (toldOf (readings i) (stateOf r k f e) x o) (q .0 ∙ sym (p .0)))
 listing-determined (ending r cut o) s a b p q = ap₂ (λ (n : ℕ) (l : List ℕ). (n, l)) (p .1 ∙ sym (q .1)) (p .0 ∙ sym (q .0))

@@ -1,4 +1,4 @@
--- The calls of the listing of edit records with what they are handed, what each answers and leaves, and its contract as the source has it.
+-- The calls of the listings of edit records and of readings with what they are handed, what each answers and leaves, and its contract as the source has it.
 use mathlib.Core.Path.{_≡_}
 use mathlib.Core.List.{List}
 use Prim.Native.Nat.{ℕ}
@@ -11,17 +11,20 @@ use Rattle.listing.specs.declared.Ran.{Ran}
 use Rattle.listing.specs.declared.Step.{Step}
 use Rattle.listing.specs.Listing.{Stepped, Told, stateOf, startOf, takenOf, toldOf, endingOf}
 use Rattle.edit_listing.specs.Listing.{wholeIn, edits}
+use Rattle.reading_listing.specs.Listing.{allIn, readings}
 
 -- A call: the run that it is handed, and the lists that are lent: the tables k, f and e, the bytes, and the room o for what it writes.
 pub data Listing : Type 0 where
   start : (capacity : ℕ) (k f e : List ℕ) → Listing
   records : Run → (k f e bytes o : List ℕ) → Listing
+  readingRecords : Run → (k f e : List ℕ) (edge : ℕ) (bytes o : List ℕ) → Listing
   ending : Run → (cut : ℕ) (o : List ℕ) → Listing
 
 -- what it answers, and what it can write of what is lent
 abbrev pub ListingSaid : Listing → Type 0
 ListingSaid (start c k f e) = Step × List ℕ × List ℕ × List ℕ
 ListingSaid (records r k f e b o) = Ran × List ℕ × List ℕ × List ℕ × List ℕ
+ListingSaid (readingRecords r k f e i b o) = Ran × List ℕ × List ℕ × List ℕ × List ℕ
 ListingSaid (ending r cut o) = ℕ × List ℕ
 
 -- as one record
@@ -36,10 +39,13 @@ abbrev pub ListingMeets : (q : Listing) → ListingSaid q → Type 0
 ListingMeets (start c k f e) a = steppedOf a ≡ startOf c k f e
 ListingMeets (records r k f e b o) a =
     (a .0 .records ≡ takenOf (wholeIn (length b)) (length o)) × (Fair cubeKids deepest (stateOf r k f e .tables) → ranOf a ≡ toldOf edits (stateOf r k f e) b o (a .0 .records))
+ListingMeets (readingRecords r k f e i b o) a =
+    (a .0 .records ≡ takenOf (allIn (length b)) (length o)) × (Fair cubeKids deepest (stateOf r k f e .tables) → ranOf a ≡ toldOf (readings i) (stateOf r k f e) b o (a .0 .records))
 ListingMeets (ending r cut o) a = (a .1 ≡ putsFrom o 0 (endingOf cut (r .arena .live))) × (a .0 ≡ length (endingOf cut (r .arena .live)))
 
 -- on which tables it speaks
 abbrev pub ListingSpeaks : Listing → Type 0
 ListingSpeaks (start c k f e) = Unit {0}
 ListingSpeaks (records r k f e b o) = Fair cubeKids deepest (stateOf r k f e .tables)
+ListingSpeaks (readingRecords r k f e i b o) = Fair cubeKids deepest (stateOf r k f e .tables)
 ListingSpeaks (ending r cut o) = Unit {0}

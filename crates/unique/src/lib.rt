@@ -22,7 +22,7 @@ use paths::IVec3;
 use read_cell::Looked;
 ghost use Rattle.unique.specs.Asked.{PlainMeets, fromRaw, raw, packingNo, newLeaf, newBranch, index, generation, types, mask, hasChild, isLeaf, isBranch, isInvalid, isValid, isEmpty, text, path, position, child, parse};
 ghost use Rattle.unique.specs.Asked.{Meets, fresh, hold, counts, leaf, branch, release, look, expand, edit, enter, check};
-ghost use Rattle.unique.specs.Listing.{ListingMeets, start, records, ending};
+ghost use Rattle.unique.specs.Listing.{ListingMeets, start, records, readingRecords, ending};
 ghost use Rattle.unique.specs.Exports as exports;
 ghost use Rattle.unique.specs.Exports.{ExportMeets};
 ghost use Rattle.arena.specs.Lent.{before};
@@ -307,7 +307,7 @@ fn exported_parse_meets(bytes: &[u8]) -> ReadingFields
     capi_readings::fenpiling_parse_reading(bytes)
 }
 
-// ---- the listing of edit records
+// ---- the listings of edit records and of readings
 
 fn start_meets(capacity: usize, kids: &mut [u64], facts: &mut [u64], find: &mut [u16]) -> Step
     ensures { λ r. ⌜ ListingMeets (start capacity (now (kids .entry)) (now (facts .entry)) (now (find .entry))) (r, now (kids .exit), now (facts .exit), now (find .exit)) ⌝ }
@@ -326,6 +326,20 @@ fn records_meets(
     ensures { λ r. ⌜ ListingMeets (records run (now (kids .entry)) (now (facts .entry)) (now (find .entry)) (now (bytes .entry)) (now (out .entry))) (r, now (kids .exit), now (facts .exit), now (find .exit), now (out .exit)) ⌝ }
 {
     edit_listing::edit_records(run, kids, facts, find, bytes, out)
+}
+
+fn reading_records_meets(
+    run: Run,
+    kids: &mut [u64],
+    facts: &mut [u64],
+    find: &mut [u16],
+    k: u32,
+    bytes: &[u8],
+    out: &mut [u8],
+) -> Ran
+    ensures { λ r. ⌜ ListingMeets (readingRecords run (now (kids .entry)) (now (facts .entry)) (now (find .entry)) k (now (bytes .entry)) (now (out .entry))) (r, now (kids .exit), now (facts .exit), now (find .exit), now (out .exit)) ⌝ }
+{
+    reading_listing::enter_records(run, kids, facts, find, k, bytes, out)
 }
 
 fn ending_meets(run: Run, cut: usize, out: &mut [u8]) -> usize
