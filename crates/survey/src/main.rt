@@ -257,7 +257,7 @@ fn list_input(arguments: usize, k: u32) {
 fn say_usage() {
     io::write_all(
         STDERR_FILENO,
-        b"usage: survey K [FILE]: readings of 40 bytes, K a number in digits, the edge 2^-K metres\n",
+        b"usage: survey K [FILE], with K in digits: an edge of 2^-K metres\n",
     );
 }
 

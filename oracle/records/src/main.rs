@@ -1,7 +1,13 @@
-//! What the program `edits` has to write, by a plain reading of document 01: an array of cells beside the reference arena, each edit by path copy.
+//! What the program `edits` has to write, by a plain reading of document 01: an array of cells beside the reference arena, each edit by path copy. And
+//! what `survey` has to write.
 //!
-//!     records FILE               the listing of a file's records
-//!     records random COUNT SEED  so many records at random, on standard output
+//!     records FILE                        the listing of a file's edits
+//!     records random COUNT SEED           so many edits at random, on standard output
+//!     records survey K FILE               the listing of a file's readings, with an edge of 2^-K metres
+//!     records survey random COUNT SEED K  so many readings at random, on standard output
+//!     records survey sample               samples/survey.bin, on standard output
+mod readings;
+
 use reference::Random;
 use reference::arena::{Arena, Order};
 use reference::document01::{EMPTY, INVALID, is_leaf, text};
@@ -181,8 +187,20 @@ fn main() -> std::io::Result<()> {
     match words[..] {
         [file] => list(&std::fs::read(file)?, &mut out),
         ["random", count, seed] => random(count.parse().unwrap(), seed.parse().unwrap(), &mut out),
+        ["survey", "sample"] => readings::sample(&mut out),
+        ["survey", edge, file] => {
+            // A number too large to be read is too large for an edge.
+            let edge = edge.parse().unwrap_or(u32::MAX);
+            readings::list(&std::fs::read(file)?, edge, &mut out)
+        }
+        ["survey", "random", count, seed, edge] => {
+            let [count, seed, edge] = [count, seed, edge].map(|word| word.parse().unwrap());
+            readings::random(count as usize, seed, edge as u32, &mut out)
+        }
         _ => {
-            eprintln!("records FILE, or records random COUNT SEED");
+            eprintln!(
+                "records FILE, records random COUNT SEED, or records survey with K FILE, random COUNT SEED K, or sample"
+            );
             std::process::exit(2);
         }
     }
