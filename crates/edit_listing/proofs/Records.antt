@@ -23,12 +23,12 @@ use Rattle.edit_listing.specs.Listing.{recordWidth, wholeIn, word, cellI
 
 -- record i stands whole in the bytes
 pub record-is : (b : List ℕ) (i : ℕ) → i < wholeIn (length b)
-    → (take (8 * i + 8 - 8 * i) (drop (8 * i) b) ≡ recordIn recordWidth b i) × (recordWidth ≤ length (take (8 * i + 8 - 8 * i) (drop (8 * i) b)))
+    → (take (recordWidth * i + recordWidth - recordWidth * i) (drop (recordWidth * i) b) ≡ recordIn recordWidth b i) × (recordWidth ≤ length (take (recordWidth * i + recordWidth - recordWidth * i) (drop (recordWidth * i) b)))
 unfolding recordIn
 record-is b i h =
-    let w : 8 * i + 8 - 8 * i ≡ 8 = omega arith in
-    let e = ap (λ (n : ℕ). take n (drop (8 * i) b)) w in
-    (e, omega (arith, ap length e, length-take 8 (drop (8 * i) b), length-drop (8 * i) b))
+    let w : recordWidth * i + recordWidth - recordWidth * i ≡ recordWidth = omega arith in
+    let e = ap (λ (n : ℕ). take n (drop (recordWidth * i) b)) w in
+    (e, omega (arith, ap length e, length-take recordWidth (drop (recordWidth * i) b), length-drop (recordWidth * i) b))
 
 -- a coordinate of 16 bits is read back as it is
 coord-is : (x v : ℕ) → x ≡ v → x < 65536 → toZ w32 x ≡ pos v

@@ -1,7 +1,7 @@
 -- The records of a block, one after the other.
 use mathlib.Core.Path.{_≡_, refl, sym, ap, ap₂, _∙_}
 use mathlib.Core.List.{List, [], _∷_, _++_, append-nil}
-use Prim.Native.Nat.{ℕ, zero, suc, _+_, _-_, _*_, _/_, _≤_, _<_}
+use Prim.Native.Nat.{ℕ, suc, _+_, _-_, _*_, _/_, _≤_, _<_}
 use native.Mathlib.Nat.{zero-add, suc-add}
 use native.Mathlib.Numerals.{add-one}
 use native.Mathlib.Omega.{arith}
@@ -14,7 +14,7 @@ use Rattle.basics.specs.Puts.{putsFrom}
 use Rattle.basics.proofs.Puts.{puts-append}
 use Rattle.arena.specs.Tables.{tables}
 use Rattle.arena.specs.Calls.{Fair}
-use Rattle.listing.specs.Listing.{State, Progress, Records, stateOf, widest, recordIn, answerTo, stepTo, linedOf, stateAt, lineAt, linesAt, takenOf, Told, toldOf}
+use Rattle.listing.specs.Listing.{State, Progress, Records, stateOf, widest, recordIn, linedOf, stateAt, lineAt, linesAt, takenOf, Told, toldOf}
 use Rattle.listing.specs.Models.{oneOf, keptAt}
 use Rattle.listing.specs.declared.Run.{Run}
 use Rattle.listing.specs.declared.Lined.{Lined}
@@ -65,11 +65,11 @@ module _ (k : Records) (s : State) (b o₀ : List ℕ) (i : ℕ) where
 
 -- ---- how many
 
-pub taken-all : (n room m : ℕ) → m ≡ room / 84 → n < m → n ≡ takenOf n room
+pub taken-all : (n room m : ℕ) → m ≡ room / widest → n < m → n ≡ takenOf n room
 unfolding takenOf
 taken-all n room m e h = omega arith
 
-pub taken-lines : (n room m : ℕ) → m ≡ room / 84 → m ≤ n → m ≡ takenOf n room
+pub taken-lines : (n room m : ℕ) → m ≡ room / widest → m ≤ n → m ≡ takenOf n room
 unfolding takenOf
 taken-lines n room m e h = omega arith
 

@@ -1,6 +1,6 @@
 -- What the private functions here, and those of the listings over this one, come to.
 use mathlib.Core.List.{List}
-use Prim.Native.Nat.{ℕ, _+_}
+use Prim.Native.Nat.{ℕ}
 use lib.ListN.{length}
 use Rattle.basics.specs.Puts.{putsFrom}
 use Rattle.arena.specs.Calls.{Out}

@@ -211,7 +211,7 @@ fn step_to(
     }
 }
 
-// The same, with the record's line at the start of `out`.
+// From a root and a count, after the answer to a record, as above; and the record's line at the start of `out`.
 pub fn after_record(
     root: BlockId,
     count: u64,

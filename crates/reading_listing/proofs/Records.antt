@@ -1,7 +1,7 @@
 -- The records of readings: where one stands, and that each grants its answer and nothing else.
 use mathlib.Core.Path.{_≡_, sym, ap, _∙_}
 use mathlib.Core.List.{List}
-use Prim.Native.Nat.{ℕ, _+_, _-_, _*_, _≤_, _<_}
+use Prim.Native.Nat.{ℕ, _+_, _-_, _*_, _<_}
 use native.Mathlib.Omega.{arith}
 use lib.ListN.{length, take, drop, length-drop}
 use lib.Seq.{take-all}
@@ -13,13 +13,13 @@ use Rattle.listing.specs.Listing.{recordIn}
 use Rattle.listing.specs.Holding.{Enters}
 use Rattle.reading_listing.specs.Listing.{surveyDepth, readings}
 
-pub record-whole : (b : List ℕ) (i : ℕ) → take (40 * i + 40 - 40 * i) (drop (40 * i) b) ≡ recordIn recordBytes b i
+pub record-whole : (b : List ℕ) (i : ℕ) → take (recordBytes * i + recordBytes - recordBytes * i) (drop (recordBytes * i) b) ≡ recordIn recordBytes b i
 unfolding recordIn
-record-whole b i = let w : 40 * i + 40 - 40 * i ≡ 40 = omega arith in ap (λ (n : ℕ). take n (drop (40 * i) b)) w
+record-whole b i = let w : recordBytes * i + recordBytes - recordBytes * i ≡ recordBytes = omega arith in ap (λ (n : ℕ). take n (drop (recordBytes * i) b)) w
 
-pub record-cut : (b : List ℕ) (i : ℕ) → length b - 40 * i < 40 → take (length b - 40 * i) (drop (40 * i) b) ≡ recordIn recordBytes b i
+pub record-cut : (b : List ℕ) (i : ℕ) → length b - recordBytes * i < recordBytes → take (length b - recordBytes * i) (drop (recordBytes * i) b) ≡ recordIn recordBytes b i
 unfolding recordIn
-record-cut b i h = part-to-end b (40 * i) ∙ sym (take-all 40 (drop (40 * i) b) (omega (arith, length-drop (40 * i) b)))
+record-cut b i h = part-to-end b (recordBytes * i) ∙ sym (take-all recordBytes (drop (recordBytes * i) b) (omega (arith, length-drop (recordBytes * i) b)))
 
 pub readings-enter : (k : ℕ) → Enters (readings k)
 readings-enter k = record {

@@ -5,6 +5,7 @@
 use listing::Lined;
 use listing::Ran;
 use listing::Run;
+use metres::RECORD_BYTES;
 ghost use mathlib.Core.Path.{_≡_};
 ghost use Prim.Native.Nat.{_<_, _≤_};
 ghost use lib.ListN.{length};
@@ -16,9 +17,6 @@ ghost use Rattle.listing.specs.Listing.{widest, recordIn, takenOf, toldOf};
 ghost use Rattle.listing.specs.Models.{oneOf};
 ghost use Rattle.reading_listing.specs.Listing.{readings, allIn};
 
-// A record has so many bytes.
-const RECORD: usize = 40;
-
 // The depth of the cells.
 const DEPTH: u32 = 6;
 
@@ -26,7 +24,7 @@ const DEPTH: u32 = 6;
 fn records_in(bytes: &[u8]) -> usize
     ensures { λ r. ⌜ r ≡ allIn (length (now (bytes .entry))) ⌝ }
 {
-    (bytes.len() + (RECORD - 1)) / RECORD
+    (bytes.len() + (RECORD_BYTES - 1)) / RECORD_BYTES
 }
 
 // Record i: forty bytes, or as many as are left.
@@ -34,11 +32,11 @@ fn record_in(bytes: &[u8], i: usize) -> &[u8]
     requires { ⌜ i < allIn (length (now bytes)) ⌝ }
     ensures { λ r. ⌜ now r ≡ recordIn recordBytes (now (bytes .entry)) i ⌝ }
 {
-    let from = RECORD * i;
-    if bytes.len() - from < RECORD {
+    let from = RECORD_BYTES * i;
+    if bytes.len() - from < RECORD_BYTES {
         return &bytes[from..];
     }
-    &bytes[from..from + RECORD]
+    &bytes[from..from + RECORD_BYTES]
 }
 
 // One record, its line at the start of `out`.

@@ -1,17 +1,15 @@
 -- A text read digit by digit: every number from tooFine on is kept as tooFine.
-use mathlib.Core.Path.{_≡_, refl, sym, ap, _∙_}
+use mathlib.Core.Path.{_≡_, sym, ap, _∙_}
 use mathlib.Core.Bool.{true, false}
 use mathlib.Core.List.{List, [], _∷_}
 use Prim.Native.Nat.{ℕ, suc, _+_, _-_, _*_, _≤_, _<_, min}
 use native.Mathlib.Numerals.{add-one}
 use native.Mathlib.Omega.{arith}
-use lib.Dec.{leb}
 use lib.ListN.{length, getD, drop, drop-of-length-le}
 use lib.Seq.{drop-cons}
 use borrow.Author.Tests.{eq-eqb, ne-eqb, le-leb, lt-leb}
 use Rattle.basics.specs.Pick.{pick}
 use Rattle.survey.specs.Digits.{digit, allDigits, numberFrom, tooFine, edgeAfter, edgeOf}
-use Rattle.survey.specs.declared.Edge.{Edge}
 use Rattle.survey.specs.declared.Edge.the-variants.{Of, Unsaid}
 
 pub edge-empty : (s : List ℕ) → length s ≡ 0 → Unsaid ≡ edgeOf s

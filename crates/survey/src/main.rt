@@ -9,10 +9,12 @@ ghost use mathlib.Core.Path.{_≡_};
 ghost use Prim.Native.Nat.{_+_, _≤_, min};
 ghost use lib.ListN.{length};
 ghost use Rattle.survey.specs.Digits.{tooFine, edgeOf};
+use basics::FINEST_EDGE;
 use libc::STDERR_FILENO;
 use libc::STDIN_FILENO;
 use libc::STDOUT_FILENO;
 use listing::Run;
+use metres::RECORD_BYTES;
 
 // The slots of the arena. Its tables have 8 and 7 words and 3 cells a slot, 64,512 bytes.
 const SLOTS: usize = 512;
@@ -24,14 +26,12 @@ const FACTS: usize = 3584;
 const CELLS: usize = 1536;
 
 // Eight records are read at a time, and their lines have at most 84 bytes each: with the tables that is still within 64 KiB.
-const RECORD: usize = 40;
-
 const BLOCK: usize = 320;
 
 const LINES: usize = 672;
 
 // Stands for every k that is too large.
-const TOO_FINE: u32 = 7;
+const TOO_FINE: u32 = FINEST_EDGE + 1;
 
 // What the argument K says.
 enum Edge {
@@ -108,7 +108,7 @@ fn fill(fd: i32, block: &mut [u8]) -> Got
         let got = read_on(fd, block, len);
         if got.failed {
             return Got {
-                len: len - len % RECORD,
+                len: len - len % RECORD_BYTES,
                 failed: true,
             };
         }
@@ -216,7 +216,7 @@ fn capped(k: u32) -> u32
     if k < TOO_FINE { k } else { TOO_FINE }
 }
 
-// The k that the first argument says.
+// The k that the first argument says. One longer than 4,096 bytes says none.
 fn edge_argument() -> Edge {
     let mut text = io::buffer();
     let length = os::arg(1, &mut text);

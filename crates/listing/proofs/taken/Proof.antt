@@ -1,4 +1,3 @@
-use borrow.Author.Needs.{needs}
 use Rattle.listing.proofs.Blocks.{taken-all, taken-lines}
 use Rattle.listing.proofs.taken.Statement.{statement}
 use Rattle.listing.proofs.taken.Tie as tie

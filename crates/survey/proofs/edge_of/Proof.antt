@@ -2,7 +2,6 @@
 use borrow.Author.Needs.{needs}
 use mathlib.Core.Path.{_≡_}
 use Prim.Native.Nat.{_-_, _≤_}
-use native.Mathlib.Omega.{arith}
 use lib.ListN.{length, drop}
 use Rattle.survey.specs.Digits.{tooFine, edgeAfter, edgeOf}
 use Rattle.survey.proofs.Digits.{edge-empty, edge-begun, edge-low, edge-high, edge-again, edge-done}
