@@ -15,9 +15,10 @@ use Rattle.arena.specs.Calls.{Out}
 use Rattle.edit.specs.Edit.{editOf}
 use Rattle.edit.proofs.Edits.{edit-unfit}
 use Rattle.edit.proofs.Does.{edit-does}
-use Rattle.listing.specs.Listing.{recordIn, Bytes}
+use Rattle.basics.specs.Bytes.{Bytes, word16}
+use Rattle.listing.specs.Listing.{recordIn}
 use Rattle.listing.specs.Holding.{Enters}
-use Rattle.edit_listing.specs.Listing.{recordWidth, wholeIn, word, cellIn, valueIn, recordDepth, editIn, edits}
+use Rattle.edit_listing.specs.Listing.{recordWidth, wholeIn, cellIn, valueIn, recordDepth, editIn, edits}
 
 -- ---- a record, and its numbers
 
@@ -34,13 +35,13 @@ record-is b i h =
 coord-is : (x v : ℕ) → x ≡ v → x < 65536 → toZ w32 x ≡ pos v
 coord-is x v e h = toZ-ofZ w32 (pos x) (record { sfits = omega arith }) ∙ ap pos e
 
-pub cell-is : (r : List ℕ) (x y z : ℕ) → x ≡ word r 0 → x < 65536 → y ≡ word r 2 → y < 65536 → z ≡ word r 4 → z < 65536
+pub cell-is : (r : List ℕ) (x y z : ℕ) → x ≡ word16 r 0 → x < 65536 → y ≡ word16 r 2 → y < 65536 → z ≡ word16 r 4 → z < 65536
     → _≡_ {A = IVec3} (record { x = toZ w32 x; y = toZ w32 y; z = toZ w32 z }) (cellIn r)
 unfolding cellIn
-cell-is r x y z ex hx ey hy ez hz = rw (coord-is x (word r 0) ex hx, coord-is y (word r 2) ey hy, coord-is z (word r 4) ez hz)
+cell-is r x y z ex hx ey hy ez hz = rw (coord-is x (word16 r 0) ex hx, coord-is y (word16 r 2) ey hy, coord-is z (word16 r 4) ez hz)
 
 value-small : (r : List ℕ) → Bytes r → valueIn r ≤ largestValue
-unfolding valueIn word
+unfolding valueIn
 value-small r h = omega (arith, h 6, h 7)
 
 -- ---- what an edit asks of the tables, and grants

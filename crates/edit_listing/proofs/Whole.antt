@@ -6,7 +6,8 @@ use Prim.Native.Nat.{ℕ, _+_}
 use native.Mathlib.Omega.{arith}
 use lib.ListN.{length, length-append}
 use Rattle.arena.specs.Calls.{fitOf}
-use Rattle.listing.specs.Listing.{State, recordIn, stateAt, startOf, listingAt, Entered, Bytes}
+use Rattle.basics.specs.Bytes.{Bytes}
+use Rattle.listing.specs.Listing.{State, recordIn, stateAt, startOf, listingAt, Entered}
 use Rattle.listing.specs.Holding.{OldReleased, HoldsRoot}
 use Rattle.listing.proofs.Whole.{entered-stands, entered-listing}
 use Rattle.listing.proofs.Holding.{run-holds-root, run-releases}

@@ -1,7 +1,8 @@
 -- The listing of edits: what records of eight bytes come to.
 use mathlib.Core.List.{List}
-use Prim.Native.Nat.{ℕ, _+_, _*_, _/_, _%_}
-use lib.ListN.{length, getD}
+use Prim.Native.Nat.{ℕ, _/_, _%_}
+use lib.ListN.{length}
+use Rattle.basics.specs.Bytes.{word16}
 use Rattle.paths.specs.declared.IVec3.{IVec3}
 use Rattle.paths.specs.Paths.{place}
 use Rattle.arena.specs.Tables.{Tables}
@@ -13,16 +14,12 @@ use Rattle.listing.specs.Listing.{State, Records, listingAt}
 abbrev pub recordWidth : ℕ
 recordWidth = 8
 
--- the number of 16 bits at a place of the bytes r, low byte first
-unfoldable pub word : List ℕ → ℕ → ℕ
-word r at = getD r at 0 + 256 * getD r (at + 1) 0
-
 -- a record r: x, y and z, and the value
 unfoldable pub cellIn : List ℕ → IVec3
-cellIn r = place (word r 0) (word r 2) (word r 4)
+cellIn r = place (word16 r 0) (word16 r 2) (word16 r 4)
 
 unfoldable pub valueIn : List ℕ → ℕ
-valueIn r = word r 6
+valueIn r = word16 r 6
 
 -- the depth of the cell that a record names
 abbrev pub recordDepth : ℕ

@@ -9,12 +9,13 @@ use paths::IVec3;
 ghost use mathlib.Core.Path.{_≡_};
 ghost use Prim.Native.Nat.{_+_, _*_, _<_, _≤_};
 ghost use lib.ListN.{length};
+ghost use Rattle.basics.specs.Bytes.{word16};
 ghost use Rattle.basics.specs.Limits.{deepest, cubeKids};
 ghost use Rattle.arena.specs.Calls.{Fair};
 ghost use Rattle.listing.specs.Lent.{before, after, lined, told};
 ghost use Rattle.listing.specs.Listing.{widest, recordIn, takenOf, toldOf};
 ghost use Rattle.listing.specs.Models.{oneOf};
-ghost use Rattle.edit_listing.specs.Listing.{recordWidth, word as wordIn, cellIn, valueIn, wholeIn, edits};
+ghost use Rattle.edit_listing.specs.Listing.{recordWidth, cellIn, valueIn, wholeIn, edits};
 
 // A record has so many bytes.
 const RECORD: usize = 8;
@@ -31,7 +32,7 @@ fn wide(byte: u8) -> u16
 // The number of 16 bits at a place of a record's bytes, low byte first.
 fn word(bytes: &[u8], at: usize) -> u16
     requires { ⌜ at + 1 < length (now bytes) ⌝ }
-    ensures { λ r. ⌜ (r ≡ wordIn (now (bytes .entry)) at) × (r < 65536) ⌝ }
+    ensures { λ r. ⌜ (r ≡ word16 (now (bytes .entry)) at) × (r < 65536) ⌝ }
 {
     wide(bytes[at]) + 256 * wide(bytes[at + 1])
 }

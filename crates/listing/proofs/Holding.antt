@@ -18,7 +18,8 @@ use Rattle.calls.specs.Living.{HeldAlone}
 use Rattle.calls.proofs.Arena.{release-does}
 use Rattle.calls.proofs.Follows.{fresh-made}
 use Rattle.calls.proofs.Living.{held-released, alone-lives, alone-counted}
-use Rattle.listing.specs.Listing.{State, Records, stepTo, recordIn, answerTo, stateAt, startOf, Entered, Bytes}
+use Rattle.basics.specs.Bytes.{Bytes}
+use Rattle.listing.specs.Listing.{State, Records, stepTo, recordIn, answerTo, stateAt, startOf, Entered}
 use Rattle.listing.specs.Holding.{Grants, Enters, OldReleased, HoldsRoot}
 use Rattle.listing.proofs.Steps.{step-either}
 use Rattle.listing.proofs.Whole.{record-bytes, records-well, start-well, entered-stands, entered-well}

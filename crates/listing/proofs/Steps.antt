@@ -17,7 +17,8 @@ use Rattle.arena.specs.declared.Made.{Made}
 use Rattle.arena.specs.declared.Answer.{Answer}
 use Rattle.arena.proofs.Releasing.{release-well}
 use Rattle.calls.proofs.Arena.{release-fair}
-use Rattle.listing.specs.Listing.{State, Stepped, Progress, Records, stateOf, lineOf, oneMore, stepTo, answerTo, linedOf, startOf, Bytes}
+use Rattle.basics.specs.Bytes.{Bytes}
+use Rattle.listing.specs.Listing.{State, Stepped, Progress, Records, stateOf, lineOf, oneMore, stepTo, answerTo, linedOf, startOf}
 use Rattle.listing.specs.Models.{steppedOf, oneOf}
 use Rattle.listing.specs.Holding.{Enters}
 use Rattle.listing.specs.declared.Run.{Run}

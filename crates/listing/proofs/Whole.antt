@@ -17,7 +17,8 @@ use Rattle.nodes.proofs.Sums.{cases}
 use Rattle.arena.specs.Tables.{WellFormed}
 use Rattle.arena.specs.Calls.{Out, fitOf, fits, freshOf}
 use Rattle.arena.proofs.Holding.{fresh-well}
-use Rattle.listing.specs.Listing.{State, Records, decimal, lineOf, widest, oneMore, stepTo, recordIn, answerTo, stateAt, lineAt, linesAt, startOf, endingOf, listingAt, Entered, begun, block, Stands, Bytes}
+use Rattle.basics.specs.Bytes.{Bytes}
+use Rattle.listing.specs.Listing.{State, Records, decimal, lineOf, widest, oneMore, stepTo, recordIn, answerTo, stateAt, lineAt, linesAt, startOf, endingOf, listingAt, Entered, begun, block, Stands}
 use Rattle.listing.specs.Holding.{Enters}
 use Rattle.listing.proofs.Puts.{text-short, digits-short}
 use Rattle.listing.proofs.Steps.{step-refused, step-well, step-count}

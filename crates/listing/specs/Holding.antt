@@ -10,7 +10,8 @@ use Rattle.arena.specs.Calls.{Out, refused, fits, releaseOf}
 use Rattle.ledger.specs.Ledger.{on, ifAccepted, Balanced}
 use Rattle.ledger.specs.Fates.{Lives}
 use Rattle.calls.specs.Living.{HeldAlone, NodeOf, NodesOf}
-use Rattle.listing.specs.Listing.{State, Records, answerTo, Bytes}
+use Rattle.basics.specs.Bytes.{Bytes}
+use Rattle.listing.specs.Listing.{State, Records, answerTo}
 
 -- The tables stay well formed, one hold is granted on the answer if it is accepted, and no other hold is granted or taken.
 pub record Grants (t : Tables) (o : Out) : Type 0 where

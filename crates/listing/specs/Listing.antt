@@ -165,7 +165,3 @@ pub record Stands (k : Records) (s : State) (b : List ℕ) (t : State) (lines : 
   pub whole : length b ≡ k .width * many
   pub state : t ≡ stateAt k s b many
   pub listed : lines ≡ linesAt k s b many
-
--- bytes
-abbrev pub Bytes : List ℕ → Type 0
-Bytes b = (i : ℕ) → getD b i 0 < 256

@@ -14,7 +14,8 @@ use borrow.Author.Tests.{lt-ltb, le-ltb}
 use Rattle.basics.specs.Limits.{deepest, finestEdge}
 use Rattle.basics.specs.Pick.{pick}
 use Rattle.metres.specs.Bits.{finite, placed, missed, cellNumber, cellOf}
-use Rattle.metres.specs.Record.{Bytes, word64, kindIn, valueIn, xIn, yIn, zIn, secondIn, lastIn, malformed, allFinite, unending, outside, pointAt, said, readingOf, aimOf}
+use Rattle.basics.specs.Bytes.{Bytes, word64}
+use Rattle.metres.specs.Record.{kindIn, valueIn, xIn, yIn, zIn, secondIn, lastIn, malformed, allFinite, unending, outside, pointAt, said, readingOf, aimOf}
 use Rattle.metres.specs.Models.{spotIn, cellsIn, cellsOf, aimAt}
 use Rattle.metres.specs.declared.Coordinate.{Coordinate}
 use Rattle.metres.specs.declared.Coordinate.the-variants.{At, Outside}

@@ -16,7 +16,8 @@ use Rattle.basics.specs.Ladder.{ladder, order, Decides, Listed, Given}
 use Rattle.basics.proofs.Ladder.{off, out, tells, via, ladder-given}
 use Rattle.basics.proofs.Rungs.{past-no}
 use Rattle.metres.specs.Bits.{negative, exponent, fraction, nan, finite, size, units, less, belowBits, floorOf, placed, missed, cellNumber, cellOf}
-use Rattle.metres.specs.Record.{Bytes, recordBytes, kindIn, valueIn, spareIn, xIn, yIn, zIn, secondIn, lastIn, wrong, malformed, allFinite, unending, outside, said, readingOf, fieldsAt, fieldsIn, fieldsOf, fieldsBy, structOf, aimOf}
+use Rattle.basics.specs.Bytes.{Bytes}
+use Rattle.metres.specs.Record.{recordBytes, kindIn, valueIn, spareIn, xIn, yIn, zIn, secondIn, lastIn, wrong, malformed, allFinite, unending, outside, said, readingOf, fieldsAt, fieldsIn, fieldsOf, fieldsBy, structOf, aimOf}
 use Rattle.metres.specs.Why.{Malformed, wrongLength, unknownKind, spareBytes, pauseValue, pauseX, pauseY, pauseZ, pauseSecond, shotSecond, barFalls, Endless, Unending, endlessX, endlessY, endlessZ, endlessSecond, Off, belowZero, tooFar, Beyond, beyondX, beyondY, beyondZ, beyondSecond, RecordWhy, deepRecord, fineRecord, malformedRecord, unendingRecord, beyondRecord, aimNo, recordRungs, Floor, Aimed}
 use Rattle.metres.specs.declared.Coordinate.the-variants.{At, Outside}
 use Rattle.metres.specs.declared.Aim.the-variants.{Nothing, Cells, No}

@@ -1,10 +1,11 @@
 -- What a record in metres says, and the cells that it asks for, over its bytes alone.
 use mathlib.Core.Bool.{Bool, true, not, _&&_, _||_}
 use mathlib.Core.List.{List}
-use Prim.Native.Nat.{ℕ, _+_, _*_, _<_}
-use lib.ListN.{length, getD}
+use Prim.Native.Nat.{ℕ}
+use lib.ListN.{length}
 use lib.Dec.{ltb, eqb}
 use lib.Ieee.{Float, binary64, ofBits, toBits}
+use Rattle.basics.specs.Bytes.{word16, word32, word64}
 use Rattle.basics.specs.Limits.{deepest, finestEdge}
 use Rattle.basics.specs.Pick.{pick}
 use Rattle.metres.specs.Bits.{finite, belowBits, missed, cellNumber}
@@ -16,20 +17,6 @@ use Rattle.metres.specs.declared.Reading.the-variants.{Point, Bar, Pause
 use Rattle.metres.specs.declared.ReadingFields.{ReadingFields}
 
 -- ## The record
-
--- bytes
-abbrev pub Bytes : List ℕ → Type 0
-Bytes l = (i : ℕ) → getD l i 0 < 256
-
--- the numbers of 16, 32 and 64 bits at a place, low byte first
-abbrev pub word16 : List ℕ → ℕ → ℕ
-word16 l i = getD l i 0 + 256 * getD l (i + 1) 0
-
-abbrev pub word32 : List ℕ → ℕ → ℕ
-word32 l i = word16 l i + 65536 * word16 l (i + 2)
-
-abbrev pub word64 : List ℕ → ℕ → ℕ
-word64 l i = word32 l i + 4294967296 * word32 l (i + 4)
 
 -- a record has 40 bytes: the kind (0 pause, 1 shot, 2 bar), the value, two spare bytes, and the bits of x, y, z and the second x
 abbrev pub recordBytes : ℕ

@@ -12,7 +12,8 @@ ghost use lib.Ieee.{binary64, fin, toBits};
 ghost use lib.Dec.{T};
 ghost use Rattle.basics.specs.Limits.{finestEdge};
 ghost use Rattle.metres.specs.Bits.{finite, nan, negative, units, placed, cellOf, belowBits};
-ghost use Rattle.metres.specs.Record.{word16, word32, word64, allFinite, wrong, pointAt, said, readingOf, structAt, zero64, structOf, aimOf};
+ghost use Rattle.basics.specs.Bytes.{word16, word32, word64};
+ghost use Rattle.metres.specs.Record.{allFinite, wrong, pointAt, said, readingOf, structAt, zero64, structOf, aimOf};
 ghost use Rattle.metres.specs.Models.{Word, judged, spotOf, cellsOf};
 
 // A record has so many bytes.

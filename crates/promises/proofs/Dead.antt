@@ -24,7 +24,8 @@ use Rattle.read_cell.specs.Calls.{lookNo, lookOf, expandNo, expandOf}
 use Rattle.read_cell.proofs.Laws.{there-live}
 use Rattle.edit.specs.Edit.{editNo}
 use Rattle.edit.proofs.Edits.{edit-number}
-use Rattle.metres.specs.Record.{Bytes, aimOf}
+use Rattle.basics.specs.Bytes.{Bytes}
+use Rattle.metres.specs.Record.{aimOf}
 use Rattle.metres.specs.declared.Aim.{Aim}
 use Rattle.metres.specs.declared.Aim.the-variants.{Nothing, Cells, No}
 use Rattle.bars.specs.Bars.{barOf}

@@ -20,7 +20,8 @@ use Rattle.ledger.proofs.Stack.{fresh-stack, fresh-last, release-stack, release
 use Rattle.calls.specs.Does.{Since, now, then as onward, Fresh, fresh, History}
 use Rattle.calls.proofs.Follows.{fresh-made}
 use Rattle.edit.proofs.Slots.{edit-draws}
-use Rattle.metres.specs.Record.{Bytes, aimOf}
+use Rattle.basics.specs.Bytes.{Bytes}
+use Rattle.metres.specs.Record.{aimOf}
 use Rattle.metres.specs.declared.Aim.{Aim}
 use Rattle.metres.specs.declared.Aim.the-variants.{Nothing, Cells, No}
 use Rattle.bars.specs.Bars.{barOf}

@@ -12,7 +12,8 @@ use Rattle.arena.specs.Calls.{Out, fits, holdNo}
 use Rattle.arena.specs.Tables.{Tables}
 use Rattle.arena.proofs.Fits.{sized-fits}
 use Rattle.calls.proofs.Roots.{kept-there}
-use Rattle.metres.specs.Record.{Bytes, aimOf}
+use Rattle.basics.specs.Bytes.{Bytes}
+use Rattle.metres.specs.Record.{aimOf}
 use Rattle.metres.specs.declared.Aim.{Aim}
 use Rattle.metres.specs.declared.Aim.the-variants.{Nothing, Cells, No}
 use Rattle.bars.specs.Bars.{barOf}

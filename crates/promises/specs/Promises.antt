@@ -26,7 +26,8 @@ use Rattle.calls.specs.Cells.{spot, standsAt, Answers, Alike}
 use Rattle.read_cell.specs.Calls.{lookOf, expandOf}
 use Rattle.edit.specs.Edit.{editNo, editOf}
 use Rattle.edit.specs.Promises.{then, gives}
-use Rattle.metres.specs.Record.{Bytes, aimOf}
+use Rattle.basics.specs.Bytes.{Bytes}
+use Rattle.metres.specs.Record.{aimOf}
 use Rattle.metres.specs.declared.Aim.the-variants.{No}
 use Rattle.readings.specs.Enter.{enterOf, enterEnds}
 

@@ -9,7 +9,8 @@ use Rattle.basics.specs.Limits.{deepest, cubeKids}
 use Rattle.metres.specs.Record.{recordBytes}
 use Rattle.arena.specs.Tables.{WellFormed}
 use Rattle.arena.specs.Calls.{fitOf}
-use Rattle.listing.specs.Listing.{State, recordIn, stateAt, startOf, listingAt, Entered, Bytes}
+use Rattle.basics.specs.Bytes.{Bytes}
+use Rattle.listing.specs.Listing.{State, recordIn, stateAt, startOf, listingAt, Entered}
 use Rattle.listing.specs.Holding.{OldReleased, HoldsRoot}
 use Rattle.listing.proofs.Whole.{start-well, records-well, entered-well, entered-stands, entered-listing}
 use Rattle.listing.proofs.Holding.{run-holds-root, run-releases}

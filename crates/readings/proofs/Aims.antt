@@ -10,7 +10,8 @@ use borrow.Author.Tests.{ltb-false}
 use Rattle.basics.specs.Limits.{deepest, finestEdge, largestValue}
 use Rattle.basics.specs.Pick.{pick}
 use Rattle.nodes.proofs.Sums.{split}
-use Rattle.metres.specs.Record.{kindIn, malformed, unending, outside, aimOf, Bytes}
+use Rattle.basics.specs.Bytes.{Bytes}
+use Rattle.metres.specs.Record.{kindIn, malformed, unending, outside, aimOf}
 use Rattle.metres.proofs.Theorems.{aim-cells}
 use Rattle.metres.specs.declared.Aim.{Aim}
 use Rattle.metres.specs.declared.Aim.the-variants.{Nothing, Cells, No}

@@ -9,7 +9,8 @@ use native.Mathlib.Omega.{arith}
 use Rattle.basics.specs.Limits.{deepest, cubeKids, kidWords, largestValue}
 use Rattle.basics.specs.Pick.{pick}
 use Rattle.nodes.proofs.Sums.{cases}
-use Rattle.metres.specs.Record.{aimOf, Bytes}
+use Rattle.basics.specs.Bytes.{Bytes}
+use Rattle.metres.specs.Record.{aimOf}
 use Rattle.metres.specs.declared.Aim.{Aim}
 use Rattle.metres.specs.declared.Aim.the-variants.{Nothing, Cells, No}
 use Rattle.arena.specs.Calls.{Out, said, refused, Fair, fits, holdNo, holdOf}

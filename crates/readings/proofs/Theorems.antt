@@ -23,7 +23,8 @@ use Rattle.calls.specs.Living.{SameLife}
 use Rattle.read_cell.specs.Calls.{expandOf}
 use Rattle.edit.specs.Edit.{editOf}
 use Rattle.edit.proofs.Edits.{edit-number, edit-refused, accepted-past, posed}
-use Rattle.metres.specs.Record.{Bytes, aimOf}
+use Rattle.basics.specs.Bytes.{Bytes}
+use Rattle.metres.specs.Record.{aimOf}
 use Rattle.metres.specs.declared.Aim.{Aim}
 use Rattle.metres.specs.declared.Aim.the-variants.{Nothing, Cells, No}
 use Rattle.bars.specs.Bars.{Late, Passing, Undone, Drawn, barOf}

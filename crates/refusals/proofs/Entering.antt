@@ -31,7 +31,8 @@ use Rattle.calls.specs.Does.{Held}
 use Rattle.calls.proofs.Follows.{held-there}
 use Rattle.read_cell.proofs.Laws.{there-live}
 use Rattle.edit.specs.Edit.{editOf}
-use Rattle.metres.specs.Record.{Bytes, kindIn, valueIn, xIn, yIn, zIn, lastIn, malformed, unending, outside, aimOf}
+use Rattle.basics.specs.Bytes.{Bytes}
+use Rattle.metres.specs.Record.{kindIn, valueIn, xIn, yIn, zIn, lastIn, malformed, unending, outside, aimOf}
 use Rattle.metres.specs.Bits.{cellNumber}
 use Rattle.metres.specs.Why.{Malformed, Unending, endlessX, endlessY, endlessZ, endlessSecond, Beyond as RecordBeyond, beyondX, beyondY, beyondZ, beyondSecond}
 use Rattle.metres.specs.declared.Aim.{Aim}
