@@ -15,7 +15,7 @@ use Rattle.metres.specs.Record.{kindIn, malformed, unending, outside, aimOf}
 use Rattle.metres.proofs.Theorems.{aim-cells}
 use Rattle.metres.specs.declared.Aim.{Aim}
 use Rattle.metres.specs.declared.Aim.the-variants.{Nothing, Cells, No}
-use Rattle.readings.specs.Enter.{Rising}
+use Rattle.readings.specs.Models.{Rising}
 
 -- the cells from a to b at y and z lie in the cube of depth d, in rising order
 pub record SoundCells (d a b y z v : ℕ) : Type 0 where

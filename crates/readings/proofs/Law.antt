@@ -14,7 +14,8 @@ use Rattle.arena.specs.Calls.{Out, said, refused, did, fits, Fair, holdNo, hold
 use Rattle.ledger.proofs.Ladders.{hold-no}
 use Rattle.ledger.proofs.Refusals.{hold-refused}
 use Rattle.bars.specs.Bars.{barOf}
-use Rattle.readings.specs.Enter.{Rising, pauseOf, askedOf, enterOf}
+use Rattle.readings.specs.Enter.{pauseOf, askedOf, enterOf}
+use Rattle.readings.specs.Models.{Rising}
 
 -- ## A pause
 

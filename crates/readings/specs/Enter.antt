@@ -1,7 +1,7 @@
 -- A reading entered: what the call answers and leaves. What a record asks for, with refusals 2, 13, 14 and 3, is said of its bytes alone in the crate metres,
 -- and what a bar of edits comes to in the crate bars; a shot is a bar of one cell, which is the edit.
 use mathlib.Core.List.{List}
-use Prim.Native.Nat.{ℕ, _-_, _≤_}
+use Prim.Native.Nat.{ℕ, _-_}
 use lib.Dec.{eqb}
 use Rattle.basics.specs.Pick.{pick}
 use Rattle.metres.specs.Record.{aimOf}
@@ -14,12 +14,6 @@ use Rattle.bars.specs.Bars.{barOf, barEnds}
 -- a pause changes nothing: its answer is the old root with one new hold. Refusals 1, 4 and 10, as of a hold
 unfoldable pub pauseOf : Tables → ℕ → Out
 pauseOf t root = pick (eqb (holdNo t root) 0) (said 0 root (holdOf t root .after)) (refused (holdNo t root) t)
-
--- what is asked for are cells from the first x to one that is not below it
-abbrev pub Rising : Aim → Type 0
-Rising Nothing = Unit {0}
-Rising (Cells first last y z value) = first ≤ last
-Rising (No k) = Unit {0}
 
 -- what a record asks for, done: nothing, the cells from the first x to the last at y and z edited to the value, or a refusal
 unfoldable pub askedOf : Tables → ℕ → ℕ → Aim → Out

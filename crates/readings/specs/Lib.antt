@@ -1,2 +1,3 @@
 pub mod Enter
 pub mod Stops
+pub mod Models

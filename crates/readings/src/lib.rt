@@ -10,7 +10,8 @@ ghost use mathlib.Core.Path.{_≡_};
 ghost use Rattle.basics.specs.Limits.{deepest, cubeKids};
 ghost use Rattle.arena.specs.Calls.{Fair};
 ghost use Rattle.arena.specs.Lent.{before, made};
-ghost use Rattle.readings.specs.Enter.{Rising, pauseOf, askedOf, enterOf};
+ghost use Rattle.readings.specs.Enter.{pauseOf, askedOf, enterOf};
+ghost use Rattle.readings.specs.Models.{Rising};
 
 // The answer of a pause: the old root with one new hold.
 fn hold_root(
