@@ -26,7 +26,7 @@ use Rattle.metres.specs.declared.Reading.{Reading}
 use Rattle.metres.specs.Record.{readingOf}
 use Rattle.readings.specs.Enter.{enterOf}
 
--- ## Calls that are lent nothing
+-- ## Calls that are lent no tables
 
 -- a call with its arguments
 pub data Plain : Type 0 where

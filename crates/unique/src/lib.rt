@@ -27,7 +27,7 @@ ghost use Rattle.unique.specs.Exports as exports;
 ghost use Rattle.unique.specs.Exports.{ExportMeets};
 ghost use Rattle.arena.specs.Lent.{before};
 
-// ---- calls that are lent nothing
+// ---- calls that are lent no tables
 
 fn from_raw_meets(number: u64) -> BlockId
     ensures { λ r. ⌜ PlainMeets (fromRaw number) r ⌝ }
