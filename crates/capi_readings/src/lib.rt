@@ -15,7 +15,8 @@ use metres::ReadingFields;
 pub extern "C" fn fenpiling_parse_reading(bytes: &[u8]) -> ReadingFields
     ensures { λ r. ⌜ r ≡ structOf (readingOf (now (bytes .entry))) ⌝ }
 {
-    metres::fields(metres::parse(bytes))
+    let reading = metres::parse(bytes);
+    metres::fields(reading)
 }
 
 #[no_mangle]
