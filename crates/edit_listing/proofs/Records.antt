@@ -1,10 +1,12 @@
 -- The records of edits: what one comes to, and that each grants its answer and nothing else.
-use mathlib.Core.Path.{_≡_, ap, ap₂, _∙_}
+use mathlib.Core.Path.{_≡_, sym, ap, ap₂, _∙_}
 use mathlib.Core.List.{List}
 use Prim.Native.Nat.{ℕ, _+_, _-_, _*_, _≤_, _<_}
 use native.Mathlib.Omega.{arith}
 use lib.IntN.{pos}
-use lib.ListN.{length, take, drop, length-take, length-drop}
+use lib.ListN.{length, getD, take, drop, length-drop, drop-of-length-le, List·getD-eq-default}
+use lib.Seq.{take-all}
+use borrow.Rule.Slice.PartAt.{part-to-end}
 use mir.Syntax.{w32}
 use mir.Val.{toZ}
 use mir.ValLaws.{toZ-ofZ}
@@ -16,20 +18,32 @@ use Rattle.edit.specs.Edit.{editOf}
 use Rattle.edit.proofs.Edits.{edit-unfit}
 use Rattle.edit.proofs.Does.{edit-does}
 use Rattle.basics.specs.Bytes.{Bytes, word16}
+use Rattle.calls.proofs.Follows.{spared-kept}
 use Rattle.listing.specs.Listing.{recordIn}
 use Rattle.listing.specs.Holding.{Enters}
+use Rattle.listing.proofs.Puts.{line-short}
 use Rattle.edit_listing.specs.Listing.{recordWidth, wholeIn, cellIn, valueIn, recordDepth, editIn, edits}
 
 -- ---- a record, and its numbers
 
--- record i stands whole in the bytes
-pub record-is : (b : List ℕ) (i : ℕ) → i < wholeIn (length b)
-    → (take (recordWidth * i + recordWidth - recordWidth * i) (drop (recordWidth * i) b) ≡ recordIn recordWidth b i) × (recordWidth ≤ length (take (recordWidth * i + recordWidth - recordWidth * i) (drop (recordWidth * i) b)))
+-- past the last record there is nothing, a cut last record is what is left, and any other is whole
+pub record-none : (b : List ℕ) (i : ℕ) → wholeIn (length b) < i → take (length b - length b) (drop (length b) b) ≡ recordIn recordWidth b i
 unfolding recordIn
-record-is b i h =
-    let w : recordWidth * i + recordWidth - recordWidth * i ≡ recordWidth = omega arith in
-    let e = ap (λ (n : ℕ). take n (drop (recordWidth * i) b)) w in
-    (e, omega (arith, ap length e, length-take recordWidth (drop (recordWidth * i) b), length-drop (recordWidth * i) b))
+record-none b i h =
+    part-to-end b (length b) ∙ drop-of-length-le b {i = length b} (omega arith)
+    ∙ sym (ap (take recordWidth) (drop-of-length-le b {i = recordWidth * i} (omega arith)))
+
+pub record-cut : (b : List ℕ) (i : ℕ) → length b - recordWidth * i < recordWidth → take (length b - recordWidth * i) (drop (recordWidth * i) b) ≡ recordIn recordWidth b i
+unfolding recordIn
+record-cut b i h = part-to-end b (recordWidth * i) ∙ sym (take-all recordWidth (drop (recordWidth * i) b) (omega (arith, length-drop (recordWidth * i) b)))
+
+pub record-whole : (b : List ℕ) (i : ℕ) → take (recordWidth * i + recordWidth - recordWidth * i) (drop (recordWidth * i) b) ≡ recordIn recordWidth b i
+unfolding recordIn
+record-whole b i = let w : recordWidth * i + recordWidth - recordWidth * i ≡ recordWidth = omega arith in ap (λ (n : ℕ). take n (drop (recordWidth * i) b)) w
+
+-- past the end of a record's bytes a byte is 0
+pub past-end : (b : List ℕ) (at : ℕ) → length b ≤ at → 0 ≡ getD b at 0
+past-end b at h = sym (List·getD-eq-default b 0 h)
 
 -- a coordinate of 16 bits is read back as it is
 coord-is : (x v : ℕ) → x ≡ v → x < 65536 → toZ w32 x ≡ pos v
@@ -54,5 +68,6 @@ pub edits-enter : Enters edits
 unfolding editIn
 edits-enter = record {
   unfit = λ t root r f. edit-unfit t root recordDepth (cellIn r) (valueIn r) f;
-  grants = λ t root r b w. let d = edit-does w root recordDepth (cellIn r) (valueIn r) (value-small r b) in record { well = d .well; balance = d .balance };
+  grants = λ t root r b w. let d = edit-does w root recordDepth (cellIn r) (valueIn r) (value-small r b) in record { well = d .well; balance = d .balance; keeps = λ a. spared-kept (omega arith) w d a };
+  short = line-short;
 }

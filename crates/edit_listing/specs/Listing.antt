@@ -8,7 +8,7 @@ use Rattle.paths.specs.Paths.{place}
 use Rattle.arena.specs.Tables.{Tables}
 use Rattle.arena.specs.Calls.{Out}
 use Rattle.edit.specs.Edit.{editOf}
-use Rattle.listing.specs.Listing.{State, Records, listingAt}
+use Rattle.listing.specs.Listing.{State, Records, lineOf, listingAt}
 
 -- a record has so many bytes
 abbrev pub recordWidth : ℕ
@@ -30,7 +30,7 @@ unfoldable pub editIn : Tables → ℕ → List ℕ → Out
 editIn t root r = editOf t root recordDepth (cellIn r) (valueIn r)
 
 abbrev pub edits : Records
-edits = record { width = recordWidth; enter = editIn }
+edits = record { width = recordWidth; enter = editIn; line = lineOf }
 
 -- the whole records among so many bytes, and the bytes of a cut last one
 abbrev pub wholeIn : ℕ → ℕ

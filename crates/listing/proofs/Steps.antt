@@ -18,8 +18,8 @@ use Rattle.arena.specs.declared.Answer.{Answer}
 use Rattle.arena.proofs.Releasing.{release-well}
 use Rattle.calls.proofs.Arena.{release-fair}
 use Rattle.basics.specs.Bytes.{Bytes}
-use Rattle.listing.specs.Listing.{State, Stepped, Progress, Records, stateOf, lineOf, oneMore, stepTo, answerTo, linedOf, startOf}
-use Rattle.listing.specs.Models.{steppedOf, oneOf}
+use Rattle.listing.specs.Listing.{State, Stepped, Progress, Records, stateOf, oneMore, stepTo, steppedOf, answerTo, linedOf, startOf}
+use Rattle.listing.specs.Models.{oneOf}
 use Rattle.listing.specs.Holding.{Enters}
 use Rattle.listing.specs.declared.Run.{Run}
 use Rattle.listing.specs.declared.Lined.{Lined}
@@ -81,12 +81,12 @@ module _ (root : BlockId) (count : ℕ) (m : Made) (k f e : List ℕ) (j : ℕ) 
 
 -- ---- with its line
 
-pub lined-is : (root count : ℕ) (a : Out) (o o₁ : List ℕ) (s : State) (n len : ℕ) → _≡_ {A = Stepped} (record { state = s; no = n }) (steppedOf root count a)
-    → o₁ ≡ putsFrom o 0 (lineOf (s .count) n (s .root)) → len ≡ length (lineOf (s .count) n (s .root))
-    → _≡_ {A = Progress} (record { state = s; len = len; out = o₁ }) (linedOf root count a o)
+pub lined-is : (line : ℕ → ℕ → ℕ → List ℕ) (root count : ℕ) (a : Out) (o o₁ : List ℕ) (s : State) (n len : ℕ) → _≡_ {A = Stepped} (record { state = s; no = n }) (steppedOf root count a)
+    → o₁ ≡ putsFrom o 0 (line (s .count) n (s .root)) → len ≡ length (line (s .count) n (s .root))
+    → _≡_ {A = Progress} (record { state = s; len = len; out = o₁ }) (linedOf line root count a o)
 unfolding linedOf steppedOf
-lined-is root count a o o₁ s n len e eo el =
-    rw (eo, el) (ap (λ (x : Stepped). let line = lineOf (x .state .count) (x .no) (x .state .root) in record { state = x .state; len = length line; out = putsFrom o 0 line }) e)
+lined-is line root count a o o₁ s n len e eo el =
+    rw (eo, el) (ap (λ (x : Stepped). let l = line (x .state .count) (x .no) (x .state .root) in record { state = x .state; len = length l; out = putsFrom o 0 l }) e)
 
 -- ---- a record of a kind
 
@@ -94,16 +94,16 @@ enters-fair : {k : Records} → Enters k → (t : Tables) (root : ℕ) (r : List
 enters-fair h t root r b (inl f) = inl (ap (λ (o : Out). fits (o .after)) (h .unfit t root r f) ∙ f)
 enters-fair h t root r b (inr w) = inr (h .grants t root r b w .well)
 
-lined-state : (root count : ℕ) (a : Out) (o : List ℕ) → linedOf root count a o .state ≡ stepTo root count a
+lined-state : (line : ℕ → ℕ → ℕ → List ℕ) (root count : ℕ) (a : Out) (o : List ℕ) → linedOf line root count a o .state ≡ stepTo root count a
 unfolding linedOf
-lined-state root count a o = refl
+lined-state line root count a o = refl
 
 -- entered, and then the run gone on: fair tables stay fair
 pub one-is : {k : Records} → Enters k → (run : Run) (kids f e rec o : List ℕ) → Bytes rec → (m : Made) (k₁ f₁ e₁ : List ℕ)
     → (Fair cubeKids deepest (tables (run .arena) kids f e) → madeOf m k₁ f₁ e₁ ≡ k .enter (tables (run .arena) kids f e) (run .root .0) rec)
     → (r : Lined) (k₂ f₂ e₂ o₁ : List ℕ)
     → (Fair cubeKids deepest (tables (m .arena) k₁ f₁ e₁)
-    → _≡_ {A = Progress} (record { state = stateOf (r .run) k₂ f₂ e₂; len = r .len; out = o₁ }) (linedOf (run .root .0) (run .count) (madeOf m k₁ f₁ e₁) o))
+    → _≡_ {A = Progress} (record { state = stateOf (r .run) k₂ f₂ e₂; len = r .len; out = o₁ }) (linedOf (k .line) (run .root .0) (run .count) (madeOf m k₁ f₁ e₁) o))
     → Fair cubeKids deepest (tables (run .arena) kids f e)
     → Fair cubeKids deepest (tables (r .run .arena) k₂ f₂ e₂)
     × (_≡_ {A = Progress} (record { state = stateOf (r .run) k₂ f₂ e₂; len = r .len; out = o₁ }) (oneOf k (stateOf run kids f e) rec o))
@@ -112,9 +112,9 @@ one-is {k} enters run kids f e rec o bytes m k₁ f₁ e₁ entered r k₂ f₂ 
     let q = entered fair in
     let mid = subst (λ (x : Out). Fair cubeKids deepest (x .after)) (sym q) (enters-fair enters (tables (run .arena) kids f e) (run .root .0) rec bytes fair) in
     let h = gone mid in
-    let state = ap (λ (x : Progress). x .state) h ∙ lined-state (run .root .0) (run .count) (madeOf m k₁ f₁ e₁) o in (
+    let state = ap (λ (x : Progress). x .state) h ∙ lined-state (k .line) (run .root .0) (run .count) (madeOf m k₁ f₁ e₁) o in (
       subst (λ (s : State). Fair cubeKids deepest (s .tables)) (sym state) (step-fair (run .root .0) (run .count) (madeOf m k₁ f₁ e₁) mid),
-      h ∙ ap (λ (x : Out). linedOf (run .root .0) (run .count) x o) q,
+      h ∙ ap (λ (x : Out). linedOf (k .line) (run .root .0) (run .count) x o) q,
     )
 
 -- ---- the start

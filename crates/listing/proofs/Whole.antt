@@ -2,7 +2,7 @@
 -- of whole records, the lines are those of the whole input.
 use mathlib.Core.Path.{_≡_, refl, sym, ap, ap₂, _∙_, subst}
 use mathlib.Core.Bool.{true, false}
-use mathlib.Core.List.{List, [], _∷_, _++_, append-assoc, append-nil}
+use mathlib.Core.List.{List, _++_, append-assoc, append-nil}
 use Prim.Native.Nat.{ℕ, zero, suc, _+_, _*_, _^_, _≤_, _<_}
 use native.Mathlib.Decide.{decLt}
 use native.Mathlib.Nat.{mul-le-mul-left, mul-suc, mul-add}
@@ -12,15 +12,13 @@ use lib.Seq.{getD-take, getD-drop, take-append-le, drop-append-le, drop-append-a
 use Rattle.basics.specs.Limits.{deepest, cubeKids}
 use Rattle.basics.specs.Puts.{putsFrom}
 use Rattle.basics.proofs.Puts.{puts-there}
-use Rattle.ids_text.specs.Text.{textOf}
 use Rattle.nodes.proofs.Sums.{cases}
 use Rattle.arena.specs.Tables.{WellFormed}
 use Rattle.arena.specs.Calls.{Out, fitOf, fits, freshOf}
 use Rattle.arena.proofs.Holding.{fresh-well}
 use Rattle.basics.specs.Bytes.{Bytes}
-use Rattle.listing.specs.Listing.{State, Records, decimal, lineOf, widest, oneMore, stepTo, recordIn, answerTo, stateAt, lineAt, linesAt, startOf, endingOf, listingAt, Entered, begun, block, Stands}
+use Rattle.listing.specs.Listing.{State, Records, widest, oneMore, stepTo, recordIn, answerTo, stateAt, lineAt, linesAt, startOf, endingOf, listingAt, Entered, begun, block, Stands}
 use Rattle.listing.specs.Holding.{Enters}
-use Rattle.listing.proofs.Puts.{text-short, digits-short}
 use Rattle.listing.proofs.Steps.{step-refused, step-well, step-count}
 
 -- ---- the bytes of a record
@@ -93,6 +91,13 @@ module _ (k : Records) where
       let e : t .count ≡ s .count + n = records-counted s b n (omega arith) in
       step-count (t .root) (t .count) (answerTo k t (recordIn (k .width) b n)) ∙ count-plain (t .count) (omega arith) ∙ omega arith
 
+  -- a line, from the states before and after the record and its bytes
+  line-same : {t t₁ u u₁ : State} {r r₁ : List ℕ} → t ≡ t₁ → u ≡ u₁ → r ≡ r₁
+      → k .line (u .count) (answerTo k t r .no) (u .root) ≡ k .line (u₁ .count) (answerTo k t₁ r₁ .no) (u₁ .root)
+  line-same {t₁} {u} {r₁} et eu er =
+      ap₂ (λ (x : State) (y : List ℕ). k .line (u .count) (answerTo k x y .no) (u .root)) et er
+      ∙ ap (λ (x : State). k .line (x .count) (answerTo k t₁ r₁ .no) (x .root)) eu
+
   module _ (a b : List ℕ) (m : ℕ) (whole : length a ≡ k .width * m) where
     record-before : (i : ℕ) → i < m → recordIn (k .width) (a ++ b) i ≡ recordIn (k .width) a i
     unfolding recordIn
@@ -121,7 +126,7 @@ module _ (k : Records) where
 
     line-before : (s : State) (i : ℕ) → i < m → lineAt k s (a ++ b) i ≡ lineAt k s a i
     unfolding lineAt
-    line-before s i h = rw (state-before s i (omega arith), state-before s (suc i) (omega arith), record-before i h)
+    line-before s i h = line-same (state-before s i (omega arith)) (state-before s (suc i) (omega arith)) (record-before i h)
 
     lines-before : (s : State) (i : ℕ) → i ≤ m → linesAt k s (a ++ b) i ≡ linesAt k s a i
     unfolding linesAt
@@ -132,7 +137,7 @@ module _ (k : Records) where
     unfolding lineAt
     line-after s n =
         let e : suc (m + n) ≡ m + suc n = omega arith in
-        rw (e, state-after s n, state-after s (suc n), record-after n)
+        line-same (state-after s n) (ap (stateAt k s (a ++ b)) e ∙ state-after s (suc n)) (record-after n)
 
     lines-after : (s : State) (n : ℕ) → linesAt k s (a ++ b) (m + n) ≡ linesAt k s a m ++ linesAt k (stateAt k s a m) b n
     unfolding linesAt
@@ -158,16 +163,27 @@ entered-stands {k} {s} (block {b} {t} {lines} r x n e) =
       listed = ap₂ (λ (l : List ℕ) (u : State). l ++ linesAt k u x n) (h .listed) (h .state) ∙ sym (lines-after k b x m (h .whole) s n);
     }
 
--- the last block, whole or not, and the end: together with the lines so far they are the listing of all the bytes
+-- n records of the next block, whole or not: with the blocks so far they are the first records of all the bytes
+pub entered-state : {k : Records} {s t : State} {b lines : List ℕ} (r : Entered k s b t lines) (x : List ℕ) (n : ℕ)
+    → stateAt k t x n ≡ stateAt k s (b ++ x) (entered-stands r .many + n)
+entered-state {k} {s} {b} r x n =
+    let h = entered-stands r in
+    ap (λ (u : State). stateAt k u x n) (h .state) ∙ sym (state-after k b x (h .many) (h .whole) s n)
+
+pub entered-lines : {k : Records} {s t : State} {b lines : List ℕ} (r : Entered k s b t lines) (x : List ℕ) (n : ℕ)
+    → lines ++ linesAt k t x n ≡ linesAt k s (b ++ x) (entered-stands r .many + n)
+entered-lines {k} {s} {b} r x n =
+    let h = entered-stands r in
+    ap₂ (λ (l : List ℕ) (u : State). l ++ linesAt k u x n) (h .listed) (h .state) ∙ sym (lines-after k b x (h .many) (h .whole) s n)
+
+-- the last block and the end: together with the lines so far they are the listing of all the bytes
 pub entered-listing : {k : Records} {s t : State} {b lines : List ℕ} (r : Entered k s b t lines) (x : List ℕ) (n cut : ℕ)
     → lines ++ listingAt k t x n cut ≡ listingAt k s (b ++ x) (entered-stands r .many + n) cut
 unfolding listingAt
-entered-listing {k} {s} {t} {b} {lines} r x n cut =
-    let h = entered-stands r in
+entered-listing {k} {t} {lines} r x n cut =
     let end : State → List ℕ = λ u. endingOf cut (u .tables .arena .live) in
     sym (append-assoc lines (linesAt k t x n) (end (stateAt k t x n)))
-    ∙ ap₂ (λ (l : List ℕ) (u : State). (l ++ linesAt k u x n) ++ end (stateAt k u x n)) (h .listed) (h .state)
-    ∙ ap₂ (λ (l : List ℕ) (u : State). l ++ end u) (sym (lines-after k b x (h .many) (h .whole) s n)) (sym (state-after k b x (h .many) (h .whole) s n))
+    ∙ ap₂ (λ (l : List ℕ) (u : State). l ++ end u) (entered-lines r x n) (entered-state r x n)
 
 -- and well-formed tables are well formed at each point of it
 pub entered-well : {k : Records} → Enters k → {s t : State} {b lines : List ℕ} → Entered k s b t lines → Bytes b → WellFormed cubeKids deepest (s .tables) → WellFormed cubeKids deepest (t .tables)
@@ -177,31 +193,15 @@ entered-well enters {s} {b} r h w =
 
 -- ---- there is room: the bytes that a call writes are the lines
 
-line-short : (k : Records) (s : State) (b : List ℕ) (n : ℕ) → length (lineAt k s b n) ≤ widest
-unfolding lineAt lineOf
-line-short k s b n =
-    let t = stateAt k s b n in
-    let u = stateAt k s b (suc n) in
-    let o = answerTo k t (recordIn (k .width) b n) in
-    let p : List ℕ = decimal (u .count) ++ (32 ∷ []) in
-    let q : List ℕ = decimal (o .no) ++ (32 ∷ []) in
-    let r = textOf (u .root) in
-    omega (
-      arith,
-      length-append p (q ++ (r ++ (10 ∷ []))),
-      length-append q (r ++ (10 ∷ [])),
-      length-append r (10 ∷ []),
-      length-append (decimal (u .count)) (32 ∷ []),
-      length-append (decimal (o .no)) (32 ∷ []),
-      digits-short 20 (u .count),
-      digits-short 20 (o .no),
-      text-short (u .root),
-    )
+module _ {k : Records} (enters : Enters k) where
+  lines-short : (s : State) (b : List ℕ) (n : ℕ) → length (linesAt k s b n) ≤ widest * n
+  unfolding linesAt lineAt
+  lines-short s b zero = omega arith
+  lines-short s b (suc n) =
+      let t = stateAt k s b n in
+      let u = stateAt k s b (suc n) in
+      let no = answerTo k t (recordIn (k .width) b n) .no in
+      omega (arith, length-append (linesAt k s b n) (k .line (u .count) no (u .root)), lines-short s b n, enters .short (u .count) no (u .root))
 
-lines-short : (k : Records) (s : State) (b : List ℕ) (n : ℕ) → length (linesAt k s b n) ≤ widest * n
-unfolding linesAt
-lines-short k s b zero = omega arith
-lines-short k s b (suc n) = omega (arith, length-append (linesAt k s b n) (lineAt k s b n), lines-short k s b n, line-short k s b n)
-
-pub lines-there : (k : Records) (s : State) (b o : List ℕ) (n : ℕ) → widest * n ≤ length o → take (length (linesAt k s b n)) (putsFrom o 0 (linesAt k s b n)) ≡ linesAt k s b n
-lines-there k s b o n h = puts-there o (linesAt k s b n) (omega (arith, lines-short k s b n))
+  pub lines-there : (s : State) (b o : List ℕ) (n : ℕ) → widest * n ≤ length o → take (length (linesAt k s b n)) (putsFrom o 0 (linesAt k s b n)) ≡ linesAt k s b n
+  lines-there s b o n h = puts-there o (linesAt k s b n) (omega (arith, lines-short s b n))

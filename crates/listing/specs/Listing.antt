@@ -2,12 +2,13 @@
 use mathlib.Core.Path.{_≡_}
 use mathlib.Core.List.{List, [], _∷_, _++_}
 use Prim.Native.Nat.{ℕ, zero, suc, _+_, _*_, _/_, _%_, _^_, min}
-use lib.Dec.{eqb, ltb}
+use lib.Dec.{eqb}
 use lib.ListN.{length, take, drop}
 use Rattle.basics.specs.Limits.{deepest}
 use Rattle.basics.specs.Pick.{pick}
 use Rattle.basics.specs.Codes.{codes}
 use Rattle.basics.specs.Puts.{putsFrom}
+use Rattle.lines.specs.Lines.{decimal, space, newline}
 use Rattle.ids.specs.Ids.{empty}
 use Rattle.ids_text.specs.Text.{textOf}
 use Rattle.arena.specs.Tables.{Tables, tables}
@@ -15,22 +16,6 @@ use Rattle.arena.specs.Calls.{Out, freshOf, releaseOf}
 use Rattle.listing.specs.declared.Run.{Run}
 
 -- ## The lines
-
--- the last k digits of n or fewer, with no leading 0: the digit 0 is 48
-unfoldable pub digitsOf : ℕ → ℕ → List ℕ
-digitsOf zero n = []
-digitsOf (suc k) n = let front = digitsOf k (n / 10) in pick (ltb n 10) ((48 + n) ∷ []) (front ++ ((48 + n % 10) ∷ []))
-
--- a number in decimal: below 2^64 it has no more than 20 digits
-abbrev pub decimal : ℕ → List ℕ
-decimal n = digitsOf 20 n
-
--- a space and the end of a line
-abbrev pub space : ℕ
-space = 32
-
-abbrev pub newline : ℕ
-newline = 10
 
 -- the line of a record: its number, the refusal, the text of the root
 unfoldable pub lineOf : ℕ → ℕ → ℕ → List ℕ
@@ -69,25 +54,34 @@ stepTo root count o =
     (record { tables = releaseOf deepest (o .after) root .after; root = o .id; count = oneMore count })
     (record { tables = o .after; root = root; count = oneMore count })
 
+-- what the start and a record come to: the state, and the refusal
+pub record Stepped : Type 0 where
+  pub state : State
+  pub no : ℕ
+
+unfoldable pub steppedOf : ℕ → ℕ → Out → Stepped
+steppedOf root count o = record { state = stepTo root count o; no = o .no }
+
 -- where a block stands: the state, how many bytes were written, and the bytes lent for them
 pub record Progress : Type 0 where
   pub state : State
   pub len : ℕ
   pub out : List ℕ
 
--- the same with the record's line at the start of o
-unfoldable pub linedOf : ℕ → ℕ → Out → List ℕ → Progress
-linedOf root count a o =
+-- the same with the record's line, of its number, the refusal and the root, at the start of o
+unfoldable pub linedOf : (ℕ → ℕ → ℕ → List ℕ) → ℕ → ℕ → Out → List ℕ → Progress
+linedOf line root count a o =
     let s = stepTo root count a in
-    let line = lineOf (s .count) (a .no) (s .root) in
-    record { state = s; len = length line; out = putsFrom o 0 line }
+    let l = line (s .count) (a .no) (s .root) in
+    record { state = s; len = length l; out = putsFrom o 0 l }
 
 -- ## Records of any kind
 
--- how many bytes a record has, and what it comes to: from the tables, the root and its bytes
+-- how many bytes a record has; what it comes to, from the tables, the root and its bytes; and its line, of its number, the refusal and the root
 pub record Records : Type 0 where
   pub width : ℕ
   pub enter : Tables → ℕ → List ℕ → Out
+  pub line : ℕ → ℕ → ℕ → List ℕ
 
 -- record i of the bytes b: from width · i on, so many or as many as are left
 unfoldable pub recordIn : ℕ → List ℕ → ℕ → List ℕ
@@ -107,7 +101,7 @@ unfoldable pub lineAt : Records → State → List ℕ → ℕ → List ℕ
 lineAt k s b n =
     let t = stateAt k s b n in
     let u = stateAt k s b (suc n) in
-    lineOf (u .count) (answerTo k t (recordIn (k .width) b n) .no) (u .root)
+    k .line (u .count) (answerTo k t (recordIn (k .width) b n) .no) (u .root)
 
 -- the lines of the first n records of b
 unfoldable pub linesAt : Records → State → List ℕ → ℕ → List ℕ
@@ -115,11 +109,6 @@ linesAt k s b zero = []
 linesAt k s b (suc n) = linesAt k s b n ++ lineAt k s b n
 
 -- ## The calls
-
--- what the start comes to: the state, and the refusal
-pub record Stepped : Type 0 where
-  pub state : State
-  pub no : ℕ
 
 -- a fresh arena with nothing in it, before the first record; refusal 1 where the tables do not fit
 unfoldable pub startOf : ℕ → List ℕ → List ℕ → List ℕ → Stepped

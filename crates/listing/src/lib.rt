@@ -4,18 +4,20 @@ use arena::Arena;
 use arena::Made;
 use ids::BlockId;
 use ids_text::IdText;
+use lines::put_number;
+use lines::put_text;
 use std::num::wrapping_add_u64;
 ghost use mathlib.Core.Path.{_≡_};
 ghost use Prim.Native.Nat.{_+_, _<_, _≤_, _^_};
 ghost use mathlib.Core.List.{[], _∷_, _++_};
-ghost use lib.ListN.{length, set, take};
+ghost use lib.ListN.{length, take};
 ghost use Rattle.basics.specs.Limits.{deepest, cubeKids};
 ghost use Rattle.basics.specs.Puts.{putsFrom};
 ghost use Rattle.ids_text.specs.Text.{textOf};
 ghost use Rattle.arena.specs.Calls.{Fair};
 ghost use Rattle.listing.specs.Lent.{handed, stepped, lined};
-ghost use Rattle.listing.specs.Listing.{digitsOf, decimal, lineOf, widest, shortOf, endingOf, linedOf, startOf, takenOf};
-ghost use Rattle.listing.specs.Models.{steppedOf};
+ghost use Rattle.lines.specs.Lines.{newline};
+ghost use Rattle.listing.specs.Listing.{lineOf, widest, shortOf, endingOf, steppedOf, linedOf, startOf, takenOf};
 
 // A line has at most so many bytes.
 const WIDEST: usize = 84;
@@ -48,54 +50,6 @@ pub struct Lined {
 
 // ---- writing
 
-// Writes one byte; nothing past the end.
-fn put(out: &mut [u8], at: usize, byte: u8)
-    ensures { λ _. ⌜ now (out .exit) ≡ set (now (out .entry)) at byte ⌝ }
-{
-    if at < out.len() {
-        out[at] = byte;
-    }
-}
-
-// Writes the first n bytes of a text.
-fn put_text(out: &mut [u8], at: usize, text: &[u8], n: usize)
-    requires { ⌜ (at + n < 2 ^ 64) × (n ≤ length (now text)) ⌝ }
-    ensures { λ _. ⌜ now (out .exit) ≡ putsFrom (now (out .entry)) at (take n (now (text .entry))) ⌝ }
-{
-    let mut i: usize = 0;
-    while i < n {
-        put(out, at + i, text[i]);
-        i += 1;
-    }
-}
-
-// Writes a number in at most `left` decimal digits, and answers how many it took.
-fn put_digits(out: &mut [u8], at: usize, n: u64, left: usize) -> usize
-    requires { ⌜ at + left < 2 ^ 64 ⌝ }
-    ensures { λ r. ⌜ (now (out .exit) ≡ putsFrom (now (out .entry)) at (digitsOf left n)) × (r ≡ length (digitsOf left n)) × (r ≤ left) ⌝ }
-{
-    if left == 0 {
-        return 0;
-    }
-    if n < 10 {
-        put(out, at, (48 + n) as u8);
-        return 1;
-    }
-    let front = put_digits(out, at, n / 10, left - 1);
-    put(out, at + front, (48 + n % 10) as u8);
-    front + 1
-}
-
-// Writes a number in decimal and a byte after it; answers how many bytes that is.
-fn put_number(out: &mut [u8], at: usize, n: u64, end: u8) -> usize
-    requires { ⌜ at + 21 < 2 ^ 64 ⌝ }
-    ensures { λ r. ⌜ (now (out .exit) ≡ putsFrom (now (out .entry)) at (decimal n ++ (end ∷ []))) × (r ≡ length (decimal n ++ (end ∷ []))) × (r ≤ 21) ⌝ }
-{
-    let digits = put_digits(out, at, n, 20);
-    put(out, at + digits, end);
-    digits + 1
-}
-
 // The text of an id, in the first bytes of an array.
 fn text_of(id: BlockId) -> IdText
     ensures { λ r. ⌜ (r .len ≡ length (textOf (id .0))) × (r .len ≤ 41) × (take (r .len) (r .bytes) ≡ textOf (id .0)) × (41 ≡ length (r .bytes)) ⌝ }
@@ -103,17 +57,17 @@ fn text_of(id: BlockId) -> IdText
     ids_text::text(id)
 }
 
-// Writes the text of an id and a byte after it; answers how many bytes that is.
-fn put_id(out: &mut [u8], at: usize, id: BlockId, end: u8) -> usize
+// Writes the text of an id and the end of the line; answers how many bytes that is.
+fn put_id(out: &mut [u8], at: usize, id: BlockId) -> usize
     requires { ⌜ at + 42 < 2 ^ 64 ⌝ }
-    ensures { λ r. ⌜ (now (out .exit) ≡ putsFrom (now (out .entry)) at (textOf (id .0) ++ (end ∷ []))) × (r ≡ length (textOf (id .0) ++ (end ∷ []))) × (r ≤ 42) ⌝ }
+    ensures { λ r. ⌜ (now (out .exit) ≡ putsFrom (now (out .entry)) at (textOf (id .0) ++ (newline ∷ []))) × (r ≡ length (textOf (id .0) ++ (newline ∷ []))) × (r ≤ 42) ⌝ }
 {
     let text = text_of(id);
     let bytes = text.bytes;
     let len = text.len;
-    put_text(out, at, &bytes, len);
-    put(out, at + len, end);
-    len + 1
+    let a = put_text(out, at, &bytes[..len]);
+    let b = put_text(out, at + a, b"\n");
+    a + b
 }
 
 // Writes the line of a record; answers how many bytes it has.
@@ -122,7 +76,7 @@ fn put_line(out: &mut [u8], number: u64, no: u32, root: BlockId) -> usize
 {
     let a = put_number(out, 0, number, b' ');
     let b = put_number(out, a, no as u64, b' ');
-    let c = put_id(out, a + b, root, b'\n');
+    let c = put_id(out, a + b, root);
     a + b + c
 }
 
@@ -131,9 +85,9 @@ pub fn ending(run: Run, cut: usize, out: &mut [u8]) -> usize
     ensures { λ r. ⌜ (now (out .exit) ≡ putsFrom (now (out .entry)) 0 (endingOf cut (run .arena .live))) × (r ≡ length (endingOf cut (run .arena .live))) ⌝ }
 {
     let short = put_short(out, cut);
-    put_text(out, short, b"live ", 5);
-    let live = put_number(out, short + 5, run.arena.live as u64, b'\n');
-    short + 5 + live
+    let word = put_text(out, short, b"live ");
+    let live = put_number(out, short + word, run.arena.live as u64, b'\n');
+    short + word + live
 }
 
 // Writes the line of a cut last record; answers how many bytes it has, none for none.
@@ -143,9 +97,9 @@ fn put_short(out: &mut [u8], cut: usize) -> usize
     if cut == 0 {
         return 0;
     }
-    put_text(out, 0, b"short ", 6);
-    let number = put_number(out, 6, cut as u64, b'\n');
-    6 + number
+    let word = put_text(out, 0, b"short ");
+    let number = put_number(out, word, cut as u64, b'\n');
+    word + number
 }
 
 // ---- from record to record
@@ -175,7 +129,7 @@ pub fn taken(records: usize, room: usize) -> usize
 }
 
 // From a root and a count, after the answer to a record: accepted, its id is the root and the old root is released; refused, the old root stays.
-fn step_to(
+pub fn step_to(
     root: BlockId,
     count: u64,
     made: Made,
@@ -223,7 +177,7 @@ pub fn after_record(
 ) -> Lined
     ensures { λ r. ⌜ (r .len ≤ widest)
         × (Fair cubeKids deepest (handed made kids facts find .after)
-        → lined r kids facts find out ≡ linedOf (root .0) count (handed made kids facts find) (now (out .entry))) ⌝ }
+        → lined r kids facts find out ≡ linedOf lineOf (root .0) count (handed made kids facts find) (now (out .entry))) ⌝ }
 {
     let step = step_to(root, count, made, kids, facts, find);
     let run = step.run;

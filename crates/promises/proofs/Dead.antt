@@ -5,9 +5,9 @@ use mathlib.Core.Bool.{Bool, true, false}
 use mathlib.Core.List.{List}
 use Prim.Native.Nat.{ℕ, _-_, _^_, _≤_, _<_}
 use native.Mathlib.Omega.{arith}
-use lib.Dec.{leb}
+use lib.Dec.{leb, eqb}
 use lib.ListN.{length}
-use borrow.Author.Tests.{ne-eqb, le-leb, lt-ltb}
+use borrow.Author.Tests.{eq-eqb, ne-eqb, le-leb, lt-ltb}
 use Rattle.basics.specs.Limits.{deepest, deepestCube, cubeKids}
 use Rattle.basics.specs.Pick.{pick}
 use Rattle.nodes.proofs.Sums.{split}
@@ -24,6 +24,8 @@ use Rattle.read_cell.specs.Calls.{lookNo, lookOf, expandNo, expandOf}
 use Rattle.read_cell.proofs.Laws.{there-live}
 use Rattle.edit.specs.Edit.{editNo}
 use Rattle.edit.proofs.Edits.{edit-number}
+use Rattle.compare.specs.Compare.{rootsNo, compareNo, compareOf}
+use Rattle.compare.proofs.Theorems.{number-is}
 use Rattle.basics.specs.Bytes.{Bytes}
 use Rattle.metres.specs.Record.{aimOf}
 use Rattle.metres.specs.declared.Aim.{Aim}
@@ -33,7 +35,7 @@ use Rattle.bars.proofs.Ways.{bar-number}
 use Rattle.readings.specs.Enter.{pauseOf, askedOf, enterOf}
 use Rattle.readings.proofs.Aims.{SoundCells, Sound, aim-sound}
 use Rattle.readings.proofs.Law.{unpaused, enter-sized}
-use Rattle.promises.specs.Promises.{Inside, ByFour, Asks, Refused}
+use Rattle.promises.specs.Promises.{Inside, ByFour, Asks, Comparable, Refused}
 
 -- a ladder of refusals from 1 to 4
 abbrev Four : ℕ → Type 0
@@ -42,6 +44,32 @@ Four k = (1 ≤ k) × (k ≤ 4)
 rung : (b : Bool) (x y : ℕ) → Four x → Four y → Four (pick b x y)
 rung true x y a c = a
 rung false x y a c = c
+
+either : (b : Bool) (x : ℕ) → pick b x x ≡ x
+either true x = refl
+either false x = refl
+
+-- ## A comparison of roots of which one is neither EMPTY nor live
+
+module _ (t : Tables) (a b : ℕ) (gone : (d k : ℕ) → rootsNo t a b d k ≡ 4) where
+  compare-four : (d c l r : ℕ) → Four (compareNo t a b d c l r)
+  unfolding compareNo
+  compare-four d c l r = rw (gone d _)
+      (rung (fits t) _ 1 (rung (eqb l c) _ 1 (rung (eqb r c) _ 1 (rung (leb d deepest) 4 2 (omega arith, omega arith) (omega arith, omega arith)) one) one) one)
+    where
+      one : Four 1
+      one = (omega arith, omega arith)
+
+  compare-gone : (d c l r : ℕ) → Sized t → d ≤ deepest → l ≡ c → r ≡ c → compareNo t a b d c l r ≡ 4
+  unfolding compareNo
+  compare-gone d c l r sized deep el er = rw (sized-fits sized, eq-eqb l c el, eq-eqb r c er, le-leb d deepest deep) (gone d _)
+
+  dead-comparison : Sized t → (d : ℕ) (c l r : List ℕ) → ByFour (compareOf t a b d c l r .no) (Comparable d c l r)
+  dead-comparison sized d c l r =
+      let f = compare-four d (length c) (length l) (length r) in
+      rw (number-is t a b d c l r) (f .0, f .1, (λ i. compare-gone d (length c) (length l) (length r) sized (i .0) (i .1) (i .2)))
+
+-- ## Every call
 
 module _ (t : Tables) (y : ℕ) (some : y ≢ 0) (dead : Lives t y → ⊥) where
   absent : LiveOr0 (cap t) (W t) y → ⊥
@@ -70,6 +98,14 @@ module _ (t : Tables) (y : ℕ) (some : y ≢ 0) (dead : Lives t y → ⊥) wher
   edit-looks : (d : ℕ) (p : IVec3) (v : ℕ) → editNo t y d p v ≡ lookNo t y d p
   unfolding editNo
   edit-looks d p v = rw (ne-eqb (lookNo t y d p) 0 (λ e. let f = look-four d p .0 in omega arith))
+
+  left-gone : (b d k : ℕ) → rootsNo t y b d k ≡ 4
+  unfolding rootsNo
+  left-gone b d k = rw not-there
+
+  right-gone : (a d k : ℕ) → rootsNo t a y d k ≡ 4
+  unfolding rootsNo
+  right-gone a d k = rw not-there (either (liveOrEmpty (cap t) (W t) a) 4)
 
   module _ (sized : Sized t) where
     -- Lookup, expansion and edit refuse it: with 4 where no lower number applies.
@@ -134,4 +170,5 @@ module _ (t : Tables) (y : ℕ) (some : y ≢ 0) (dead : Lives t y → ⊥) wher
           expansion = λ d l. rw (expanded-no d l) (dead-expand d (length l));
           edit = λ d p v. rw (edit-number t y d p v) (dead-edit d p v);
           reading = λ d k l bytes. dead-reading d k l bytes;
+          comparison = λ b d c l r. (dead-comparison t y b (left-gone b) sized d c l r, dead-comparison t b y (right-gone b) sized d c l r);
         }

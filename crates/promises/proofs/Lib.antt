@@ -10,3 +10,5 @@ pub mod Freed
 pub mod Painting
 pub mod Bars
 pub mod Readings
+pub mod Runs
+pub mod Comparing

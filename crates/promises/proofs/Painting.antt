@@ -53,7 +53,7 @@ by-bar y z a b s f g = split (onBar y z a b s) (λ e. f (true-bar y z a b s e)) 
 pub painted-none : {d : ℕ} (F : Cube d) (y z b v : ℕ) → F ≡ painted F y z (suc b) b v
 painted-none F y z b v = fun-ext (λ s. sym (painted-off F y z (suc b) b v s (λ h. let p = h .2 in let q = h .3 in omega arith)))
 
-changed-at : {d : ℕ} (F : Cube d) (c : At d) (v : ℕ) (s : At d) → s .x ≡ c .x → s .y ≡ c .y → s .z ≡ c .z → changed F c v s ≡ v
+pub changed-at : {d : ℕ} (F : Cube d) (c : At d) (v : ℕ) (s : At d) → s .x ≡ c .x → s .y ≡ c .y → s .z ≡ c .z → changed F c v s ≡ v
 unfolding changed sameAt
 changed-at F c v s ex ey ez = rw (eq-eqb (s .x) (c .x) ex, eq-eqb (s .y) (c .y) ey, eq-eqb (s .z) (c .z) ez)
 

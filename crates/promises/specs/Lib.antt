@@ -1,3 +1,5 @@
 pub mod Promises
 pub mod Freed
 pub mod Bars
+pub mod Runs
+pub mod Comparing

@@ -26,6 +26,7 @@ use Rattle.calls.specs.Cells.{spot, standsAt, Answers, Alike}
 use Rattle.read_cell.specs.Calls.{lookOf, expandOf}
 use Rattle.edit.specs.Edit.{editNo, editOf}
 use Rattle.edit.specs.Promises.{then, gives}
+use Rattle.compare.specs.Compare.{compareOf}
 use Rattle.basics.specs.Bytes.{Bytes}
 use Rattle.metres.specs.Record.{aimOf}
 use Rattle.metres.specs.declared.Aim.the-variants.{No}
@@ -202,7 +203,11 @@ ByFour k fit = (1 ≤ k) × (k ≤ 4) × (fit → k ≡ 4)
 abbrev pub Asks : List ℕ → ℕ → ℕ → Type 0
 Asks l k d = (n : ℕ) → aimOf l k d ≡ No n → ⊥
 
--- Every call that is handed the id refuses it.
+-- a depth, and the parts of a list equally long: refusal 2 does not apply, nor 1 for the list
+abbrev pub Comparable : ℕ → List ℕ → List ℕ → List ℕ → Type 0
+Comparable d c l r = (d ≤ deepest) × (length l ≡ length c) × (length r ≡ length c)
+
+-- Every call that is handed the id refuses it; a comparison on either side.
 pub record Refused (t : Tables) (y : ℕ) : Type 0 where
   pub hold : holdOf t y .no ≡ 4
   pub release : releaseOf deepest t y .no ≡ 4
@@ -212,3 +217,5 @@ pub record Refused (t : Tables) (y : ℕ) : Type 0 where
   pub expansion : (d : ℕ) (l : List ℕ) → ByFour (expandOf t y d l .no) (d ≤ deepestCube)
   pub edit : (d : ℕ) (p : IVec3) (v : ℕ) → ByFour (editOf t y d p v .no) (Inside d p)
   pub reading : (d k : ℕ) (l : List ℕ) → Bytes l → (enterOf t y d k l .no ≢ 0) × (Asks l k d → enterOf t y d k l .no ≡ 4)
+  pub comparison : (b d : ℕ) (c l r : List ℕ)
+      → ByFour (compareOf t y b d c l r .no) (Comparable d c l r) × ByFour (compareOf t b y d c l r .no) (Comparable d c l r)

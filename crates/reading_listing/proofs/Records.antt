@@ -9,8 +9,10 @@ use borrow.Rule.Slice.PartAt.{part-to-end}
 use Rattle.metres.specs.Record.{recordBytes}
 use Rattle.readings.proofs.Does.{enter-does}
 use Rattle.readings.proofs.Law.{enter-unsized}
+use Rattle.calls.proofs.Follows.{spared-kept}
 use Rattle.listing.specs.Listing.{recordIn}
 use Rattle.listing.specs.Holding.{Enters}
+use Rattle.listing.proofs.Puts.{line-short}
 use Rattle.reading_listing.specs.Listing.{surveyDepth, readings}
 
 pub record-whole : (b : List ℕ) (i : ℕ) → take (recordBytes * i + recordBytes - recordBytes * i) (drop (recordBytes * i) b) ≡ recordIn recordBytes b i
@@ -24,5 +26,6 @@ record-cut b i h = part-to-end b (recordBytes * i) ∙ sym (take-all recordBytes
 pub readings-enter : (k : ℕ) → Enters (readings k)
 readings-enter k = record {
   unfit = λ t root r f. sym (enter-unsized t root surveyDepth k r f);
-  grants = λ t root r b w. let d = enter-does root surveyDepth k r b w in record { well = d .well; balance = d .balance };
+  grants = λ t root r b w. let d = enter-does root surveyDepth k r b w in record { well = d .well; balance = d .balance; keeps = λ a. spared-kept (omega arith) w d a };
+  short = line-short;
 }

@@ -1,3 +1,4 @@
 pub mod Reading
 pub mod Editing
 pub mod Entering
+pub mod Comparing

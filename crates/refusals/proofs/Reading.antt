@@ -75,7 +75,7 @@ within-rung true true c x l e = rung-not c x 3 l e
 within-rung true false c x l e = refl
 within-rung false b c x l e = refl
 
-none : 0 ≡ ladder []
+pub none : 0 ≡ ladder []
 unfolding ladder
 none = refl
 

@@ -1,9 +1,10 @@
--- The numbers of the paths, of reading, of the edit and of a reading in metres as ladders: each test with its number, in the order of the tests. (That they are the numbers
+-- The numbers of the paths, of reading, of the edit, of a reading in metres and of a comparison as ladders: each test with its number, in the order of the tests. (That they are the numbers
 -- of the calls is proved: proofs/.)
 use mathlib.Core.Bool.{Bool, false, not, _||_}
 use mathlib.Core.List.{List, [], _∷_}
 use Prim.Native.Nat.{ℕ, _^_}
 use lib.Dec.{leb, ltb, eqb}
+use lib.ListN.{length}
 use Rattle.basics.specs.Limits.{deepest, deepestCube, cubeKids, lastPacked, finestEdge}
 use Rattle.basics.specs.Pick.{pick}
 use Rattle.nodes.specs.Values.{heightAt}
@@ -16,6 +17,7 @@ use Rattle.arena.specs.Calls.{fits, liveOrEmpty, fullOf, freeSlots}
 use Rattle.edit.specs.Edit.{resultOf, cellAt}
 use Rattle.metres.specs.Record.{kindIn, malformed, unending, outside}
 use Rattle.readings.specs.Enter.{enterOf}
+use Rattle.compare.specs.Compare.{cellsOf}
 
 -- all three coordinates are inside
 unfoldable pub allInside : ℕ → IVec3 → Bool
@@ -65,3 +67,18 @@ abbrev pub enterRungs : Tables → ℕ → ℕ → ℕ → List ℕ → List (Bo
 enterRungs t root d k l =
     (not (fits t), 1) ∷ (ltb deepest d || ltb finestEdge k, 2) ∷ (malformed l, 13) ∷ (unending l, 14) ∷ (outside l k d, 3) ∷ (not (liveOrEmpty (cap t) (W t) root), 4)
     ∷ (eightOf t root d l, 8) ∷ (eqb (enterOf t root d k l .no) 10, 10) ∷ (eqb (enterOf t root d k l .no) 11, 11) ∷ []
+
+-- the tables fit, and the parts of the list are equally long
+unfoldable pub lentWell : Tables → ℕ → ℕ → ℕ → Bool
+lentWell t c l r = pick (fits t) (pick (eqb l c) (eqb r c) false) false
+
+-- each root is EMPTY or live; neither is taller than d
+unfoldable pub bothThere : Tables → ℕ → ℕ → Bool
+bothThere t a b = pick (liveOrEmpty (cap t) (W t) a) (liveOrEmpty (cap t) (W t) b) false
+
+unfoldable pub bothLow : Tables → ℕ → ℕ → ℕ → Bool
+bothLow t a b d = pick (leb (heightAt (W t) a) d) (leb (heightAt (W t) b) d) false
+
+abbrev pub compareRungs : Tables → ℕ → ℕ → ℕ → ℕ → ℕ → ℕ → List (Bool × ℕ)
+compareRungs t a b d c l r =
+    (not (lentWell t c l r), 1) ∷ (not (leb d deepest), 2) ∷ (not (bothThere t a b), 4) ∷ (not (bothLow t a b d), 8) ∷ (not (leb (length (cellsOf t a b d)) c), 15) ∷ []

@@ -1,4 +1,4 @@
--- What each number of the paths, of reading, of the edit and of a reading in metres says: given exactly if. (`Exactly`, `Full`: crates/ledger/specs/Refusals.antt;
+-- What each number of the paths, of reading, of the edit, of a reading in metres and of a comparison says: given exactly if. (`Exactly`, `Full`: crates/ledger/specs/Refusals.antt;
 -- `Malformed`, `Unending`, `Beyond` of a record: crates/metres/specs/Why.antt)
 use mathlib.Core.Path.{_≡_}
 use mathlib.Core.Logic.{_≢_}
@@ -10,6 +10,7 @@ use Rattle.nodes.specs.Values.{heightAt}
 use Rattle.nodes.specs.Words.{Words}
 use Rattle.paths.specs.declared.IVec3.{IVec3}
 use Rattle.paths.specs.Paths.{place}
+use Rattle.tree.specs.Demand.{At, Apart}
 use Rattle.arena.specs.Tables.{Tables, W, Sized}
 use Rattle.arena.specs.Calls.{freeSlots}
 use Rattle.ledger.specs.Fates.{Lives}
@@ -20,13 +21,15 @@ use Rattle.metres.specs.Record.{kindIn, aimOf}
 use Rattle.metres.specs.Why.{Malformed, Unending, Beyond as RecordBeyond}
 use Rattle.metres.specs.declared.Aim.the-variants.{Cells}
 use Rattle.readings.specs.Stops.{reachedOf}
+use Rattle.compare.specs.Promises.{shows}
 
 -- 2: depth above the deepest; a child number asked at a level not below the depth
 -- 3: a coordinate below 0 or at least 2^d; a path code of 2^30 or more
 -- 4: an id is neither EMPTY nor live
--- 8: edit of a root taller than d
+-- 8: edit of a root taller than d; comparison of one
 -- 9: expansion buffer not 8^d long
 -- 12: packing with a generation above 0x7FFE
+-- 15: more cells differ than the lent list holds
 
 -- a coordinate below 0 or at least 2^d; a negative one is -1 - n
 abbrev pub Outside : ℕ → ℤ → Type 0
@@ -97,3 +100,21 @@ pub data EnterWhy (t : Tables) (root d k : ℕ) (l : List ℕ) : ℕ → Type 0 
   fullPause : kindIn l ≡ 0 → Lives t root → Full t root → EnterWhy t root d k l 10
   fullCell : StopsBy t root d k l 10 → EnterWhy t root d k l 10
   crowdedCell : StopsBy t root d k l 11 → EnterWhy t root d k l 11
+
+-- More than c cells of the cube of depth d differ, as lookup answers them below a and below b: the cells 0 to c, no two of which are one.
+pub record MoreDiffer (d : ℕ) (t : Tables) (a b c : ℕ) : Type 0 where
+  pub cell : ℕ → At d
+  pub differ : (i : ℕ) → i ≤ c → shows t a (cell i) ≢ shows t b (cell i)
+  pub apart : (i j : ℕ) → i < j → j ≤ c → Apart (cell i) (cell j)
+
+-- a number applies to a comparison of a and b at depth d, with a list whose parts are c, l and r long
+pub data CompareWhy (t : Tables) (a b d c l r : ℕ) : ℕ → Type 0 where
+  unsizedCompare : (Sized t → ⊥) → CompareWhy t a b d c l r 1
+  unevenLefts : l ≢ c → CompareWhy t a b d c l r 1
+  unevenRights : r ≢ c → CompareWhy t a b d c l r 1
+  deepCompare : deepest < d → CompareWhy t a b d c l r 2
+  deadLeft : a ≢ 0 → (Lives t a → ⊥) → CompareWhy t a b d c l r 4
+  deadRight : b ≢ 0 → (Lives t b → ⊥) → CompareWhy t a b d c l r 4
+  tallLeft : d < heightAt (W t) a → CompareWhy t a b d c l r 8
+  tallRight : d < heightAt (W t) b → CompareWhy t a b d c l r 8
+  overfull : MoreDiffer d t a b c → CompareWhy t a b d c l r 15

@@ -1,13 +1,18 @@
 -- The contract of each call of the listings determines its answer and what it leaves.
 use mathlib.Core.Path.{_≡_, refl, sym, ap, ap₂, _∙_}
-use mathlib.Core.List.{List}
+use mathlib.Core.List.{List, []}
 use Prim.Native.Nat.{ℕ}
+use lib.ListN.{length}
+use Rattle.basics.specs.Puts.{putsFrom}
+use Rattle.listing.specs.declared.Run.{Run}
 use Rattle.listing.specs.declared.Ran.{Ran}
 use Rattle.listing.specs.declared.Step.{Step}
-use Rattle.listing.specs.Listing.{Stepped, Told, stateOf, toldOf}
+use Rattle.listing.specs.Listing.{State, Stepped, Told, stateOf, toldOf}
 use Rattle.edit_listing.specs.Listing.{edits}
 use Rattle.reading_listing.specs.Listing.{readings}
-use Rattle.unique.specs.Listing.{Listing, start, records, readingRecords, ending, ListingSaid, ListingMeets, ListingSpeaks, steppedOf, ranOf}
+use Rattle.month_listing.specs.declared.Cells.{Cells}
+use Rattle.month_listing.specs.Months.{sided, cellLines}
+use Rattle.unique.specs.Listing.{Listing, start, records, readingRecords, ending, sideRecords, sideShort, second, cells, closing, ListingSaid, ListingMeets, ListingSpeaks, steppedOf, ranOf}
 use Rattle.unique.proofs.One.{one}
 
 stepped-one : {o : Stepped} (a b : Step × List ℕ × List ℕ × List ℕ) → steppedOf a ≡ o → steppedOf b ≡ o → a ≡ b
@@ -31,6 +36,9 @@ ran-one = one ranOf
     ))
     (λ a. refl)
 
+run-one : {o : State} (a b : Run) → stateOf a [] [] [] ≡ o → stateOf b [] [] [] ≡ o → a ≡ b
+run-one = one (λ r. stateOf r [] [] []) (λ o. record { arena = o .tables .arena; root = record { 0 = o .root }; count = o .count }) (λ a. refl)
+
 pub listing-determined : (q : Listing) → ListingSpeaks q → (a b : ListingSaid q) → ListingMeets q a → ListingMeets q b → a ≡ b
 listing-determined (start c k f e) s a b p q = stepped-one a b p q
 listing-determined (records r k f e x o) s a b p q =
@@ -38,3 +46,13 @@ listing-determined (records r k f e x o) s a b p q =
 listing-determined (readingRecords r k f e i x o) s a b p q =
     ran-one a b (p .1 s) (q .1 s ∙ ap (toldOf (readings i) (stateOf r k f e) x o) (q .0 ∙ sym (p .0)))
 listing-determined (ending r cut o) s a b p q = ap₂ (λ (n : ℕ) (l : List ℕ). (n, l)) (p .1 ∙ sym (q .1)) (p .0 ∙ sym (q .0))
+listing-determined (sideRecords d r k f e x o) s a b p q =
+    ran-one a b (p .1 s) (q .1 s ∙ ap (toldOf (sided d) (stateOf r k f e) x o) (q .0 ∙ sym (p .0)))
+listing-determined (sideShort d cut o) s a b p q = ap₂ (λ (n : ℕ) (l : List ℕ). (n, l)) (p .1 ∙ sym (q .1)) (p .0 ∙ sym (q .0))
+listing-determined (second r) s a b p q = run-one a b (p [] [] []) (q [] [] [])
+listing-determined (cells c l r i n o) s a b p q =
+    let e = p .0 ∙ sym (q .0) in
+    ap₂ (λ (x : Cells) (m : List ℕ). (x, m))
+    (ap₂ (λ (x y : ℕ). record { cells = x; len = y }) e (p .2 ∙ ap (λ (m : ℕ). length (cellLines c l r i m)) e ∙ sym (q .2)))
+    (p .1 ∙ ap (λ (m : ℕ). putsFrom o 0 (cellLines c l r i m)) e ∙ sym (q .1))
+listing-determined (closing x r o) s a b p q = ap₂ (λ (n : ℕ) (l : List ℕ). (n, l)) (p .1 ∙ sym (q .1)) (p .0 ∙ sym (q .0))

@@ -12,7 +12,9 @@ use Rattle.arena.specs.declared.Counted.{Counted}
 use Rattle.arena.specs.declared.Made.{Made}
 use Rattle.arena.specs.Calls.{Out, Numbers, madeOf, answeredOf, counted}
 use Rattle.read_cell.specs.Calls.{Expanded, expanded}
-use Rattle.unique.specs.Asked.{Plain, PlainSaid, PlainMeets, Asked, fromRaw, raw, packingNo, newLeaf, newBranch, index, generation, types, mask, hasChild, isLeaf, isBranch, isInvalid, isValid, isEmpty, text, path, position, child, parse, fresh, hold, counts, leaf, branch, release, look, expand, edit, enter, check, Left, Said, Meets, Speaks}
+use Rattle.compare.specs.declared.Compared.{Compared}
+use Rattle.compare.specs.Compare.{Outcome, compared}
+use Rattle.unique.specs.Asked.{Plain, PlainSaid, PlainMeets, Asked, fromRaw, raw, packingNo, newLeaf, newBranch, index, generation, types, mask, hasChild, isLeaf, isBranch, isInvalid, isValid, isEmpty, text, path, position, child, parse, fresh, hold, counts, leaf, branch, release, look, expand, edit, enter, compare, check, Left, Said, Meets, Speaks}
 
 -- what a contract equates can be undone: so two that it equates with one are one
 pub one : {A B : Type 0} (f : A → B) (back : B → A) → ((a : A) → back (f a) ≡ a) → {o : B} (a b : A) → f a ≡ o → f b ≡ o → a ≡ b
@@ -37,6 +39,10 @@ counted-one = one counted (λ o. record { no = o .no; holds = o .holds; places =
 
 expanded-one : {o : Expanded} (a b : ℕ × List ℕ) → expanded (a .0) (a .1) ≡ o → expanded (b .0) (b .1) ≡ o → a ≡ b
 expanded-one = one (λ (a : ℕ × List ℕ). expanded (a .0) (a .1)) (λ o. (o .no, o .cube)) (λ a. refl)
+
+compared-one : {o : Outcome} (a b : Compared × List ℕ × List ℕ × List ℕ) → compared (a .0) (a .1) (a .2) (a .3) ≡ o → compared (b .0) (b .1) (b .2) (b .3) ≡ o → a ≡ b
+compared-one = one (λ (a : Compared × List ℕ × List ℕ × List ℕ). compared (a .0) (a .1) (a .2) (a .3))
+    (λ o. (record { no = o .no; count = o .count; opened = o .opened }, o .codes, o .lefts, o .rights)) (λ a. refl)
 
 same : {A : Type 0} {o : A} (a b : A) → a ≡ o → b ≡ o → a ≡ b
 same a b p q = p ∙ sym q
@@ -81,4 +87,5 @@ determined (look t c d p) s = same
 determined (expand t c d l) s = expanded-one
 determined (enter t c d k l) s = λ a b p q. made-one a b (p s) (q s)
 determined (edit t c d p v) s = λ a b p q. made-one a b (p s) (q s)
+determined (compare t x y d c l r) s = compared-one
 determined (check t) s = λ a b p q. ap₂ (λ (x : Bool) (y : List ℕ). (x, y)) (test-one (a .0) (b .0) (p .0) (q .0)) (same (a .1) (b .1) (p .1) (q .1))

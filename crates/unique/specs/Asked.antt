@@ -25,6 +25,8 @@ use Rattle.edit.specs.Edit.{editOf}
 use Rattle.metres.specs.declared.Reading.{Reading}
 use Rattle.metres.specs.Record.{readingOf}
 use Rattle.readings.specs.Enter.{enterOf}
+use Rattle.compare.specs.declared.Compared.{Compared}
+use Rattle.compare.specs.Compare.{compared, compareOf}
 
 -- ## Calls that are lent no tables
 
@@ -99,7 +101,8 @@ PlainMeets (parse l) a = a ≡ readingOf l
 
 -- ## Calls on lent tables
 
--- A call: its arguments, and the tables t that are lent. A fresh arena is lent the lists k, f and e, an expansion the cube l.
+-- A call: its arguments, and the tables t that are lent. A fresh arena is lent the lists k, f and e, an expansion the cube l, a comparison the three
+-- parts c, l and r of its list.
 pub data Asked : Type 0 where
   fresh : (capacity : ℕ) (k f e : List ℕ) → Asked
   hold : Tables → BlockId → Asked
@@ -111,6 +114,7 @@ pub data Asked : Type 0 where
   expand : Tables → BlockId → ℕ → (l : List ℕ) → Asked
   edit : Tables → BlockId → ℕ → IVec3 → ℕ → Asked
   enter : Tables → BlockId → (depth k : ℕ) → List ℕ → Asked
+  compare : Tables → (left right : BlockId) → ℕ → (c l r : List ℕ) → Asked
   check : Tables → Asked
 
 -- the answer, and the tables kids, facts and find afterwards
@@ -129,6 +133,7 @@ Said (look t b d p) = Looked
 Said (expand t b d l) = ℕ × List ℕ
 Said (edit t b d p v) = Left Made
 Said (enter t b d k l) = Left Made
+Said (compare t x y d c l r) = Compared × List ℕ × List ℕ × List ℕ
 Said (check t) = Bool × List ℕ
 
 -- its contract
@@ -143,6 +148,7 @@ Meets (look t b d p) a = a ≡ lookOf t (b .0) d p
 Meets (expand t b d l) a = expanded (a .0) (a .1) ≡ expandOf t (b .0) d l
 Meets (edit t b d p v) a = Fair cubeKids deepest t → madeOf (a .0) (a .1) (a .2) (a .3) ≡ editOf t (b .0) d p v
 Meets (enter t b d k l) a = Fair cubeKids deepest t → madeOf (a .0) (a .1) (a .2) (a .3) ≡ enterOf t (b .0) d k l
+Meets (compare t x y d c l r) a = compared (a .0) (a .1) (a .2) (a .3) ≡ compareOf t (x .0) (y .0) d c l r
 Meets (check t) a = ((a .0 ≡ true) ↔ WellFormed cubeKids deepest t) × (a .1 ≡ t .nodes .facts)
 
 -- on which tables it speaks: interning, release, edit and reading on those that are not sized or well formed, all others on any
@@ -157,4 +163,5 @@ Speaks (look t b d p) = Unit {0}
 Speaks (expand t b d l) = Unit {0}
 Speaks (edit t b d p v) = Fair cubeKids deepest t
 Speaks (enter t b d k l) = Fair cubeKids deepest t
+Speaks (compare t x y d c l r) = Unit {0}
 Speaks (check t) = Unit {0}

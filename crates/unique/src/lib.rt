@@ -9,6 +9,7 @@ use capi_ids::Packed;
 use capi_paths::Cell;
 use capi_paths::Child;
 use capi_paths::Text;
+use compare::Compared;
 use ids::BlockId;
 use ids_text::IdText;
 use listing::Ran;
@@ -16,13 +17,15 @@ use listing::Run;
 use listing::Step;
 use metres::Reading;
 use metres::ReadingFields;
+use month_listing::Cells;
+use month_listing::Side;
 use paths::ChildIndex;
 use paths::Decoded;
 use paths::IVec3;
 use read_cell::Looked;
 ghost use Rattle.unique.specs.Asked.{PlainMeets, fromRaw, raw, packingNo, newLeaf, newBranch, index, generation, types, mask, hasChild, isLeaf, isBranch, isInvalid, isValid, isEmpty, text, path, position, child, parse};
-ghost use Rattle.unique.specs.Asked.{Meets, fresh, hold, counts, leaf, branch, release, look, expand, edit, enter, check};
-ghost use Rattle.unique.specs.Listing.{ListingMeets, start, records, readingRecords, ending};
+ghost use Rattle.unique.specs.Asked.{Meets, fresh, hold, counts, leaf, branch, release, look, expand, edit, enter, compare, check};
+ghost use Rattle.unique.specs.Listing.{ListingMeets, start, records, readingRecords, ending, sideRecords, sideShort, second, cells, closing};
 ghost use Rattle.unique.specs.Exports as exports;
 ghost use Rattle.unique.specs.Exports.{ExportMeets};
 ghost use Rattle.arena.specs.Lent.{before};
@@ -263,6 +266,34 @@ fn enter_meets(
     readings::enter_reading(arena, kids, facts, find, root, depth, k, bytes)
 }
 
+fn compare_meets(
+    arena: Arena,
+    kids: &[u64],
+    facts: &[u64],
+    find: &[u16],
+    left: BlockId,
+    right: BlockId,
+    depth: u32,
+    codes: &mut [u32],
+    lefts: &mut [u16],
+    rights: &mut [u16],
+) -> Compared
+    ensures { λ r. ⌜ Meets (compare (before arena kids facts find) left right depth (now (codes .entry)) (now (lefts .entry)) (now (rights .entry))) (r, now (codes .exit), now (lefts .exit), now (rights .exit)) ⌝ }
+{
+    compare::compare(
+        arena,
+        kids,
+        facts,
+        find,
+        left,
+        right,
+        depth,
+        codes,
+        lefts,
+        rights,
+    )
+}
+
 fn check_meets(arena: Arena, kids: &[u64], facts: &mut [u64], find: &[u16]) -> bool
     ensures { λ r. ⌜ Meets (check (before arena kids facts find)) (r, now (facts .exit)) ⌝ }
 {
@@ -307,7 +338,7 @@ fn exported_parse_meets(bytes: &[u8]) -> ReadingFields
     capi_readings::fenpiling_parse_reading(bytes)
 }
 
-// ---- the listings of edit records and of readings
+// ---- the listings of edit records, of readings and of two months
 
 fn start_meets(capacity: usize, kids: &mut [u64], facts: &mut [u64], find: &mut [u16]) -> Step
     ensures { λ r. ⌜ ListingMeets (start capacity (now (kids .entry)) (now (facts .entry)) (now (find .entry))) (r, now (kids .exit), now (facts .exit), now (find .exit)) ⌝ }
@@ -346,4 +377,49 @@ fn ending_meets(run: Run, cut: usize, out: &mut [u8]) -> usize
     ensures { λ r. ⌜ ListingMeets (ending run cut (now (out .entry))) (r, now (out .exit)) ⌝ }
 {
     listing::ending(run, cut, out)
+}
+
+fn side_records_meets(
+    side: Side,
+    run: Run,
+    kids: &mut [u64],
+    facts: &mut [u64],
+    find: &mut [u16],
+    bytes: &[u8],
+    out: &mut [u8],
+) -> Ran
+    ensures { λ r. ⌜ ListingMeets (sideRecords side run (now (kids .entry)) (now (facts .entry)) (now (find .entry)) (now (bytes .entry)) (now (out .entry))) (r, now (kids .exit), now (facts .exit), now (find .exit), now (out .exit)) ⌝ }
+{
+    month_listing::side_records(side, run, kids, facts, find, bytes, out)
+}
+
+fn side_short_meets(side: Side, cut: usize, out: &mut [u8]) -> usize
+    ensures { λ r. ⌜ ListingMeets (sideShort side cut (now (out .entry))) (r, now (out .exit)) ⌝ }
+{
+    month_listing::side_short(side, cut, out)
+}
+
+fn second_side_meets(first: Run) -> Run
+    ensures { λ r. ⌜ ListingMeets (second first) r ⌝ }
+{
+    month_listing::second_side(first)
+}
+
+fn cell_lines_meets(
+    codes: &[u32],
+    lefts: &[u16],
+    rights: &[u16],
+    from: usize,
+    count: usize,
+    out: &mut [u8],
+) -> Cells
+    ensures { λ r. ⌜ ListingMeets (cells (now (codes .entry)) (now (lefts .entry)) (now (rights .entry)) from count (now (out .entry))) (r, now (out .exit)) ⌝ }
+{
+    month_listing::cell_lines(codes, lefts, rights, from, count, out)
+}
+
+fn closing_meets(compared: Compared, run: Run, out: &mut [u8]) -> usize
+    ensures { λ r. ⌜ ListingMeets (closing compared run (now (out .entry))) (r, now (out .exit)) ⌝ }
+{
+    month_listing::closing(compared, run, out)
 }

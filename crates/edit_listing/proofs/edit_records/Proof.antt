@@ -29,7 +29,7 @@ loop-again c =
     let one = c .before .before .before .before .before .before .before .before .before .before .one in
     let given = c .before .before .before .before .before .before .before .before .before .before .before .before in
     let test = given .before .before .before .before in
-    again (test .before .loop .inv) (test .loop-test .taken) _ (given .record-in .ensures .0) (one .result) _ _ _ _
+    again (test .before .loop .inv) (test .loop-test .taken) _ (given .record-in .ensures) (one .result) _ _ _ _
     (search needs) (search needs) (search needs) (search needs) (one .ensures .0) (one .ensures .1)
 
 pub edit-records-spec : {M : Type 1} → statement M

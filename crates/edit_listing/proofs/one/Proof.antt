@@ -1,7 +1,7 @@
 use native.Mathlib.Omega.{arith}
 use borrow.Author.Needs.{needs}
 use Rattle.listing.proofs.Steps.{one-is}
-use Rattle.edit_listing.proofs.Records.{edited-is, edits-enter}
+use Rattle.edit_listing.proofs.Records.{edits-enter}
 use Rattle.edit_listing.proofs.one.Statement.{statement}
 use Rattle.edit_listing.proofs.one.Tie as tie
 
@@ -9,15 +9,13 @@ returns : tie.Need-returns
 returns c =
     let gone = c .before .before .before .before .before .before .before .before .after-record in
     let edited = c .before .before .before .before .before .before .before .before .before .before .before .before .before .before .before .before .before .before .before in
-    let value = edited .before .before .before .before in
-    let known = value .before .before .before .before in
+    let known = edited .before .before .before .before .before .before in
     let start = known .before .before .before .before in (
       gone .ensures .0,
-      one-is edits-enter (start .args .run) _ _ _ _ _ (λ i. omega (arith, known .shared-slice-known .given i)) (edited .set-voxel .result) _ _ _ (λ fair. edited-is _ _ _ _ _ _ (value .before .cell-in .ensures) (value .value-in .ensures) (edited .set-voxel .ensures fair)) (gone .result) _ _ _ _ (gone .ensures .1),
+      one-is edits-enter (start .args .run) _ _ _ _ _ (λ i. omega (arith, known .shared-slice-known .given i)) (edited .edit-record .result) _ _ _ (edited .edit-record .ensures) (gone .result) _ _ _ _ (gone .ensures .1),
     )
 
 pub one-spec : {M : Type 1} → statement M
 one-spec =
     tie.close
-    (tie.spec (λ c κs. search needs) (λ c κs. search needs) (λ c κs. search needs) (λ c κs. search needs) (λ c. search needs) (λ c. search needs)
-    (λ c. search needs) (λ c. search needs) returns)
+    (tie.spec (λ c κs. search needs) (λ c κs. search needs) (λ c. search needs) (λ c. search needs) (λ c. search needs) (λ c. search needs) returns)

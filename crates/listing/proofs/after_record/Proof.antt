@@ -7,7 +7,7 @@ returns : tie.Need-returns
 returns c =
     let step = c .before .before .before .before .before .before .before .before .before .before .before .step-to in
     let line = c .before .before .put-line in
-    (line .ensures .2, λ fair. lined-is _ _ _ _ _ _ _ _ (step .ensures fair) (line .ensures .0) (line .ensures .1))
+    (line .ensures .2, λ fair. lined-is _ _ _ _ _ _ _ _ _ (step .ensures fair) (line .ensures .0) (line .ensures .1))
 
 pub after-record-spec : {M : Type 1} → statement M
 after-record-spec =

@@ -1,4 +1,5 @@
 use borrow.Author.Needs.{needs}
+use Rattle.lines.proofs.Pieces.{wrote-text, wrote-number}
 use Rattle.listing.proofs.Puts.{ending-is}
 use Rattle.listing.proofs.ending.Statement.{statement}
 use Rattle.listing.proofs.ending.Tie as tie
@@ -7,7 +8,9 @@ returns : tie.Need-returns
 returns c =
     let short = c .before .before .before .before .before .before .before .before .before .before .before .put-short in
     let live = c .before .before .put-number in
-    ending-is _ _ _ _ _ _ (short .result) (live .result) (short .ensures .0) (short .ensures .1) (c .before .before .before .before .before .before .put-text .ensures) (live .ensures .0) (live .ensures .1)
+    let word = c .before .before .before .before .before .before .put-text in
+    ending-is _ _ (wrote-number (short .ensures)) (wrote-text (word .ensures))
+    (wrote-number (live .ensures))
 
 pub ending-spec : {M : Type 1} → statement M
 ending-spec =

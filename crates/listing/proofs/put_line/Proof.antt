@@ -1,4 +1,5 @@
 use borrow.Author.Needs.{needs}
+use Rattle.lines.proofs.Pieces.{wrote-number}
 use Rattle.listing.proofs.Puts.{line-is}
 use Rattle.listing.proofs.put_line.Statement.{statement}
 use Rattle.listing.proofs.put_line.Tie as tie
@@ -8,8 +9,9 @@ returns c =
     let number = c .before .before .before .before .before .before .before .before .before .before .put-number in
     let refusal = c .before .before .before .before .before .before .put-number2 in
     let root = c .before .before .put-id in
-    line-is _ _ _ _ (number .result) (refusal .result) (root .result) _ _ _ (number .ensures .0) (number .ensures .1) (number .ensures .2)
-    (refusal .ensures .0) (refusal .ensures .1) (refusal .ensures .2) (root .ensures .0) (root .ensures .1) (root .ensures .2)
+    line-is _ _ _ (wrote-number (number .ensures)) (number .ensures .2)
+    (wrote-number (refusal .ensures)) (refusal .ensures .2)
+    (wrote-number (root .ensures)) (root .ensures .2)
 
 pub put-line-spec : {M : Type 1} → statement M
 put-line-spec =

@@ -1,5 +1,6 @@
 use native.Mathlib.Omega.{arith}
 use borrow.Author.Needs.{needs}
+use Rattle.lines.proofs.Pieces.{wrote-text, wrote-number}
 use Rattle.listing.proofs.Puts.{short-none, short-is}
 use Rattle.listing.proofs.put_short.Statement.{statement}
 use Rattle.listing.proofs.put_short.Tie as tie
@@ -7,7 +8,9 @@ use Rattle.listing.proofs.put_short.Tie as tie
 returns-2 : tie.Need-returns-2
 returns-2 c =
     let number = c .before .before .put-number in
-    short-is _ _ _ _ (number .result) (c .before .before .before .before .before .before .before .before .before .if1 .left) (c .before .before .before .before .before .before .put-text .ensures) (number .ensures .0) (number .ensures .1) (number .ensures .2)
+    let word = c .before .before .before .before .before .before .put-text in
+    short-is _ (c .before .before .before .before .before .before .before .before .before .if1 .left) (wrote-text (word .ensures))
+    (wrote-number (number .ensures)) (number .ensures .2)
 
 pub put-short-spec : {M : Type 1} → statement M
 put-short-spec =

@@ -1,9 +1,0 @@
-use borrow.Author.Needs.{needs}
-use Rattle.edit_listing.proofs.word.Statement.{statement}
-use Rattle.edit_listing.proofs.word.Tie as tie
-
-pub word-spec : {M : Type 1} → statement M
-word-spec =
-    tie.close
-    (tie.spec (λ c. search needs) (λ c κs. search needs) (λ c. search needs) (λ c. search needs) (λ c κs. search needs) (λ c. search needs)
-    (λ c. search needs) (λ c. search needs))

@@ -1,0 +1,5 @@
+pub mod Lines
+pub mod Differing
+pub mod Records
+pub mod Whole
+pub mod Holding
