@@ -7,8 +7,8 @@
  *
  * Every function is proved to end and to stay inside what it is lent, on any arguments, and to answer as its comment says; the two interns, release,
  * the edit and the entering of a reading say so of well-formed tables, and every call keeps those well formed. What the caller has to see to: an address
- * leads to as many elements as the length beside it says, no two tables overlap, and no two threads use one arena at once. The state that a call answers is
- * the one to pass next; an older state no longer fits the tables.
+ * leads to as many elements as the length beside it says, no two tables or parts of a list overlap, and no two threads use one arena at once. The state
+ * that a call answers is the one to pass next; an older state no longer fits the tables.
  *
  * An answer's `no` is 0 where the call is accepted, else the number of `enum fenpiling_refusal` that applies, the lowest if several do; 13 and 14 count
  * as between 2 and 3. A refusal answers id INVALID, value 0 and counts 0, the state as it was, and changes nothing lent. From the last of this one call
@@ -65,24 +65,26 @@ extern "C" {
 /* No id: what a refusal answers. */
 #define FENPILING_INVALID UINT64_C(0xFFFFFFFFFFFFFFFF)
 
-/* What the number of an answer says: given exactly if the words beside it hold, and none that is tested before it applies: 1, 2, 13, 14, then 3 to 12. */
+/* What the number of an answer says: given exactly if the words beside it hold, and none that is tested before it applies: 1, 2, 13, 14, then 3 to 12,
+ * then 15. */
 enum fenpiling_refusal {
     FENPILING_ACCEPTED = 0,
-    FENPILING_SIZE = 1,        /* the capacity is out of range, or a table's length isn't the one for that capacity */
+    FENPILING_SIZE = 1,        /* the capacity is out of range, or a table's length isn't the one for that capacity; or the parts of a list differ in length */
     FENPILING_DEPTH = 2,       /* the depth is above 6, or k is; or a child number is asked at a level not below the depth */
     FENPILING_POSITION = 3,    /* a coordinate is below 0 or at least 2^depth, or a path code is 2^30 or more */
     FENPILING_NOT_LIVE = 4,    /* an id is neither EMPTY nor live */
     FENPILING_FEW_HOLDS = 5,   /* the caller has fewer holds than the call would take */
     FENPILING_ZERO_LEAF = 6,   /* a leaf of value 0 */
     FENPILING_ALL_EMPTY = 7,   /* eight EMPTY children */
-    FENPILING_TALL = 8,        /* the new branch would be taller than 6, or the root to edit is taller than the depth */
+    FENPILING_TALL = 8,        /* the new branch would be taller than 6, or a root to edit or to compare is taller than the depth */
     FENPILING_CUBE = 9,        /* the expansion buffer is not 8^depth long */
     FENPILING_MANY_HOLDS = 10, /* a hold on a node that already has 1,000,000 */
     FENPILING_FULL = 11,       /* more nodes of the result are not yet live than there are free slots (capacity - 1 - live) */
     FENPILING_GENERATION = 12, /* packing with a generation above 0x7FFE */
     FENPILING_RECORD = 13,     /* a record is not 40 bytes long, or of no known kind; a spare bit or byte or a pause's value is not zero; a bar's second x is
                                 * below its first */
-    FENPILING_NOT_FINITE = 14  /* a number of a record is a NaN or infinite */
+    FENPILING_NOT_FINITE = 14, /* a number of a record is a NaN or infinite */
+    FENPILING_SHORT_LIST = 15  /* more cells differ than the list has places */
 };
 
 /* The kinds of readings. */
@@ -139,6 +141,13 @@ typedef struct fenpiling_looked {
     uint32_t no;
     uint16_t value;
 } fenpiling_looked;
+
+/* The comparison of two models: how many cells differ, and how many pairs of ids were opened to find them. */
+typedef struct fenpiling_compared {
+    uint32_t no;
+    uint32_t count;
+    uint32_t opened;
+} fenpiling_compared;
 
 /* What a record says. The numbers are in metres; those that the kind does not use are 0, and so is a pause's value. Of a refused record all but the number is 0. */
 typedef struct fenpiling_reading {
@@ -233,6 +242,22 @@ uint32_t fenpiling_to_vec(fenpiling_arena arena, const uint64_t *kids, size_t ki
 fenpiling_made fenpiling_set_voxel(fenpiling_arena arena, uint64_t *kids, size_t kids_length, uint64_t *facts, size_t facts_length,
                                    uint16_t *find, size_t find_length, uint64_t root, uint32_t depth, fenpiling_cell position,
                                    uint16_t value);
+
+/* Lists the cells of a cube of the depth in which two models differ, by what lookup answers: each once, in rising path code, from the list's first place
+ * on. The list has three parts of one length. At the same place stand the cell's path code in `codes` (fenpiling_decode_child_index_path gives the cell), its
+ * value in the left model in `lefts`, and its value in the right one in `rights`. The answer's `count` is the number of cells listed; places past the last stay
+ * as they were. The tables are only read, and no hold is granted or taken.
+ *
+ * The answer's `opened` is the number of pairs of ids that were opened. A pair is opened if its ids differ and at least one is a branch other than EMPTY,
+ * starting with the roots; then the pairs at its eight places are looked at in the same way, where a leaf or EMPTY stands for its own eight children. Equal ids
+ * are passed over unopened.
+ *
+ * Refusals: 1, also where the list's parts differ in length; 2; 4 for either root; 8 for a root taller than the depth; last 15, exactly if more cells differ
+ * than the list has places, and so never with FENPILING_CUBE_LENGTH(depth) places. A refusal answers count 0 and opened 0, and no place of the list changes. */
+fenpiling_compared fenpiling_compare(fenpiling_arena arena, const uint64_t *kids, size_t kids_length, const uint64_t *facts,
+                                     size_t facts_length, const uint16_t *find, size_t find_length, uint64_t left, uint64_t right,
+                                     uint32_t depth, uint32_t *codes, size_t codes_length, uint16_t *lefts, size_t lefts_length,
+                                     uint16_t *rights, size_t rights_length);
 
 /* ---- Readings in metres, as a surveyor's instrument writes them. A record is 40 bytes, all numbers low byte first: kind (4 bytes), value (2), two zero
  * bytes, then x, y, z and second x, each an f64 (8). A shot uses x, y and z, a bar all four, a pause none; numbers that are not used are all zero bits,

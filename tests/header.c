@@ -197,6 +197,82 @@ static void readings(void)
     HOLDS(fenpiling_counts(refused.arena, TABLES, shown.id).holds == 2 && fenpiling_check(refused.arena, TABLES));
 }
 
+#define LIST 4
+
+static uint32_t codes[LIST];
+static uint16_t lefts[LIST], rights[LIST];
+
+/* Fills the list with numbers that no comparison here writes. */
+static void fill_list(void)
+{
+    for (size_t i = 0; i < LIST; i++) {
+        codes[i] = UINT32_C(1000000) + (uint32_t)i;
+        lefts[i] = (uint16_t)(2000 + i);
+        rights[i] = (uint16_t)(3000 + i);
+    }
+}
+
+/* Is the list as it was filled, from this place on? */
+static int is_filled_from(size_t place)
+{
+    int filled = 1;
+    for (size_t i = place; i < LIST; i++)
+        filled &= codes[i] == UINT32_C(1000000) + i && lefts[i] == 2000 + i && rights[i] == 3000 + i;
+    return filled;
+}
+
+/* Compares with so many places of a list just filled. */
+static fenpiling_compared compare(fenpiling_arena arena, uint64_t left, uint64_t right, uint32_t depth, size_t places)
+{
+    fill_list();
+    return fenpiling_compare(arena, TABLES, left, right, depth, codes, places, lefts, places, rights, places);
+}
+
+static int is_refused(fenpiling_compared compared, uint32_t no)
+{
+    return compared.no == no && compared.count == 0 && compared.opened == 0 && is_filled_from(0);
+}
+
+static void comparisons(void)
+{
+    const fenpiling_cell cell[3] = {{1, 0, 0}, {0, 1, 0}, {3, 2, 1}}; /* their codes are 1, 2 and 29 */
+    fenpiling_answer fresh = fenpiling_fresh(CAPACITY, TABLES);
+    fenpiling_made first = fenpiling_set_voxel(fresh.arena, TABLES, FENPILING_EMPTY, 2, cell[0], 5);
+    fenpiling_made october = fenpiling_set_voxel(first.arena, TABLES, first.id, 2, cell[1], 5);
+    fenpiling_made second = fenpiling_set_voxel(october.arena, TABLES, october.id, 2, cell[0], 9);
+    fenpiling_made november = fenpiling_set_voxel(second.arena, TABLES, second.id, 2, cell[2], 7);
+    HOLDS(first.no + october.no + second.no + november.no == FENPILING_ACCEPTED);
+    fenpiling_arena arena = november.arena;
+
+    /* one place too few, just enough, and more */
+    HOLDS(is_refused(compare(arena, october.id, november.id, 2, 1), FENPILING_SHORT_LIST));
+    for (size_t places = 2; places <= LIST; places++) {
+        fenpiling_compared compared = compare(arena, october.id, november.id, 2, places);
+        HOLDS(compared.no == FENPILING_ACCEPTED && compared.count == 2 && compared.opened == 3);
+        HOLDS(codes[0] == 1 && lefts[0] == 5 && rights[0] == 9);
+        HOLDS(codes[1] == 29 && lefts[1] == 0 && rights[1] == 7);
+        HOLDS(is_filled_from(2));
+    }
+    fenpiling_compared back = compare(arena, november.id, october.id, 2, 2);
+    HOLDS(back.no == FENPILING_ACCEPTED && back.count == 2 && back.opened == 3);
+    HOLDS(codes[0] == 1 && lefts[0] == 9 && rights[0] == 5 && codes[1] == 29 && lefts[1] == 7 && rights[1] == 0);
+    fenpiling_compared same = compare(arena, october.id, october.id, 2, 0);
+    HOLDS(same.no == FENPILING_ACCEPTED && same.count == 0 && same.opened == 0);
+    same = fenpiling_compare(arena, TABLES, FENPILING_EMPTY, FENPILING_EMPTY, 6, NULL, 0, NULL, 0, NULL, 0);
+    HOLDS(same.no == FENPILING_ACCEPTED && same.count == 0 && same.opened == 0);
+    HOLDS(compare(arena, FENPILING_EMPTY, october.id, 6, 2).no == FENPILING_SHORT_LIST);
+
+    fill_list();
+    HOLDS(is_refused(fenpiling_compare(arena, TABLES, 1, 1, 7, codes, 3, lefts, 2, rights, 3), FENPILING_SIZE));
+    HOLDS(is_refused(fenpiling_compare(arena, TABLES, 1, 1, 7, codes, 3, lefts, 3, rights, 4), FENPILING_SIZE));
+    HOLDS(is_refused(compare(arena, 1, 1, 7, LIST), FENPILING_DEPTH));
+    HOLDS(is_refused(compare(arena, october.id, FENPILING_INVALID, 1, LIST), FENPILING_NOT_LIVE));
+    HOLDS(is_refused(compare(arena, FENPILING_INVALID, october.id, 1, LIST), FENPILING_NOT_LIVE));
+    HOLDS(is_refused(compare(arena, october.id, FENPILING_EMPTY, 1, 0), FENPILING_TALL));
+    HOLDS(is_refused(compare(arena, FENPILING_EMPTY, october.id, 1, 0), FENPILING_TALL));
+    HOLDS(fenpiling_check(arena, TABLES));
+}
+
 int main(void)
 {
     ids();
@@ -204,5 +280,6 @@ int main(void)
     arenas();
     records();
     readings();
+    comparisons();
     return failures == 0 ? 0 : 1;
 }

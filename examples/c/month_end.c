@@ -1,4 +1,5 @@
-/* Month-end envelopes of a ground model: the root of a month is held, digging goes on, and the old root reads as before. */
+/* Month-end envelopes of a ground model: the root of a month is held, digging goes on, and the old root reads as before. At the next month's end the two are
+ * compared: the planner pays by the cells that have changed. */
 #include <fenpiling.h>
 
 #include <inttypes.h>
@@ -9,6 +10,7 @@
 #define DEPTH 6
 #define EDGE 2 /* cells of 2^-2 metres */
 #define CLAY 5
+#define CHANGES 100 /* the most cells of a month that are listed */
 #define ROCK 9
 
 /* One arena: its state and the tables that are lent to each call. */
@@ -17,6 +19,8 @@ static uint64_t kids[FENPILING_KIDS_LENGTH(CAPACITY)];
 static uint64_t facts[FENPILING_FACTS_LENGTH(CAPACITY)];
 static uint16_t find[FENPILING_FIND_LENGTH(CAPACITY)];
 static uint16_t cube[FENPILING_CUBE_LENGTH(DEPTH)];
+static uint32_t codes[CHANGES];
+static uint16_t before[CHANGES], after[CHANGES];
 
 #define TABLES kids, FENPILING_KIDS_LENGTH(CAPACITY), facts, FENPILING_FACTS_LENGTH(CAPACITY), find, FENPILING_FIND_LENGTH(CAPACITY)
 
@@ -99,6 +103,19 @@ static void show(const char *name, uint64_t root)
            cells_of(root, CLAY), cells_of(root, ROCK));
 }
 
+/* Lists the cells in which a later model differs from an earlier one. */
+static void show_changes(uint64_t earlier, uint64_t later)
+{
+    fenpiling_compared compared =
+        fenpiling_compare(arena, TABLES, earlier, later, DEPTH, codes, CHANGES, before, CHANGES, after, CHANGES);
+    accept(compared.no, "comparison");
+    printf("%" PRIu32 " cells have changed, %" PRIu32 " pairs opened\n", compared.count, compared.opened);
+    for (uint32_t i = 0; i < compared.count; i++) {
+        fenpiling_decoded cell = fenpiling_decode_child_index_path(codes[i]);
+        printf("  (%d, %d, %d): %u, now %u\n", (int)cell.x, (int)cell.y, (int)cell.z, (unsigned)before[i], (unsigned)after[i]);
+    }
+}
+
 int main(void)
 {
     fenpiling_answer fresh = fenpiling_fresh(CAPACITY, TABLES);
@@ -125,6 +142,7 @@ int main(void)
     show("November", model);
     show("October", october);
     printf("cell (1, 2, 3): %u in October, %u now\n", (unsigned)value_at(october, 1, 2, 3), (unsigned)value_at(model, 1, 2, 3));
+    show_changes(october, model);
 
     /* A cell outside the cube is refused, and nothing changes. */
     fenpiling_cell outside = {64, 0, 0};

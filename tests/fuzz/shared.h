@@ -95,7 +95,7 @@ static int kept(void)
            memcmp(copy.find, lent.find, sizeof lent.find) == 0;
 }
 
-static int same_arena(fenpiling_arena a, fenpiling_arena b)
+static inline int same_arena(fenpiling_arena a, fenpiling_arena b)
 {
     return a.capacity == b.capacity && a.next == b.next && a.top == b.top && a.live == b.live;
 }
@@ -117,7 +117,7 @@ static void demand_well_formed(fenpiling_arena arena)
 }
 
 /* Expands the root, compares the cube, and releases all. */
-static void finish(fenpiling_arena arena, uint64_t root)
+static inline void finish(fenpiling_arena arena, uint64_t root)
 {
     demand(fenpiling_to_vec(arena, TABLES, root, DEPTH, lent.cube, FENPILING_CUBE_LENGTH(DEPTH)) == FENPILING_ACCEPTED,
            "the expansion is accepted");

@@ -60,6 +60,15 @@ pub struct Looked {
     pub value: u16,
 }
 
+/// The comparison of two models.
+#[repr(C)]
+#[derive(Clone, Copy, Debug, PartialEq, Eq)]
+pub struct Compared {
+    pub no: u32,
+    pub count: u32,
+    pub opened: u32,
+}
+
 /// What a record says.
 #[repr(C)]
 #[derive(Clone, Copy, Debug, PartialEq)]
@@ -216,6 +225,24 @@ unsafe extern "C" {
         position: Cell,
         value: u16,
     ) -> Made;
+    pub unsafe fn fenpiling_compare(
+        arena: Arena,
+        kids: *const u64,
+        kids_length: usize,
+        facts: *const u64,
+        facts_length: usize,
+        find: *const u16,
+        find_length: usize,
+        left: u64,
+        right: u64,
+        depth: u32,
+        codes: *mut u32,
+        codes_length: usize,
+        lefts: *mut u16,
+        lefts_length: usize,
+        rights: *mut u16,
+        rights_length: usize,
+    ) -> Compared;
     pub unsafe fn fenpiling_parse_reading(record: *const u8, record_length: usize) -> Reading;
     pub unsafe fn fenpiling_enter_reading(
         arena: Arena,

@@ -1,4 +1,5 @@
-//! Month-end envelopes of a ground model: the root of a month is kept under its name, digging goes on, and the old root reads as before.
+//! Month-end envelopes of a ground model: the root of a month is kept under its name, digging goes on, and the old root reads as before. At the next
+//! month's end the two are compared: the planner pays by the cells that have changed.
 use fenpiling::{Arena, Cell, MAX_DEPTH, Metres, Reading, Refusal, Root};
 
 const CLAY: u16 = 5;
@@ -24,6 +25,21 @@ impl Envelope {
             count(CLAY),
             count(ROCK)
         );
+        Ok(())
+    }
+
+    /// Lists the cells in which this model differs from an earlier one.
+    fn show_changes(&self, earlier: &Envelope) -> Result<(), Refusal> {
+        let changes = earlier.root.changes(&self.root, MAX_DEPTH)?;
+        println!(
+            "{} cells have changed, {} pairs opened",
+            changes.len(),
+            changes.opened()
+        );
+        for change in changes {
+            let Cell { x, y, z } = change.cell;
+            println!("  ({x}, {y}, {z}): {}, now {}", change.before, change.after);
+        }
         Ok(())
     }
 }
@@ -59,6 +75,7 @@ fn main() -> Result<(), Refusal> {
         october.root.lookup(MAX_DEPTH, rock)?,
         november.root.lookup(MAX_DEPTH, rock)?
     );
+    november.show_changes(&october)?;
 
     // A cell outside the cube is refused, and nothing changes
     if let Err(refusal) = november.root.edit(MAX_DEPTH, Cell::new(64, 0, 0), ROCK) {

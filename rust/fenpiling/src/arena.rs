@@ -1,5 +1,5 @@
 use crate::ffi::Tables;
-use crate::{Cell, Id, MAX_DEPTH, Reading, Refusal};
+use crate::{Cell, Changes, Id, MAX_DEPTH, Reading, Refusal};
 use std::cell::RefCell;
 use std::fmt;
 use std::rc::Rc;
@@ -294,6 +294,50 @@ impl Root {
         let mut tables = self.arena.tables.borrow_mut();
         let id = tables.enter(self.id, depth, edge, record)?;
         Ok(self.arena.own(id))
+    }
+
+    /// The cells of a cube of the depth in which a later model differs from this one, each once, in rising [path code](Cell::path). What the two share
+    /// is passed over, so that the time goes with the changes and not with the cells of the cube.
+    ///
+    /// Refusals: [`Depth`](Refusal::Depth); [`NotLive`](Refusal::NotLive) for a model of another arena, where EMPTY is of every arena;
+    /// [`Tall`](Refusal::Tall) where one of the two is taller than the depth.
+    ///
+    /// October's model is kept, November's edits go on from it, and at the month's end the planner pays by the cells that have changed:
+    ///
+    /// ```
+    /// use fenpiling::{Arena, Cell, Change, Refusal};
+    ///
+    /// let arena = Arena::new(512)?;
+    /// let (seam, shaft) = (Cell::new(1, 2, 3), Cell::new(40, 50, 60));
+    /// let october = arena.empty().edit(6, seam, 9)?.edit(6, shaft, 5)?;
+    ///
+    /// // the seam is dug out, and clay found beside the shaft; what was dug at the shaft is filled again
+    /// let november = october.edit(6, seam, 0)?.edit(6, shaft, 0)?;
+    /// let november = november.edit(6, shaft, 5)?.edit(6, Cell::new(41, 50, 60), 5)?;
+    ///
+    /// let changes: Vec<Change> = october.changes(&november, 6)?.collect();
+    /// assert_eq!(changes, [
+    ///     Change { cell: seam, before: 9, after: 0 },
+    ///     Change { cell: Cell::new(41, 50, 60), before: 0, after: 5 },
+    /// ]);
+    /// let dug = changes.iter().filter(|change| change.after == 0).count();
+    /// assert_eq!((dug, changes.len()), (1, 2));
+    /// assert_eq!(october.changes(&november, 5).err(), Some(Refusal::Tall));
+    /// # Ok::<(), Refusal>(())
+    /// ```
+    pub fn changes(&self, later: &Root, depth: u32) -> Result<Changes, Refusal> {
+        let arena = if self.id.is_empty() {
+            &later.arena
+        } else {
+            &self.arena
+        };
+        // what is of another arena has no id in this one
+        let right = if later.id.is_empty() || arena.has(later) {
+            later.id
+        } else {
+            Id::INVALID
+        };
+        Changes::of(&mut arena.tables.borrow_mut(), self.id, right, depth)
     }
 
     /// The values of all 8^depth cells; cell (x, y, z) stands at y·4^depth + z·2^depth + x. Refusal: [`Depth`](Refusal::Depth).

@@ -1,5 +1,5 @@
 //! The tables of an arena with its state, and the library's calls on them. All unsafe code of this crate stands here.
-use crate::{Cell, Counts, Id, Metres, Reading, Refusal};
+use crate::{Cell, Change, Counts, Id, Metres, Reading, Refusal};
 use fenpiling_sys as library;
 
 /// The state of an arena and its three tables. They come from a fresh arena and are changed by the library's calls alone, which keep them well formed.
@@ -14,8 +14,8 @@ pub(crate) struct Tables {
 macro_rules! call {
     ($function:ident($first:expr, $tables:ident $(, $other:expr)*)) => {
         // SAFETY: `$tables` is borrowed mutably, so that its three slices are there for this call alone. They don't overlap, and go with their own lengths.
-        // Where the others are a slice's address and length, these are a slice's of the caller, a mutable one where the function writes it. The function stays
-        // inside what it is lent.
+        // Where the others are addresses with lengths, each is that of a slice of the caller, of a mutable one where the function writes it. The function
+        // stays inside what it is lent.
         unsafe {
             library::$function(
                 $first,
@@ -147,6 +147,42 @@ impl Tables {
             value
         ));
         self.made(made)
+    }
+
+    /// The cells in which two roots differ, and how many pairs of ids were opened. The list that is lent has so many places.
+    pub(crate) fn compare(
+        &mut self,
+        left: Id,
+        right: Id,
+        depth: u32,
+        places: usize,
+    ) -> Result<(Vec<Change>, u32), Refusal> {
+        let (mut codes, mut lefts, mut rights) =
+            (vec![0; places], vec![0; places], vec![0; places]);
+        let compared = call!(fenpiling_compare(
+            self.state,
+            self,
+            left.raw(),
+            right.raw(),
+            depth,
+            codes.as_mut_ptr(),
+            codes.len(),
+            lefts.as_mut_ptr(),
+            lefts.len(),
+            rights.as_mut_ptr(),
+            rights.len()
+        ));
+        Refusal::accept(compared.no)?;
+        let values = lefts.into_iter().zip(rights);
+        let listed = codes.into_iter().zip(values).take(compared.count as usize);
+        let changes = listed.map(|(code, (before, after))| {
+            Cell::from_path(code).map(|cell| Change {
+                cell,
+                before,
+                after,
+            })
+        });
+        Ok((changes.collect::<Result<_, _>>()?, compared.opened))
     }
 
     pub(crate) fn enter(

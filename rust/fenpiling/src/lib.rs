@@ -17,6 +17,8 @@
 //! # }
 //! ```
 //!
+//! [`Root::changes`] lists the cells in which two models differ, and passes over what they share.
+//!
 //! A surveyor's instrument writes metres: [`Root::enter`] enters a [`Reading`], and [`Root::enter_record`] a record as it stands in the instrument's file.
 //!
 //! The calls are those of libfenpiling.a, which are proved to meet the contracts that their comments here put into words. This crate owns the memory that
@@ -33,6 +35,7 @@
 
 mod arena;
 mod cell;
+mod changes;
 #[allow(unsafe_code)]
 mod ffi;
 mod id;
@@ -41,6 +44,7 @@ mod refusal;
 
 pub use arena::{Arena, BranchRefused, Counts, Root};
 pub use cell::Cell;
+pub use changes::{Change, Changes};
 pub use id::Id;
 pub use reading::{Metres, Reading};
 pub use refusal::Refusal;

@@ -19,7 +19,7 @@ pub enum Refusal {
     ZeroLeaf = 6,
     /// Eight EMPTY children.
     AllEmpty = 7,
-    /// The new branch would be taller than 6, or the root to edit is taller than the depth.
+    /// The new branch would be taller than 6, or a root to edit or to compare is taller than the depth.
     Tall = 8,
     /// The expansion buffer is not 8^depth long.
     Cube = 9,
@@ -33,10 +33,12 @@ pub enum Refusal {
     Record = 13,
     /// A number of a reading is a NaN or infinite.
     NotFinite = 14,
+    /// More cells differ than the list of a comparison has places. [`Root::changes`](crate::Root::changes) makes room, so that this crate never meets it.
+    ShortList = 15,
 }
 
 impl Refusal {
-    const ALL: [Refusal; 14] = [
+    const ALL: [Refusal; 15] = [
         Refusal::Size,
         Refusal::Depth,
         Refusal::Position,
@@ -51,9 +53,10 @@ impl Refusal {
         Refusal::Generation,
         Refusal::Record,
         Refusal::NotFinite,
+        Refusal::ShortList,
     ];
 
-    /// The refusal's number, 1 to 14.
+    /// The refusal's number, 1 to 15.
     pub fn number(self) -> u32 {
         self as u32
     }
@@ -90,6 +93,7 @@ impl fmt::Display for Refusal {
             Refusal::Generation => "the generation is above 0x7FFE",
             Refusal::Record => "the record is not one of the instrument's",
             Refusal::NotFinite => "a number is a NaN or infinite",
+            Refusal::ShortList => "more cells differ than the list has places",
         })
     }
 }

@@ -208,6 +208,7 @@ fn refusals_have_their_numbers() {
         Refusal::Generation,
         Refusal::Record,
         Refusal::NotFinite,
+        Refusal::ShortList,
     ];
     for (refusal, number) in all.into_iter().zip(1..) {
         assert_eq!(refusal.number(), number);

@@ -1,10 +1,10 @@
 //! The calls on lent tables, as values, so that they can be drawn, counted and told.
 use crate::lent::Lent;
 use fenpiling_sys::{
-    Answer, Arena, Cell, Children, Made, Reading, fenpiling_check, fenpiling_counts,
-    fenpiling_enter_reading, fenpiling_fresh, fenpiling_get_at_depth, fenpiling_hold,
-    fenpiling_intern_branch, fenpiling_intern_leaf, fenpiling_parse_reading, fenpiling_release,
-    fenpiling_set_voxel, fenpiling_to_vec,
+    Answer, Arena, Cell, Children, Made, Reading, fenpiling_check, fenpiling_compare,
+    fenpiling_counts, fenpiling_decode_child_index_path, fenpiling_enter_reading, fenpiling_fresh,
+    fenpiling_get_at_depth, fenpiling_hold, fenpiling_intern_branch, fenpiling_intern_leaf,
+    fenpiling_parse_reading, fenpiling_release, fenpiling_set_voxel, fenpiling_to_vec,
 };
 
 /// The bytes of a record and some more; as many of them are lent as a round's records are long.
@@ -23,12 +23,13 @@ pub enum Call {
     GetAtDepth(u64, u32, Cell),
     ToVec(u64, u32),
     SetVoxel(u64, u32, Cell, u16),
+    Compare(u64, u64, u32),
     ParseReading(Record),
     EnterReading(u64, u32, u32, Record),
 }
 
 /// The names of the calls, and the numbers that each can answer.
-pub const KINDS: [(&str, &[u32]); 12] = [
+pub const KINDS: [(&str, &[u32]); 13] = [
     ("fresh", &[0, 1]),
     ("intern_leaf", &[0, 1, 6, 10, 11]),
     ("intern_branch", &[0, 1, 4, 5, 7, 8, 10, 11]),
@@ -39,6 +40,7 @@ pub const KINDS: [(&str, &[u32]); 12] = [
     ("get_at_depth", &[0, 1, 2, 3, 4]),
     ("to_vec", &[0, 1, 2, 4, 9]),
     ("set_voxel", &[0, 1, 2, 3, 4, 8, 10, 11]),
+    ("compare", &[0, 1, 2, 4, 8, 15]),
     ("parse_reading", &[0, 13, 14]),
     ("enter_reading", &[0, 1, 2, 3, 4, 8, 10, 11, 13, 14]),
 ];
@@ -57,8 +59,9 @@ impl Call {
             Call::GetAtDepth(..) => 7,
             Call::ToVec(..) => 8,
             Call::SetVoxel(..) => 9,
-            Call::ParseReading(_) => 10,
-            Call::EnterReading(..) => 11,
+            Call::Compare(..) => 10,
+            Call::ParseReading(_) => 11,
+            Call::EnterReading(..) => 12,
         }
     }
 
@@ -70,6 +73,7 @@ impl Call {
                 | Call::Check
                 | Call::GetAtDepth(..)
                 | Call::ToVec(..)
+                | Call::Compare(..)
                 | Call::ParseReading(_)
         )
     }
@@ -98,7 +102,15 @@ pub struct Tables {
     pub facts: Lent<u64>,
     pub find: Lent<u16>,
     pub cube: Lent<u16>,
+    pub list: List,
     pub record: Lent<u8>,
+}
+
+/// The list of a comparison: path codes, and the values on both sides.
+pub struct List {
+    pub codes: Lent<u32>,
+    pub lefts: Lent<u16>,
+    pub rights: Lent<u16>,
 }
 
 /// What was lent, before a call.
@@ -107,6 +119,9 @@ pub struct Copied {
     facts: Vec<u64>,
     find: Vec<u16>,
     cube: Vec<u16>,
+    codes: Vec<u32>,
+    lefts: Vec<u16>,
+    rights: Vec<u16>,
 }
 
 /// What a call answers: its number (of the check: 0 for yes, 1 for no), the state, and the id or what stands for it.
@@ -114,6 +129,10 @@ pub struct Outcome {
     pub no: u32,
     pub arena: Arena,
     pub id: Option<u64>,
+    /// The value of the cell that it looked up.
+    pub value: u16,
+    /// How many cells it says that it has listed.
+    pub listed: usize,
     /// A refusal that answers a value or counts other than 0.
     pub spoils: bool,
 }
@@ -124,6 +143,9 @@ impl Tables {
             && self.facts.canaries_live()
             && self.find.canaries_live()
             && self.cube.canaries_live()
+            && self.list.codes.canaries_live()
+            && self.list.lefts.canaries_live()
+            && self.list.rights.canaries_live()
             && self.record.canaries_live()
     }
 
@@ -133,6 +155,9 @@ impl Tables {
             facts: self.facts.words().to_vec(),
             find: self.find.words().to_vec(),
             cube: self.cube.words().to_vec(),
+            codes: self.list.codes.words().to_vec(),
+            lefts: self.list.lefts.words().to_vec(),
+            rights: self.list.rights.words().to_vec(),
         }
     }
 
@@ -154,12 +179,56 @@ impl Tables {
         self.cube.words() == copied.cube
     }
 
+    /// Are the places of the list from this one on as when they were copied?
+    pub fn list_as(&mut self, copied: &Copied, from: usize) -> bool {
+        let list = &mut self.list;
+        list.codes.words().get(from..) == copied.codes.get(from..)
+            && list.lefts.words().get(from..) == copied.lefts.get(from..)
+            && list.rights.words().get(from..) == copied.rights.get(from..)
+    }
+
+    /// Are so many places of the list cells of a cube of the depth, in rising path code, with values that differ?
+    pub fn lists_cells(&mut self, listed: usize, depth: u32) -> bool {
+        let Some(codes) = self.list.codes.words().get(..listed) else {
+            return false;
+        };
+        let values = self.list.lefts.words().iter().zip(self.list.rights.words());
+        codes.is_sorted_by(|code, next| code < next)
+            && codes.iter().all(|&code| code < 1 << (3 * depth))
+            && values.take(listed).all(|(left, right)| left != right)
+    }
+
+    /// Is the cell of the path code listed with what lookup answers of both roots, or not listed and the same in both?
+    pub fn lists_as_lookup(
+        &mut self,
+        arena: Arena,
+        roots: [u64; 2],
+        depth: u32,
+        listed: usize,
+        code: u32,
+    ) -> bool {
+        let decoded = fenpiling_decode_child_index_path(code);
+        let (x, y, z) = (decoded.x, decoded.y, decoded.z);
+        let lookup = |root| Call::GetAtDepth(root, depth, Cell { x, y, z });
+        let [left, right] = roots.map(|root| self.call(arena, lookup(root)).value);
+        match self.list.codes.words()[..listed].binary_search(&code) {
+            Ok(place) => {
+                let (lefts, rights) = (self.list.lefts.words(), self.list.rights.words());
+                (left, right) == (lefts[place], rights[place])
+            }
+            Err(_) => left == right,
+        }
+    }
+
     /// Makes a call.
     pub fn call(&mut self, arena: Arena, call: Call) -> Outcome {
         let kids = self.kids.words();
         let facts = self.facts.words();
         let find = self.find.words();
         let cube = self.cube.words();
+        let codes = self.list.codes.words();
+        let lefts = self.list.lefts.words();
+        let rights = self.list.rights.words();
         let record = self.record.words();
         macro_rules! lend {
             ($function:ident($first:expr $(, $other:expr)*)) => {
@@ -197,7 +266,10 @@ impl Tables {
             }
             Call::GetAtDepth(id, depth, cell) => {
                 let looked = lend!(fenpiling_get_at_depth(arena, id, depth, cell));
-                read(arena, looked.no, looked.value == 0)
+                Outcome {
+                    value: looked.value,
+                    ..read(arena, looked.no, looked.value == 0)
+                }
             }
             Call::ToVec(id, depth) => {
                 let (address, length) = (cube.as_mut_ptr(), cube.len());
@@ -206,6 +278,25 @@ impl Tables {
             }
             Call::SetVoxel(root, depth, cell, value) => {
                 made(lend!(fenpiling_set_voxel(arena, root, depth, cell, value)))
+            }
+            Call::Compare(left, right, depth) => {
+                let compared = lend!(fenpiling_compare(
+                    arena,
+                    left,
+                    right,
+                    depth,
+                    codes.as_mut_ptr(),
+                    codes.len(),
+                    lefts.as_mut_ptr(),
+                    lefts.len(),
+                    rights.as_mut_ptr(),
+                    rights.len()
+                ));
+                let nothing = (compared.count, compared.opened) == (0, 0);
+                Outcome {
+                    listed: compared.count as usize,
+                    ..read(arena, compared.no, nothing)
+                }
             }
             Call::ParseReading(bytes) => {
                 record.copy_from_slice(&bytes[..record.len()]);
@@ -252,6 +343,8 @@ fn made(made: Made) -> Outcome {
         no: made.no,
         arena: made.arena,
         id: Some(made.id),
+        value: 0,
+        listed: 0,
         spoils: made.no != 0 && made.id != u64::MAX,
     }
 }
@@ -261,6 +354,8 @@ fn answered(answer: Answer) -> Outcome {
         no: answer.no,
         arena: answer.arena,
         id: None,
+        value: 0,
+        listed: 0,
         spoils: false,
     }
 }
@@ -270,6 +365,8 @@ fn read(arena: Arena, no: u32, nothing: bool) -> Outcome {
         no,
         arena,
         id: None,
+        value: 0,
+        listed: 0,
         spoils: no != 0 && !nothing,
     }
 }

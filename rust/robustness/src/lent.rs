@@ -13,6 +13,12 @@ impl Word for u64 {
     }
 }
 
+impl Word for u32 {
+    fn cut(number: u64) -> u32 {
+        number as u32
+    }
+}
+
 impl Word for u16 {
     fn cut(number: u64) -> u16 {
         number as u16

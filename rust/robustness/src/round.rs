@@ -1,11 +1,11 @@
 //! A round: tables made and damaged, and calls on them, each watched.
-use crate::calls::{Call, KINDS, Record, Tables};
+use crate::calls::{Call, KINDS, List, Record, Tables};
 use crate::lent::{Lent, Placing, Word};
 use crate::numbers::Numbers;
 use fenpiling_sys::{Arena, Cell};
 
 /// How many calls of each kind answered each number.
-pub type Seen = [[u64; 15]; KINDS.len()];
+pub type Seen = [[u64; 16]; KINDS.len()];
 
 /// What the tables of a round are.
 #[derive(Clone, Copy, Debug, PartialEq)]
@@ -60,6 +60,15 @@ pub fn play(seed: u64, heap: bool, seen: &mut Seen) -> Result<(), String> {
     }
     let cells = 1 << (3 * shallow(&mut numbers));
     let cube = if numbers.once_in(8) { cells + 1 } else { cells };
+    let places = if numbers.once_in(3) {
+        numbers.below(20)
+    } else {
+        1 << (3 * shallow(&mut numbers))
+    };
+    let mut list = [places; 3];
+    if numbers.once_in(6) {
+        list[numbers.below(3)] = numbers.of(&[0, places / 2, places + 1]);
+    }
     let record = if numbers.once_in(4) {
         numbers.below(1 + size_of::<Record>())
     } else {
@@ -80,6 +89,11 @@ pub fn play(seed: u64, heap: bool, seen: &mut Seen) -> Result<(), String> {
             facts: Lent::new(lengths[1], placing),
             find: Lent::new(lengths[2], placing),
             cube: Lent::new(cube, placing),
+            list: List {
+                codes: Lent::new(list[0], placing),
+                lefts: Lent::new(list[1], placing),
+                rights: Lent::new(list[2], placing),
+            },
             record: Lent::new(record, placing),
         },
         arena: Arena {
@@ -91,8 +105,11 @@ pub fn play(seed: u64, heap: bool, seen: &mut Seen) -> Result<(), String> {
         ids: vec![0],
         seen,
     };
+    round.fill_list();
     round.play().map_err(|fault| {
-        format!("seed {seed}, {ground:?} tables of {capacity} slots {lengths:?}: {fault}")
+        format!(
+            "seed {seed}, {ground:?} tables of {capacity} slots {lengths:?}, a list of {list:?} places: {fault}"
+        )
     })
 }
 
@@ -176,6 +193,26 @@ impl Round<'_> {
             if (refused || !matches!(call, Call::ToVec(..))) && !self.tables.cube_as(&copied) {
                 return fault("changed the cube");
             }
+            if !self.tables.list_as(&copied, outcome.listed) {
+                return fault("changed the list where it lists nothing");
+            }
+        }
+        if let Call::Compare(left, right, depth) = call
+            && !refused
+        {
+            if !self.tables.lists_cells(outcome.listed, depth) {
+                return fault("listed what is no list of cells");
+            }
+            let codes = &self.tables.list.codes.words()[..outcome.listed];
+            let ends = [codes.first().copied(), codes.last().copied()];
+            let any = self.numbers.below(1 << (3 * depth)) as u32;
+            for code in ends.into_iter().flatten().chain([any]) {
+                let roots = [left, right];
+                let tables = &mut self.tables;
+                if !tables.lists_as_lookup(self.arena, roots, depth, outcome.listed, code) {
+                    return fault("listed something else than lookup answers");
+                }
+            }
         }
         if let Call::ParseReading(bytes) | Call::EnterReading(_, _, _, bytes) = call
             && !self.tables.record_as(&bytes)
@@ -196,7 +233,7 @@ impl Round<'_> {
     fn sensible(&mut self) -> Call {
         let id = self.numbers.of(&self.ids);
         let depth = shallow(&mut self.numbers);
-        match self.numbers.below(15) {
+        match self.numbers.below(16) {
             0 | 1 => Call::InternLeaf(1 + self.numbers.below(3) as u16),
             2 => {
                 let mut children = [0; 8];
@@ -214,6 +251,7 @@ impl Round<'_> {
                 let k = self.numbers.below(7) as u32;
                 Call::EnterReading(id, depth, k, self.reading(depth, k))
             }
+            11 => Call::Compare(id, self.numbers.of(&self.ids), depth.max(3)),
             _ => Call::SetVoxel(id, depth, self.cell(depth), self.numbers.below(4) as u16),
         }
     }
@@ -235,7 +273,7 @@ impl Round<'_> {
             _ => self.cell(depth),
         };
         let value = self.numbers.odd() as u16;
-        match self.numbers.below(26) {
+        match self.numbers.below(29) {
             0 => {
                 let capacity = self.numbers.of(&[0, 1, 2, 65_536, 65_537, usize::MAX]);
                 Call::Fresh(capacity)
@@ -262,8 +300,9 @@ impl Round<'_> {
                         .unwrap_or(depth),
                 )
             }
-            17 => Call::ParseReading(self.record(depth, 3)),
-            18..22 => {
+            17..20 => Call::Compare(id, self.id(), depth),
+            20 => Call::ParseReading(self.record(depth, 3)),
+            21..25 => {
                 let k = self.numbers.below(8) as u32;
                 Call::EnterReading(id, depth, k, self.record(depth, k))
             }
@@ -351,6 +390,15 @@ impl Round<'_> {
         let any = self.numbers.any() as i32;
         self.numbers
             .of(&[0, -1, edge - 1, edge, i32::MIN, i32::MAX, any])
+    }
+
+    /// Fills the list with numbers, so that a place that is written is seen.
+    fn fill_list(&mut self) {
+        let numbers = &mut self.numbers;
+        let list = &mut self.tables.list;
+        list.codes.words().fill_with(|| numbers.any() as u32);
+        list.lefts.words().fill_with(|| numbers.any() as u16);
+        list.rights.words().fill_with(|| numbers.any() as u16);
     }
 
     /// Changes words of the tables, or of the state.
