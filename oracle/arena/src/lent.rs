@@ -1,6 +1,7 @@
 //! The port's arena on tables that stand between guard words.
 use crate::call::{Answered, Call, Entry};
 use port::arena::{self, Arena, Tables};
+use port::compare::{self, Compared, List};
 use port::model::{self, Cell, Looked};
 use port::readings;
 use reference::document01::EMPTY;
@@ -203,6 +204,12 @@ impl Lent {
     pub fn expand(&mut self, id: u64, depth: u32, cube: &mut [u16]) -> u32 {
         let state = self.arena;
         model::to_vec(state, &mut self.tables(), id, depth, cube)
+    }
+
+    /// Comparison of two roots into a lent list.
+    pub fn compare(&mut self, left: u64, right: u64, depth: u32, list: &mut List) -> Compared {
+        let state = self.arena;
+        compare::compare(state, &mut self.tables(), left, right, depth, list)
     }
 }
 

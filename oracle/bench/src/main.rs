@@ -1,6 +1,7 @@
-//! Times the port's arena, reading and edits beside the original's, and its readings in metres beside single edits: the same driver on the same inputs, in
-//! turn, in one run. To be built with --profile unchecked, so that the original runs as in a user's release build.
+//! Times the port's arena, reading and edits beside the original's, its readings in metres beside single edits, and its comparison of two roots beside a scan of
+//! two expansions: the same driver on the same inputs, in turn, in one run. To be built with --profile unchecked, so that the original runs as in a user's release build.
 mod edits;
+mod months;
 mod reading;
 mod readings;
 mod refused;
@@ -88,4 +89,5 @@ fn main() {
     reading::all();
     edits::rows();
     readings::rows();
+    months::rows();
 }

@@ -10,27 +10,27 @@ use std::hint::black_box;
 use voxelis::utils::common::{get_at_depth, to_vec};
 use voxelis::{BlockId, MaxDepth, TraversalDepth, VoxInterner};
 
-const DEPTH: u32 = 6;
+pub const DEPTH: u32 = 6;
 const SIDE: i32 = 1 << DEPTH;
-const CELLS: usize = 1 << (3 * DEPTH);
+pub const CELLS: usize = 1 << (3 * DEPTH);
 /// How many lookups are timed together.
 const LOOKUPS: usize = 10_000;
 /// How often the arena check is timed.
 const CHECKS: usize = 30;
 
-type Model = fn([i32; 3]) -> u16;
+pub type Model = fn([i32; 3]) -> u16;
 
 fn one_leaf(_: [i32; 3]) -> u16 {
     7
 }
 
 /// Every cell differs from its six neighbours.
-fn checkerboard([x, y, z]: [i32; 3]) -> u16 {
+pub fn checkerboard([x, y, z]: [i32; 3]) -> u16 {
     1 + ((x ^ y ^ z) & 1) as u16
 }
 
 /// Ground in layers of eight cells: y is up, and the height falls off from the middle.
-fn hill([x, y, z]: [i32; 3]) -> u16 {
+pub fn hill([x, y, z]: [i32; 3]) -> u16 {
     let away = (x - SIDE / 2).pow(2) + (z - SIDE / 2).pow(2);
     if y < 8 + 44 * 400 / (400 + away) {
         1 + (y / 8) as u16
@@ -92,7 +92,7 @@ trait Reader: Store {
 impl Port {
     /// The expansion into a lent cube.
     #[inline(always)]
-    fn expand_into(&mut self, id: u64, cube: &mut [u16]) {
+    pub fn expand_into(&mut self, id: u64, cube: &mut [u16]) {
         let (state, mut tables) = self.parts();
         assert_eq!(model::to_vec(state, &mut tables, id, DEPTH, cube), 0);
     }
@@ -131,9 +131,14 @@ impl Reader for VoxInterner<u16> {
     }
 }
 
+/// The root of a model.
+pub fn root_of<S: Store>(store: &mut S, model: Model) -> u64 {
+    make(store, model, [0; 3], SIDE)
+}
+
 fn model_of<S: Store>(model: Model) -> (S, u64) {
     let mut store = S::fresh(CAPACITY);
-    let root = make(&mut store, model, [0; 3], SIDE);
+    let root = root_of(&mut store, model);
     (store, root)
 }
 

@@ -21,6 +21,7 @@ macro_rules! call {
 }
 
 pub mod arena;
+pub mod compare;
 mod ids_and_paths;
 pub mod model;
 pub mod readings;

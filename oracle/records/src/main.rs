@@ -1,11 +1,16 @@
 //! What the program `edits` has to write, by a plain reading of document 01: an array of cells beside the reference arena, each edit by path copy. And
-//! what `survey` has to write.
+//! what `survey` and `months` have to write.
 //!
 //!     records FILE                        the listing of a file's edits
 //!     records random COUNT SEED           so many edits at random, on standard output
 //!     records survey K FILE               the listing of a file's readings, with an edge of 2^-K metres
 //!     records survey random COUNT SEED K  so many readings at random, on standard output
 //!     records survey sample               samples/survey.bin, on standard output
+//!     records months FILE FILE            the listing of two files' edits and of the cells in which they differ
+//!     records months october              samples/months-october.bin, on standard output
+//!     records months november             samples/months-november.bin, on standard output
+//!     records months block SIDE VALUE     edits that fill a cube of so many cells a side, on standard output
+mod months;
 mod readings;
 
 use reference::Random;
@@ -107,6 +112,12 @@ impl Model {
         refusal
     }
 
+    /// One record, given its bytes: the refusal.
+    fn enter(&mut self, record: &[u8]) -> u32 {
+        let word = |i: usize| u16::from_le_bytes([record[2 * i], record[2 * i + 1]]);
+        self.record([word(0), word(1), word(2)], word(3))
+    }
+
     fn look(&self, cell: Cell) -> u16 {
         let mut id = self.root;
         for level in 0..DEPTH {
@@ -138,8 +149,7 @@ fn list(bytes: &[u8], out: &mut impl Write) -> std::io::Result<()> {
     let records = bytes.chunks_exact(8);
     let short = records.remainder().len();
     for (number, record) in records.enumerate() {
-        let word = |i: usize| u16::from_le_bytes([record[2 * i], record[2 * i + 1]]);
-        let refusal = model.record([word(0), word(1), word(2)], word(3));
+        let refusal = model.enter(record);
         writeln!(out, "{} {refusal} {}", number + 1, text(model.root))?;
     }
     assert!(model.shows_its_cells());
@@ -197,9 +207,18 @@ fn main() -> std::io::Result<()> {
             let [count, seed, edge] = [count, seed, edge].map(|word| word.parse().unwrap());
             readings::random(count as usize, seed, edge as u32, &mut out)
         }
+        ["months", "october"] => months::october(&mut out),
+        ["months", "november"] => months::november(&mut out),
+        ["months", "block", side, value] => {
+            months::block(side.parse().unwrap(), value.parse().unwrap(), &mut out)
+        }
+        ["months", left, right] => {
+            months::list(&std::fs::read(left)?, &std::fs::read(right)?, &mut out)
+        }
         _ => {
             eprintln!(
-                "records FILE, records random COUNT SEED, or records survey with K FILE, random COUNT SEED K, or sample"
+                "records FILE, records random COUNT SEED, or records survey with K FILE, random COUNT SEED K, or sample, \
+                 or records months with FILE FILE, october, november, or block SIDE VALUE"
             );
             std::process::exit(2);
         }

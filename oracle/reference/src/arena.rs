@@ -121,6 +121,16 @@ impl Arena {
         if id == EMPTY { 0 } else { self.node(id).value }
     }
 
+    /// No branch at or below a root has eight times the same leaf.
+    pub fn is_tidy(&self, root: u64) -> bool {
+        if root == EMPTY || is_leaf(root) {
+            return true;
+        }
+        let children = self.node(root).children;
+        let is_one_leaf = is_leaf(children[0]) && children == [children[0]; 8];
+        !is_one_leaf && children.iter().all(|child| self.is_tidy(*child))
+    }
+
     /// The id of the live leaf of this value.
     pub fn leaf_of(&self, value: u16) -> Option<u64> {
         (self.leaves.get(&value)).map(|slot| self.slots[*slot as usize].id)

@@ -68,7 +68,7 @@ impl Arena {
             return (8, INVALID);
         }
         let voxel = Voxel { depth, cell, value };
-        let result = if self.value_of_cell(root, voxel) == value {
+        let result = if self.value_of_cell(root, depth, cell) == value {
             Part::There(root)
         } else {
             self.made_anew(root, 0, voxel)
@@ -89,16 +89,16 @@ impl Arena {
     }
 
     /// Down from the root until EMPTY, a leaf, or level d.
-    fn value_of_cell(&self, root: u64, voxel: Voxel) -> u16 {
+    pub(crate) fn value_of_cell(&self, root: u64, depth: u32, [x, y, z]: [i32; 3]) -> u16 {
         let mut id = root;
-        for level in 0..voxel.depth {
-            id = self.eight(id)[voxel.child_at(level)];
+        for level in 0..depth {
+            id = self.eight(id)[child(x, y, z, level, depth).1 as usize];
         }
         self.value(id)
     }
 
     /// The children of a branch. A leaf met above level d stands for eight of itself, and EMPTY for eight EMPTY.
-    fn eight(&self, id: u64) -> [u64; 8] {
+    pub(crate) fn eight(&self, id: u64) -> [u64; 8] {
         if id == EMPTY || is_leaf(id) {
             [id; 8]
         } else {

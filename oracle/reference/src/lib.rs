@@ -2,6 +2,7 @@
 pub mod arena;
 pub mod document01;
 mod edit;
+pub mod months;
 mod panics;
 mod random;
 pub mod reading;

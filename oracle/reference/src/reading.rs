@@ -10,7 +10,7 @@ fn is_outside(depth: u32, cell: [i32; 3]) -> bool {
     cell.iter().any(|c| *c < 0 || *c >= 1 << depth)
 }
 
-fn is_empty_or_live(tables: &Tables, id: u64) -> bool {
+pub(crate) fn is_empty_or_live(tables: &Tables, id: u64) -> bool {
     id == EMPTY || tables.is_live(id)
 }
 
@@ -38,7 +38,7 @@ pub fn lookup(tables: &Tables, id: u64, depth: u32, cell: [i32; 3]) -> (u32, u16
 }
 
 /// Lookup starts at the given id as level 0 and goes down until EMPTY (0), a leaf (its value), or level d (the stored value).
-fn value_at(tables: &Tables, id: u64, depth: u32, [x, y, z]: [i32; 3]) -> u16 {
+pub(crate) fn value_at(tables: &Tables, id: u64, depth: u32, [x, y, z]: [i32; 3]) -> u16 {
     let mut at = id;
     for level in 0..depth {
         if at == EMPTY || is_leaf(at) {
