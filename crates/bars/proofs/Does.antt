@@ -61,6 +61,28 @@ module _ {t : Tables} (w : WellFormed cubeKids deepest t) (root d : ℕ) (p : IV
       does-as cubeKids deepest fit (λ a. on a (o .id)) (λ a. 0) (λ s. 0) (edit-does w root d p v high)
       (λ a. accepted o (on a (o .id)) ok) (λ a. refl) (λ s l. grown-ends-none fit (o .after) w (edit-grows w root d p v high .1) s l)
 
+  -- its answer is held
+  pub edit-held : Held (editOf t root d p v .after) (editOf t root d p v .id)
+  edit-held = granted-held edit-grants
+
+  module _ (h : Held t root) where
+    root-held : Held (editOf t root d p v .after) root
+    root-held = held-one (editOf t root d p v .after) root (omega (arith, edit-grants .balance root, on-held t root h root))
+
+    -- then the root is released: that is accepted, and takes its hold
+    pub edit-passes : Does cubeKids deepest t (releaseOf deepest (editOf t root d p v .after) root .after) (λ a. on a (editOf t root d p v .id)) (λ a. on a root)
+        (λ s. ended (editOf t root d p v .after) (releaseOf deepest (editOf t root d p v .after) root .after) s)
+    edit-passes =
+        let o = editOf t root d p v in
+        does-as cubeKids deepest fit (λ a. on a (o .id)) (λ a. on a root) (λ s. ended (o .after) (releaseOf deepest (o .after) root .after) s)
+        (does-both cubeKids deepest fit w edit-grants (held-does (edit-grants .well) root root-held))
+        (λ a. omega arith) (λ a. omega arith) (λ s l. omega arith)
+
+    pub passes-held : Held (releaseOf deepest (editOf t root d p v .after) root .after) (editOf t root d p v .id)
+    passes-held =
+        let o = editOf t root d p v in
+        held-one (releaseOf deepest (o .after) root .after) (o .id) (omega (arith, edit-passes .balance (o .id), on-held t root h (o .id)))
+
 -- before each edit: well formed, and someone holds the passing root
 abbrev pub Ready : Tables → ℕ → Type 0
 Ready u r = WellFormed cubeKids deepest u × Held u r
@@ -75,23 +97,18 @@ module _ (d y z v : ℕ) (high : v ≤ largestValue) where
     pub edited : Does cubeKids deepest u (o .after) (λ a. on a (o .id)) (λ a. 0) (λ s. 0)
     edited = edit-grants w r d (place x y z) v high ok
 
-    -- its answer is held
     pub answer-held : Held (o .after) (o .id)
-    answer-held = granted-held edited
+    answer-held = edit-held w r d (place x y z) v high ok
 
     module _ (h : Held u r) where
       pub still-held : Held (o .after) r
-      still-held = held-one (o .after) r (omega (arith, edited .balance r, on-held u r h r))
+      still-held = root-held w r d (place x y z) v high ok h
 
-      -- then the passing root is released: that is accepted, and takes its hold
       pub stepped : Does cubeKids deepest u (passed d y z v u r x) (λ a. on a (o .id)) (λ a. on a r) (λ s. ended (o .after) (passed d y z v u r x) s)
-      stepped =
-          does-as cubeKids deepest fit (λ a. on a (o .id)) (λ a. on a r) (λ s. ended (o .after) (passed d y z v u r x) s)
-          (does-both cubeKids deepest fit w edited (held-does (edited .well) r still-held))
-          (λ a. omega arith) (λ a. omega arith) (λ s l. omega arith)
+      stepped = edit-passes w r d (place x y z) v high ok h
 
       pub next-held : Held (passed d y z v u r x) (o .id)
-      next-held = held-one (passed d y z v u r x) (o .id) (omega (arith, stepped .balance (o .id), on-held u r h (o .id)))
+      next-held = passes-held w r d (place x y z) v high ok h
 
   -- ## From a passing root on
 

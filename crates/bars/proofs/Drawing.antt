@@ -11,7 +11,7 @@ use Rattle.nodes.specs.Values.{heightAt}
 use Rattle.nodes.specs.Words.{slot}
 use Rattle.nodes.proofs.Sums.{cases}
 use Rattle.tree.specs.Tree.{LiveOr0, Root}
-use Rattle.tree.specs.Demand.{At}
+use Rattle.tree.specs.Cells.{At}
 use Rattle.tree.proofs.Grow.{root-later, height-later}
 use Rattle.arena.specs.Calls.{Out}
 use Rattle.arena.specs.Tables.{Tables, cap, W, WellFormed}
@@ -141,7 +141,7 @@ shown-more d y z v x k {t} {a} {u} {b} {w} {c} p q =
 
 module _ (d y z v : ℕ) (high : v ≤ largestValue) where
   -- the release of the passing root keeps the next one
-  pub answer-kept : (u : Tables) (r x : ℕ) → Ready u r → editAt d y z v u r x .no ≡ 0
+  answer-kept : (u : Tables) (r x : ℕ) → Ready u r → editAt d y z v u r x .no ≡ 0
       → Kept cubeKids deepest (editAt d y z v u r x .after) (passed d y z v u r x) (editAt d y z v u r x .id)
   answer-kept u r x (w, h) ok =
       let o = editAt d y z v u r x in

@@ -10,7 +10,7 @@ use Rattle.basics.specs.Limits.{deepest, deepestCube, cubeKids, kidWords, large
 use Rattle.nodes.proofs.Sums.{cases}
 use Rattle.paths.specs.declared.IVec3.{IVec3}
 use Rattle.tree.specs.Tree.{LiveOr0, Below}
-use Rattle.tree.specs.Demand.{At}
+use Rattle.tree.specs.Cells.{At}
 use Rattle.tree.proofs.Grow.{extends-keeps}
 use Rattle.arena.specs.Calls.{Out, countsOf}
 use Rattle.arena.specs.Tables.{Tables, cap, W, WellFormed}

@@ -7,7 +7,7 @@ use lib.ListN.{length}
 use Rattle.basics.specs.Limits.{deepest, deepestCube, cubeKids, largestValue}
 use Rattle.ids.specs.Ids.{invalid}
 use Rattle.tree.specs.Tree.{LiveOr0, Below}
-use Rattle.tree.specs.Demand.{At}
+use Rattle.tree.specs.Cells.{At}
 use Rattle.arena.specs.Calls.{countsOf}
 use Rattle.arena.specs.Tables.{Tables, cap, W, WellFormed}
 use Rattle.ledger.specs.Fates.{Lives, Grew}

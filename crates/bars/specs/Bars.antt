@@ -1,7 +1,7 @@
 -- A bar: the cells from x to x + k at y and z are edited with one value, in rising order, each passing root released after the next is made.
 use mathlib.Core.Path.{_≡_}
 use mathlib.Core.Logic.{_⊎_}
-use mathlib.Core.List.{List, [], _∷_}
+use mathlib.Core.List.{List}
 use Prim.Native.Nat.{ℕ, zero, suc, _+_, _^_, _≤_, _<_}
 use lib.Dec.{eqb}
 use lib.ListN.{length}
@@ -10,9 +10,7 @@ use Rattle.basics.specs.Pick.{pick}
 use Rattle.paths.specs.Paths.{place}
 use Rattle.nodes.specs.Values.{heightAt}
 use Rattle.tree.specs.Tree.{LiveOr0, Root}
-use Rattle.tree.specs.Cells.{cubePath}
-use Rattle.tree.specs.Demand.{At}
-use Rattle.tree.specs.Edits.{Change}
+use Rattle.tree.specs.Cells.{At}
 use Rattle.arena.specs.Tables.{Tables, cap, W, WellFormed}
 use Rattle.arena.specs.Calls.{Out, said, refused, releaseOf}
 use Rattle.ledger.specs.Ledger.{on, holdsOn}
@@ -91,10 +89,3 @@ pub record Drawn (d : ℕ) (t : Tables) (root y z a b v : ℕ) (u : Tables) (r :
 -- accepted, or refused by 10 or 11
 abbrev pub Late : ℕ → Type 0
 Late k = (k ≡ 0) ⊎ (k ≡ 10) ⊎ (k ≡ 11)
-
--- ## A bar is a run of changes
-
--- the changes that a bar of n cells from x on enters
-unfoldable pub changesOf : ℕ → ℕ → ℕ → ℕ → ℕ → ℕ → List Change
-changesOf d y z v x zero = []
-changesOf d y z v x (suc n) = record { cell = cubePath d x y z; value = v } ∷ changesOf d y z v (suc x) n

@@ -11,7 +11,7 @@ use borrow.Author.Tests.{eq-eqb, le-leb}
 use Rattle.basics.specs.Limits.{deepest, deepestCube}
 use Rattle.nodes.proofs.Sums.{cases}
 use Rattle.tree.specs.Tree.{LiveOr0, look}
-use Rattle.tree.specs.Demand.{At, way, Apart}
+use Rattle.tree.specs.Cells.{At, way, Apart}
 use Rattle.arena.specs.Tables.{Tables, cap, W, WellFormed}
 use Rattle.arena.proofs.Fits.{sized-fits}
 use Rattle.read_cell.specs.Reading.{cubeOf}

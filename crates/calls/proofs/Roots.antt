@@ -6,7 +6,7 @@ use native.Mathlib.Omega.{arith}
 use lib.ListN.{length}
 use Rattle.basics.specs.Limits.{deepest, deepestCube, cubeKids, kidWords}
 use Rattle.tree.specs.Tree.{LiveOr0, Cell, look}
-use Rattle.tree.specs.Demand.{At, way}
+use Rattle.tree.specs.Cells.{At, way}
 use Rattle.tree.proofs.CellLaws.{cube-cell}
 use Rattle.tree.proofs.Grow.{look-later, there-later}
 use Rattle.arena.specs.Tables.{Tables, cap, W, WellFormed}

@@ -5,7 +5,7 @@ use Prim.Native.Nat.{ℕ, _+_, _*_, _^_}
 use lib.ListN.{length, getD}
 use Rattle.paths.specs.declared.IVec3.{IVec3}
 use Rattle.paths.specs.Paths.{place}
-use Rattle.tree.specs.Demand.{At}
+use Rattle.tree.specs.Cells.{At}
 use Rattle.arena.specs.Tables.{Tables}
 use Rattle.read_cell.specs.Calls.{lookOf, expandOf}
 

@@ -5,7 +5,7 @@ use mathlib.Core.List.{List}
 use Prim.Native.Nat.{ℕ, _+_, _≤_, _<_}
 use Rattle.ids.specs.Ids.{generationOf}
 use Rattle.nodes.specs.Words.{own, slot}
-use Rattle.tree.specs.Tree.{Keeps}
+use Rattle.tree.specs.Tree.{LiveOr0, Keeps}
 use Rattle.arena.specs.Calls.{freshOf}
 use Rattle.arena.specs.Tables.{Tables, cap, W, WellFormed}
 use Rattle.ledger.specs.Ledger.{holdsOn, Balanced}
@@ -46,6 +46,10 @@ pub record History (Step : Stepping) (t : Tables) (granted taken : ℕ → ℕ) 
   pub bare : Fresh begin
   pub times : ℕ → ℕ
   pub since : Since Step begin t granted taken times
+
+-- EMPTY, or the id of a node now in the arena. A held root is, and so is whatever stands at or below one that is.
+abbrev pub There : Tables → ℕ → Type 0
+There t a = LiveOr0 (cap t) (W t) a
 
 -- EMPTY, or someone holds it
 abbrev pub Held : Tables → ℕ → Type 0

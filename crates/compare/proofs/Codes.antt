@@ -9,8 +9,7 @@ use Rattle.basics.specs.Bits.{bit}
 use Rattle.paths.specs.Paths.{interleave, low10, pathOf, octant, gather}
 use Rattle.paths.proofs.Bits.{bit-past}
 use Rattle.paths.proofs.Laws.{path-lt, path-gather, gather-lt}
-use Rattle.tree.specs.Cells.{pathBy, cubePath}
-use Rattle.tree.specs.Demand.{At, way}
+use Rattle.tree.specs.Cells.{pathBy, cubePath, At, way}
 use Rattle.tree.proofs.CellLaws.{cube-one}
 use Rattle.calls.specs.Cells.{spot}
 use Rattle.compare_pairs.specs.Differing.{cellOf}

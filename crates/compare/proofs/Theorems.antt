@@ -19,7 +19,7 @@ use Rattle.nodes.specs.Values.{heightAt}
 use Rattle.nodes.proofs.Sums.{cases}
 use Rattle.paths.specs.Paths.{inside, whole, pathOf}
 use Rattle.tree.specs.Tree.{LiveOr0, Tidy, Root}
-use Rattle.tree.specs.Demand.{At, way}
+use Rattle.tree.specs.Cells.{At, way}
 use Rattle.arena.specs.Tables.{Tables, cap, W, WellFormed}
 use Rattle.arena.specs.Calls.{fits, liveOrEmpty}
 use Rattle.arena.proofs.Fits.{sized-fits}

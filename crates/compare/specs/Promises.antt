@@ -5,7 +5,7 @@ use mathlib.Core.List.{List}
 use Prim.Native.Nat.{ℕ, _≤_, _<_}
 use lib.ListN.{length, getD}
 use Rattle.paths.specs.Paths.{pathOf}
-use Rattle.tree.specs.Demand.{At}
+use Rattle.tree.specs.Cells.{At}
 use Rattle.arena.specs.Tables.{Tables}
 use Rattle.read_cell.specs.Calls.{lookOf}
 use Rattle.calls.specs.Cells.{spot}

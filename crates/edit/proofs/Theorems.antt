@@ -15,7 +15,7 @@ use Rattle.paths.specs.Paths.{whole}
 use Rattle.tree.specs.Tree.{LiveOr0, WellMade, Root, look, Extends}
 use Rattle.tree.specs.Anew.{Anew}
 use Rattle.tree.specs.Edits.{Edited}
-use Rattle.tree.specs.Demand.{At, way, Apart}
+use Rattle.tree.specs.Cells.{At, way, Apart}
 use Rattle.tree.specs.Lacks.{Need, have, lack, Lacks}
 use Rattle.tree.proofs.Canon.{canon}
 use Rattle.tree.proofs.CellLaws.{cube-cell, cube-one, cube-onto}
@@ -101,12 +101,10 @@ one-id {d} {t} w h a b ra rb same = canon cubeKids (cap t) (W t) (wf-made (omega
 
 -- ## An edit of a cell of a cube
 
--- an accepted edit, with the capacity that the tables had at the start
-pub cell-edited : {d : ℕ} (c₀ : ℕ) {t : Tables} → WellFormed cubeKids deepest t → cap t ≡ c₀ → (a : ℕ) (c : At d) (v : ℕ) → v ≤ largestValue → editNo t a d (spot c) v ≡ 0
-    → Edited cubeKids c₀ d (W t) a (way c) v (W (then t a c v)) (gives t a c v)
+cell-edited : {d : ℕ} {t : Tables} → WellFormed cubeKids deepest t → (a : ℕ) (c : At d) (v : ℕ) → v ≤ largestValue → editNo t a d (spot c) v ≡ 0
+    → Edited cubeKids (cap t) d (W t) a (way c) v (W (then t a c v)) (gives t a c v)
 unfolding whole
-cell-edited {d} c₀ {t} w e a c v h ok =
-    subst (λ (k : ℕ). Edited cubeKids k d (W t) a (way c) v (W (then t a c v)) (gives t a c v)) e (edit-right w a d (spot c) v h ok .edited)
+cell-edited {d} w a c v h ok = edit-right w a d (spot c) v h ok .edited
 
 apart-way : {d : ℕ} (c e : At d) → Apart c e → way c ≢ way e
 apart-way {d} c e h k = h (cube-one d (c .in-x) (c .in-y) (c .in-z) (e .in-x) (e .in-y) (e .in-z) k)
@@ -119,7 +117,7 @@ edit-reads {d} {t} w a c v high ok =
     let s = edit-right w a d (spot c) v high ok in
     let u = then t a c v in
     let r = gives t a c v in
-    let e = cell-edited (cap t) w refl a c v high ok in
+    let e = cell-edited w a c v high ok in
     let z = s .size in
     let past = accepted-past t a d (spot c) v ok in
     let h = deep t a d (spot c) (past .0) in

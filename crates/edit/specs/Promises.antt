@@ -12,7 +12,7 @@ use Rattle.tree.specs.Tree.{LiveOr0, Root, Below, WellMade, Cell, Extends}
 use Rattle.tree.specs.Anew.{Answer}
 use Rattle.tree.specs.Edits.{Edited}
 use Rattle.tree.specs.Lacks.{Lacks, Newly}
-use Rattle.tree.specs.Demand.{At, Apart}
+use Rattle.tree.specs.Cells.{At, Apart}
 use Rattle.arena.specs.Tables.{Tables, cap, W, WellFormed}
 use Rattle.calls.specs.Cells.{spot, standsAt, Answers, Alike}
 use Rattle.read_cell.specs.Calls.{expandOf}

@@ -8,7 +8,7 @@ use Rattle.tree.proofs.Grow.{extends-keeps}
 use Rattle.arena.specs.Calls.{Out, releaseOf}
 use Rattle.arena.specs.Tables.{Tables, WellFormed}
 use Rattle.ledger.specs.Ledger.{on}
-use Rattle.calls.specs.Does.{Does, now, then}
+use Rattle.calls.specs.Does.{Does, now, then, There}
 use Rattle.calls.proofs.Compose.{does-net}
 use Rattle.calls.proofs.Follows.{held-there}
 use Rattle.calls.proofs.Lasting.{untaken-extends}
@@ -17,7 +17,7 @@ use Rattle.bars.specs.Bars.{barOf, passOf}
 use Rattle.bars.proofs.Ways.{editAt, passed, pass-all, bar-by}
 use Rattle.bars.proofs.Does.{edited, held-does, granted-held, stepped, next-held, Ready, ready-first, ready-next}
 use Rattle.bars.proofs.Drawing.{number, cell}
-use Rattle.promises.specs.Promises.{Cube, changed, There, Stands, release, voxel, call, other, edit}
+use Rattle.promises.specs.Promises.{Cube, changed, Stands, release, voxel, call, other, edit}
 use Rattle.promises.specs.Bars.{After, painted}
 use Rattle.promises.proofs.Cubes.{stands-well, stands-there}
 use Rattle.promises.proofs.Painting.{painted-none, painted-first}

@@ -3,13 +3,13 @@ use mathlib.Core.Path.{_≡_, refl, _∙_, subst}
 use Prim.Native.Nat.{ℕ, _≤_}
 use native.Mathlib.Omega.{arith}
 use Rattle.basics.specs.Limits.{deepest, cubeKids, kidWords}
-use Rattle.tree.specs.Tree.{WellMade, Extends}
-use Rattle.tree.specs.Edits.{Later}
-use Rattle.tree.proofs.Grow.{extends-trans}
+use Rattle.tree.specs.Tree.{Extends}
+use Rattle.tree.proofs.Grow.{extends-keeps, extends-trans}
 use Rattle.arena.specs.Tables.{Tables, cap, W, WellFormed}
 use Rattle.ledger.proofs.Going.{leaf-ends-none, branch-ends-none, hold-ends-none}
+use Rattle.calls.specs.Does.{There}
 use Rattle.calls.proofs.Once.{grew-extends}
-use Rattle.read_cell.proofs.Meaning.{wf-made}
+use Rattle.calls.proofs.Roots.{kept-there}
 use Rattle.promises.specs.Promises.{Call, leaf, branch, hold, release, voxel, Handed, outcome, NoRelease, Unreleased, none, and}
 use Rattle.edit.proofs.Does.{edit-grows}
 use Rattle.promises.proofs.Calls.{call-does}
@@ -33,8 +33,12 @@ call-grows {t} w (hold b) h n = grew-extends cubeKids fit (hold-ends-none t b)
 call-grows w (release b) h n = absurd n
 call-grows w (voxel b e p v) h n = edit-grows w b e p v h .1
 
-call-keeps-all : {t : Tables} (c : Call) → WellFormed cubeKids deepest t → Handed c → NoRelease c → AllKept t (outcome t c .after)
+pub call-keeps-all : {t : Tables} (c : Call) → WellFormed cubeKids deepest t → Handed c → NoRelease c → AllKept t (outcome t c .after)
 call-keeps-all c w h n = let d = call-does w c h in record { well = d .well; size = d .size; grows = call-grows w c h n }
+
+-- so what was there is there
+pub all-there : {t u : Tables} → WellFormed cubeKids deepest t → AllKept t u → {b : ℕ} → There t b → There u b
+all-there w g {b} l = kept-there fit w l (record { well = g .well; size = g .size; keeps = extends-keeps (g .grows) b })
 
 -- ## Any number of calls
 
@@ -50,10 +54,3 @@ unreleased-keeps-all w none = record { well = w; size = refl; grows = λ a l. re
 unreleased-keeps-all {u = u} w (and c h n r) =
     let g = call-keeps-all c w h n in
     all-kept-then u g (unreleased-keeps-all (g .well) r)
-
--- what stands between two edits, with the capacity that the tables had at the start
-pub all-kept-later : (c₀ : ℕ) {t u : Tables} → cap t ≡ c₀ → AllKept t u → Later cubeKids c₀ (W t) (W u)
-all-kept-later c₀ {t} {u} e g = record {
-  grows = subst (λ (k : ℕ). Extends cubeKids k (W t) (W u)) e (g .grows);
-  made = subst (λ (k : ℕ). WellMade cubeKids k (W u)) (g .size ∙ e) (wf-made (omega arith) (g .well));
-}

@@ -6,16 +6,18 @@ use lib.ListN.{length}
 use lib.Pow.{shr-lt}
 use Rattle.basics.specs.Limits.{deepest, deepestCube, cubeKids, largestValue}
 use Rattle.nodes.specs.Values.{heightAt}
-use Rattle.tree.specs.Demand.{At}
+use Rattle.tree.specs.Cells.{At}
 use Rattle.arena.specs.Tables.{Tables, W, WellFormed}
 use Rattle.calls.specs.Cells.{spot, Answers, Expands}
 use Rattle.calls.proofs.Expanding.{look-at, answers-as, expand-at}
 use Rattle.edit.specs.Edit.{editNo}
 use Rattle.edit.specs.Promises.{then, gives}
 use Rattle.edit.proofs.Edits.{accepted-past}
-use Rattle.promises.specs.Promises.{Cube, changed, scaled, Within, There, outcome, Stands, empty, solid, octants, edit, other, scale}
+use Rattle.calls.specs.Does.{There}
+use Rattle.promises.specs.Promises.{Cube, changed, scaled, Within, Stands, empty, solid, octants, edit, other, scale}
 use Rattle.promises.proofs.Calls.{call-keeps}
-use Rattle.promises.proofs.Shows.{Shows, empty-shows, edit-shows, kept-shows, scale-shows, block-shown, changed-here, changed-elsewhere}
+use Rattle.promises.proofs.Spots.{changed-here, changed-elsewhere}
+use Rattle.promises.proofs.Shows.{Shows, empty-shows, edit-shows, kept-shows, scale-shows, block-shown}
 use Rattle.promises.proofs.Octants.{solid-shows, octants-show}
 
 shows : {d : ℕ} {t : Tables} {a : ℕ} {F : Cube d} → Stands d t a F → Shows d t a F

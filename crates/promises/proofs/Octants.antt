@@ -9,8 +9,7 @@ use Rattle.nodes.specs.Values.{valueAt, heightAt, maxTo}
 use Rattle.paths.specs.Paths.{octant}
 use Rattle.paths.proofs.Bits.{bit-mod}
 use Rattle.tree.specs.Tree.{Leaf, Branch, look, childOf}
-use Rattle.tree.specs.Cells.{pathBy, cubePath}
-use Rattle.tree.specs.Demand.{way}
+use Rattle.tree.specs.Cells.{pathBy, cubePath, way}
 use Rattle.tree.proofs.Canon.{look-flat, look-branch, flat-low}
 use Rattle.tree.proofs.CellLaws.{path-cong}
 use Rattle.arena.specs.Tables.{Tables, cap, W, WellFormed}

@@ -9,16 +9,17 @@ use borrow.Author.Tests.{eq-eqb, eqb-true, le-leb, leb-true}
 use Rattle.basics.specs.Limits.{largestValue}
 use Rattle.basics.specs.Pick.{pick}
 use Rattle.nodes.proofs.Sums.{cases, split}
-use Rattle.tree.specs.Demand.{At}
+use Rattle.tree.specs.Cells.{At}
 use Rattle.arena.specs.Tables.{Tables}
 use Rattle.arena.proofs.Fits.{both}
 use Rattle.bars.specs.Bars.{OnBar, barOf}
 use Rattle.bars.proofs.Drawing.{bar-drawn}
 use Rattle.bars.proofs.Theorems.{bar-accepted}
 use Rattle.calls.proofs.Expanding.{look-at}
-use Rattle.promises.specs.Promises.{Cube, sameAt, changed}
+use Rattle.promises.specs.Promises.{Cube, changed}
 use Rattle.promises.specs.Bars.{onBar, painted}
-use Rattle.promises.proofs.Shows.{Shows, changed-elsewhere}
+use Rattle.promises.proofs.Spots.{changed-at, changed-elsewhere}
+use Rattle.promises.proofs.Shows.{Shows}
 
 -- ## On the bar and off it
 
@@ -53,10 +54,6 @@ by-bar y z a b s f g = split (onBar y z a b s) (λ e. f (true-bar y z a b s e)) 
 pub painted-none : {d : ℕ} (F : Cube d) (y z b v : ℕ) → F ≡ painted F y z (suc b) b v
 painted-none F y z b v = fun-ext (λ s. sym (painted-off F y z (suc b) b v s (λ h. let p = h .2 in let q = h .3 in omega arith)))
 
-pub changed-at : {d : ℕ} (F : Cube d) (c : At d) (v : ℕ) (s : At d) → s .x ≡ c .x → s .y ≡ c .y → s .z ≡ c .z → changed F c v s ≡ v
-unfolding changed sameAt
-changed-at F c v s ex ey ez = rw (eq-eqb (s .x) (c .x) ex, eq-eqb (s .y) (c .y) ey, eq-eqb (s .z) (c .z) ez)
-
 -- the first cell, and then the rest
 pub painted-first : {d : ℕ} (F : Cube d) (c : At d) (b v : ℕ) → c .x ≤ b → painted (changed F c v) (c .y) (c .z) (suc (c .x)) b v ≡ painted F (c .y) (c .z) (c .x) b v
 painted-first F c b v low = fun-ext (λ s.
@@ -65,7 +62,7 @@ painted-first F c b v low = fun-ext (λ s.
     (λ h.
     let p = h .2 in
     cases (ℕ-discrete (s .x) (c .x))
-    (λ e. rest (λ m. let n = m .2 in omega arith) ∙ changed-at F c v s e (h .0) (h .1))
+    (λ e. rest (λ m. let n = m .2 in omega arith) ∙ changed-at F c v s (e, h .0, h .1))
     (λ e. painted-on (changed F c v) (c .y) (c .z) (suc (c .x)) b v s (h .0, h .1, omega arith, h .3))
     ∙ sym (painted-on F (c .y) (c .z) (c .x) b v s h))
     (λ h.

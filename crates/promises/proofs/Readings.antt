@@ -1,13 +1,13 @@
 -- Readings among the calls: the answer of a shot or a bar stands for the old root's plain cube with its cells painted, and every other root for the cube that
 -- it stood for.
 use mathlib.Core.Path.{_≡_, sym, ap, _∙_, subst}
-use mathlib.Core.Bool.{true, false}
+use mathlib.Core.Bool.{true}
 use mathlib.Core.List.{List}
 use Prim.Native.Nat.{ℕ, _+_, _-_, _≤_}
 use native.Mathlib.Decide.{ℕ-discrete}
 use native.Mathlib.Omega.{arith}
-use Rattle.basics.specs.Limits.{deepest, cubeKids, kidWords}
-use Rattle.nodes.proofs.Sums.{cases, split}
+use Rattle.basics.specs.Limits.{cubeKids, kidWords}
+use Rattle.nodes.proofs.Sums.{cases}
 use Rattle.arena.specs.Calls.{Out, fits, holdNo}
 use Rattle.arena.specs.Tables.{Tables}
 use Rattle.arena.proofs.Fits.{sized-fits}
@@ -21,7 +21,8 @@ use Rattle.readings.specs.Enter.{pauseOf, askedOf, enterOf}
 use Rattle.readings.proofs.Aims.{SoundCells, Sound, aim-sound}
 use Rattle.readings.proofs.Law.{paused, unpaused, enter-sized}
 use Rattle.readings.proofs.Theorems.{enter-kept, enter-bar}
-use Rattle.promises.specs.Promises.{Cube, There, hold, Stands, other}
+use Rattle.calls.specs.Does.{There}
+use Rattle.promises.specs.Promises.{Cube, hold, Stands, other}
 use Rattle.promises.specs.Bars.{painted}
 use Rattle.promises.proofs.Cubes.{stands-well, stands-there}
 use Rattle.promises.proofs.Bars.{bar-stands, bar-others}

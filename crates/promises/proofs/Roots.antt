@@ -25,9 +25,9 @@ use Rattle.ledger.specs.Fates.{Lives, HasContent}
 use Rattle.ledger.proofs.Contents.{leaf-interned, branch-interned}
 use Rattle.ledger.proofs.Found.{kid-word, lives-slot}
 use Rattle.read_cell.proofs.Meaning.{wf-made}
-use Rattle.calls.specs.Does.{Held}
+use Rattle.calls.specs.Does.{Held, There}
 use Rattle.calls.proofs.Follows.{held-there}
-use Rattle.promises.specs.Promises.{Cube, There, joined, Stands, solid, octants, other, branch as branchCall, empty as standsEmpty}
+use Rattle.promises.specs.Promises.{Cube, joined, Stands, solid, octants, other, branch as branchCall, empty as standsEmpty}
 use Rattle.promises.proofs.Calls.{call-does}
 use Rattle.promises.proofs.Cubes.{stands-well}
 

@@ -1,39 +1,34 @@
 -- What it is to show a cube, in the tables: each cell, read from the root, has the cube's number. EMPTY shows zeros; an edit changes one cell; a kept root
 -- shows what it showed; and at another depth no less than its height it shows the same cube, scaled.
 use mathlib.Core.Path.{_≡_, refl, sym, ap, _∙_, subst}
-use mathlib.Core.Logic.{_≢_, inl}
-use mathlib.Core.Bool.{true, false, true≢false}
-use mathlib.Core.List.{List}
+use mathlib.Core.Logic.{inl}
 use Prim.Native.Nat.{ℕ, _+_, _-_, _*_, _/_, _^_, _≤_}
 use native.Mathlib.Nat.{mul-div-cancel, div-div-eq-div-mul}
 use native.Mathlib.Decide.{decLe}
 use native.Mathlib.Omega.{arith}
-use lib.Dec.{eqb}
 use lib.Pow.{pow-pos, pow-add}
-use borrow.Author.Tests.{eq-eqb, eqb-true}
-use Rattle.basics.specs.Limits.{deepest, cubeKids, kidWords, largestValue}
+use Rattle.basics.specs.Limits.{deepest, cubeKids, largestValue}
 use Rattle.nodes.specs.Values.{heightAt}
-use Rattle.basics.specs.Pick.{pick}
 use Rattle.nodes.proofs.Sums.{split, cases}
 use Rattle.paths.specs.Paths.{whole}
 use Rattle.tree.specs.Tree.{LiveOr0, look}
-use Rattle.tree.specs.Demand.{At, way}
-use Rattle.tree.specs.Cells.{cubePath}
+use Rattle.tree.specs.Cells.{cubePath, At, way}
 use Rattle.tree.proofs.Canon.{look-flat, value-empty, height-empty}
-use Rattle.tree.proofs.CellLaws.{cube-cell, cube-one}
+use Rattle.tree.proofs.CellLaws.{cube-cell}
 use Rattle.tree.proofs.Grow.{height-later}
 use Rattle.arena.specs.Tables.{Tables, cap, W, WellFormed}
-use Rattle.arena.proofs.Fits.{both}
 use Rattle.read_cell.proofs.Meaning.{wf-made}
 use Rattle.read_cell.proofs.Plain.{cell-whole, plain-deeper}
 use Rattle.read_cell.proofs.Laws.{well-small}
 use Rattle.calls.specs.Cells.{spot}
-use Rattle.calls.specs.Does.{Kept}
+use Rattle.calls.specs.Does.{Kept, There}
 use Rattle.calls.proofs.Roots.{kept-there, kept-look}
 use Rattle.edit.specs.Edit.{editNo}
 use Rattle.edit.specs.Promises.{then, gives}
 use Rattle.edit.proofs.Edits.{edit-right}
-use Rattle.promises.specs.Promises.{Cube, sameAt, changed, onto, scaled, Within, There}
+use Rattle.lists.specs.Changes as lists
+use Rattle.promises.specs.Promises.{Cube, sameAt, changed, onto, scaled, Within}
+use Rattle.promises.proofs.Spots.{same-one, same-no}
 
 pub record Shows (d : ℕ) (t : Tables) (a : ℕ) (F : Cube d) : Type 0 where
   pub well : WellFormed cubeKids deepest t
@@ -49,38 +44,9 @@ empty-shows d {t} w = record {
   cells = λ c. look-flat (W t) (way c) 0 (inl refl) ∙ value-empty (W t) 0 refl;
 }
 
-pub same-spot : {d : ℕ} (s c : At d) → sameAt s c ≡ true → (s .x ≡ c .x) × (s .y ≡ c .y) × (s .z ≡ c .z)
-unfolding sameAt
-same-spot s c e =
-    let a = both (eqb (s .x) (c .x)) (pick (eqb (s .y) (c .y)) (eqb (s .z) (c .z)) false) e in
-    let b = both (eqb (s .y) (c .y)) (eqb (s .z) (c .z)) (a .1) in
-    (eqb-true (s .x) (c .x) (a .0), eqb-true (s .y) (c .y) (b .0), eqb-true (s .z) (c .z) (b .1))
-
-same-yes : {d : ℕ} (s c : At d) → sameAt s c ≡ true → way s ≡ way c
-same-yes s c e =
-    let r = same-spot s c e in
-    let x = r .0 in
-    let y = r .1 in
-    let z = r .2 in
-    cc
-
-same-no : {d : ℕ} (s c : At d) → sameAt s c ≡ false → way s ≢ way c
-unfolding sameAt
-same-no {d} s c e k =
-    let r = cube-one d (s .in-x) (s .in-y) (s .in-z) (c .in-x) (c .in-y) (c .in-z) k in
-    true≢false (sym (rw (eq-eqb (s .x) (c .x) (r .0), eq-eqb (s .y) (c .y) (r .1), eq-eqb (s .z) (c .z) (r .2))) ∙ e)
-
-pub changed-here : {d : ℕ} (F : Cube d) (c : At d) (v : ℕ) → changed F c v c ≡ v
-unfolding changed sameAt
-changed-here F c v = rw (eq-eqb (c .x) (c .x) refl, eq-eqb (c .y) (c .y) refl, eq-eqb (c .z) (c .z) refl)
-
-pub changed-elsewhere : {d : ℕ} (F : Cube d) (c : At d) (v : ℕ) (s : At d) → ¬ ((s .x ≡ c .x) × (s .y ≡ c .y) × (s .z ≡ c .z)) → changed F c v s ≡ F s
-unfolding changed
-changed-elsewhere F c v s n = split (sameAt s c) (λ q. absurd (n (same-spot s c q))) (λ q. rw q)
-
 pub edit-shows : (d : ℕ) {t : Tables} (a : ℕ) (F : Cube d) (c : At d) (v : ℕ) → v ≤ largestValue → editNo t a d (spot c) v ≡ 0 → Shows d t a F
     → Shows d (then t a c v) (gives t a c v) (changed F c v)
-unfolding changed whole
+unfolding lists.changed whole
 edit-shows d {t} a F c v h ok s =
     let r = edit-right (s .well) a d (spot c) v h ok in
     let e = r .edited in
@@ -89,7 +55,7 @@ edit-shows d {t} a F c v h ok s =
       there = subst (λ (k : ℕ). LiveOr0 k (W (then t a c v)) (gives t a c v)) (sym (r .size)) (e .there);
       low = e .low;
       cells = λ i. split (sameAt i c)
-          (λ q. rw q (ap (λ (l : List ℕ). look (W (then t a c v)) l (gives t a c v)) (same-yes i c q) ∙ e .changed))
+          (λ q. rw q (ap (λ (s : At d). look (W (then t a c v)) (way s) (gives t a c v)) (same-one i c q) ∙ e .changed))
           (λ q. rw q (e .others (way i) (cube-cell d (i .x) (i .y) (i .z)) (same-no i c q) ∙ s .cells i));
     }
 

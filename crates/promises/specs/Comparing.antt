@@ -9,6 +9,6 @@ use Rattle.compare.specs.Compare.{Outcome}
 use Rattle.promises.specs.Runs.{Change}
 
 -- The changes enter the list of a comparison, one by one, from place i to the last: each is at the cell whose path code is listed, and has the value of the right side.
-abbrev pub Enters : {d : ℕ} → Outcome → ℕ → List (Change d) → Type 0
-Enters o i [] = i ≡ o .count
-Enters o i (e ∷ es) = (pathOf (spot (e .cell)) ≡ getD (o .codes) i 0) × (e .value ≡ getD (o .rights) i 0) × Enters o (suc i) es
+abbrev pub ListFrom : {d : ℕ} → Outcome → ℕ → List (Change d) → Type 0
+ListFrom o i [] = i ≡ o .count
+ListFrom o i (e ∷ es) = (pathOf (spot (e .cell)) ≡ getD (o .codes) i 0) × (e .value ≡ getD (o .rights) i 0) × ListFrom o (suc i) es

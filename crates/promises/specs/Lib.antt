@@ -1,5 +1,6 @@
 pub mod Promises
 pub mod Freed
-pub mod Bars
 pub mod Runs
+pub mod Bars
+pub mod Lists
 pub mod Comparing

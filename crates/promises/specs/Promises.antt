@@ -16,16 +16,18 @@ use Rattle.nodes.specs.Values.{valueAt, heightAt}
 use Rattle.nodes.specs.Tally.{occ}
 use Rattle.paths.specs.declared.IVec3.{IVec3}
 use Rattle.paths.specs.Paths.{inside, octant}
-use Rattle.tree.specs.Tree.{Leaf, Branch, LiveOr0, childOf}
-use Rattle.tree.specs.Demand.{At, Apart}
-use Rattle.arena.specs.Tables.{Tables, cap, W, WellFormed}
+use Rattle.tree.specs.Tree.{Leaf, Branch, childOf}
+use Rattle.tree.specs.Cells.{At, Apart}
+use Rattle.arena.specs.Tables.{Tables, W, WellFormed}
 use Rattle.arena.specs.Calls.{Out, internLeafOf, internBranchOf, holdOf, releaseOf, countsOf}
 use Rattle.ledger.specs.Ledger.{on, ifAccepted}
 use Rattle.ledger.specs.Fates.{Lives, ended}
+use Rattle.calls.specs.Does.{There}
 use Rattle.calls.specs.Cells.{spot, standsAt, Answers, Alike}
 use Rattle.read_cell.specs.Calls.{lookOf, expandOf}
 use Rattle.edit.specs.Edit.{editNo, editOf}
 use Rattle.edit.specs.Promises.{then, gives}
+use Rattle.lists.specs.Changes as lists
 use Rattle.compare.specs.Compare.{compareOf}
 use Rattle.basics.specs.Bytes.{Bytes}
 use Rattle.metres.specs.Record.{aimOf}
@@ -117,8 +119,8 @@ unfoldable pub sameAt : {d : ℕ} → At d → At d → Bool
 sameAt c s = pick (eqb (c .x) (s .x)) (pick (eqb (c .y) (s .y)) (eqb (c .z) (s .z)) false) false
 
 -- the cube with one cell changed
-unfoldable pub changed : {d : ℕ} → Cube d → At d → ℕ → Cube d
-changed F c v s = pick (sameAt s c) v (F s)
+abbrev pub changed : {d : ℕ} → Cube d → At d → ℕ → Cube d
+changed F c v = lists.changed sameAt F c v
 
 -- ## A cube at another depth
 
@@ -167,10 +169,6 @@ abbrev pub joined : {d : ℕ} → (ℕ → Cube d) → Cube (suc d)
 joined {d} F c = F (octant d (c .x) (c .y) (c .z)) (inOctant c)
 
 -- ## The plain cube
-
--- EMPTY, or the id of a node now in the arena. A held root is, and so is whatever stands at or below one that is: `held-is-there`, `below-is-there`
-abbrev pub There : Tables → ℕ → Type 0
-There t a = LiveOr0 (cap t) (W t) a
 
 -- In the tables t the root a stands for the cube F of depth d:
 pub data Stands : (d : ℕ) → Tables → ℕ → Cube d → Type 0 where

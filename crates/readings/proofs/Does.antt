@@ -48,7 +48,7 @@ module _ {t : Tables} (w : WellFormed cubeKids deepest t) where
       (λ y. sym (unaccepted o (on y (o .id)) z)) (λ y. refl) (λ s l. refl)
 
   -- a pause grants one hold on the root
-  pause-grants : (root : ℕ) → Grants t (pauseOf t root) (λ s. 0)
+  pub pause-grants : (root : ℕ) → Grants t (pauseOf t root) (λ s. 0)
   pause-grants root = cases (ℕ-discrete (holdNo t root) 0)
       (λ z.
       let o = said 0 root (holdOf t root .after) in

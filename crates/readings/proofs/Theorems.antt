@@ -12,7 +12,7 @@ use Rattle.ids.specs.Ids.{invalid}
 use Rattle.nodes.proofs.Sums.{cases, split}
 use Rattle.paths.specs.Paths.{place}
 use Rattle.tree.specs.Tree.{LiveOr0, Below}
-use Rattle.tree.specs.Demand.{At}
+use Rattle.tree.specs.Cells.{At}
 use Rattle.arena.specs.Calls.{Out, said, refused, fits, holdNo, holdOf, countsOf}
 use Rattle.arena.specs.Tables.{Tables, cap, W, WellFormed}
 use Rattle.arena.proofs.Fits.{sized-fits}

@@ -17,7 +17,7 @@ use Rattle.basics.proofs.Ladder.{rung-not, on, via}
 use Rattle.nodes.specs.Values.{heightAt}
 use Rattle.nodes.proofs.Sums.{cases}
 use Rattle.paths.specs.Paths.{pathOf}
-use Rattle.tree.specs.Demand.{At, Apart}
+use Rattle.tree.specs.Cells.{At, Apart}
 use Rattle.arena.specs.Tables.{Tables, cap, W, Sized}
 use Rattle.arena.specs.Calls.{fits, liveOrEmpty}
 use Rattle.ledger.specs.Fates.{Lives}

@@ -10,7 +10,7 @@ use Rattle.nodes.specs.Values.{heightAt}
 use Rattle.nodes.specs.Words.{Words}
 use Rattle.paths.specs.declared.IVec3.{IVec3}
 use Rattle.paths.specs.Paths.{place}
-use Rattle.tree.specs.Demand.{At, Apart}
+use Rattle.tree.specs.Cells.{At, Apart}
 use Rattle.arena.specs.Tables.{Tables, W, Sized}
 use Rattle.arena.specs.Calls.{freeSlots}
 use Rattle.ledger.specs.Fates.{Lives}

@@ -1,11 +1,8 @@
 pub mod Canon
 pub mod Grow
-pub mod Orders
 pub mod Making
-pub mod Steps
 pub mod Plan
 pub mod CellLaws
-pub mod Demand
 pub mod OneNode
 pub mod Room
 pub mod Sample

@@ -246,7 +246,7 @@ module _ (n cap d : ℕ) (n≥1 : 0 < n) (W W′ : Words) (w : WellMade n cap W)
         others = λ q z k. sym (look-later n cap W W′ w root l s z);
       }
 
-  pub edited-anew : (r : ℕ) → Extends n cap W W′ → WellMade n cap W′ → Anew n cap W′ x p root r → Edited n cap d W root p x W′ r
+  edited-anew : (r : ℕ) → Extends n cap W W′ → WellMade n cap W′ → Anew n cap W′ x p root r → Edited n cap d W root p x W′ r
   edited-anew r g w′ m =
       let s : Keeps n cap W W′ root = extends-keeps g root in
       let t =

@@ -1,6 +1,7 @@
 -- Cells by coordinates, and the paths that lead to them.
+use mathlib.Core.Path.{_≡_}
 use mathlib.Core.List.{List, [], _∷_}
-use Prim.Native.Nat.{ℕ, zero, suc, _+_, _*_}
+use Prim.Native.Nat.{ℕ, zero, suc, _+_, _*_, _^_, _<_}
 use Rattle.basics.specs.Bits.{bit}
 use Rattle.paths.specs.declared.Cell.{Cell}
 use Rattle.paths.specs.Paths.{octant}
@@ -24,3 +25,21 @@ sheetPath d x y = pathBy (λ b. quadrant b x y) d
 -- the path of a cell as the code has it
 abbrev pub pathTo : Cell → List ℕ
 pathTo c = cubePath (c .depth) (c .x) (c .y) (c .z)
+
+-- ## The cells of a cube
+
+-- a cell of a cube of depth d
+pub record At (d : ℕ) : Type 0 where
+  pub x : ℕ
+  pub y : ℕ
+  pub z : ℕ
+  pub in-x : x < 2 ^ d
+  pub in-y : y < 2 ^ d
+  pub in-z : z < 2 ^ d
+
+abbrev pub way : {d : ℕ} → At d → List ℕ
+way {d} c = cubePath d (c .x) (c .y) (c .z)
+
+-- two cells differ in a coordinate
+abbrev pub Apart : {d : ℕ} → At d → At d → Type 0
+Apart c e = ¬ ((c .x ≡ e .x) × (c .y ≡ e .y) × (c .z ≡ e .z))

@@ -5,4 +5,3 @@ pub mod Anew
 pub mod Edits
 pub mod Lacks
 pub mod Room
-pub mod Demand

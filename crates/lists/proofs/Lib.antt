@@ -1,0 +1,4 @@
+pub mod Changes
+pub mod Runs
+pub mod Theorems
+pub mod Crews
