@@ -237,7 +237,9 @@ uint32_t fenpiling_to_vec(fenpiling_arena arena, const uint64_t *kids, size_t ki
                           const uint16_t *find, size_t find_length, uint64_t id, uint32_t depth, uint16_t *cube, size_t cube_length);
 
 /* The model that has this value in one cell and in all others the values of `root`, tidily made: eight times one leaf is that leaf. The root is not used
- * up; the caller gets one new hold on the answer, none on EMPTY. Where the cell has the value already the answer is the old root. Refusals: 1, 2, 3, 4,
+ * up; the caller gets one new hold on the answer, none on EMPTY. Where the cell has the value already the answer is the old root. Any two orders of
+ * edits of different cells, all at one depth, each made from the answer of the one before and all accepted, end in the same id, if both start from EMPTY or
+ * from one tidy root that stays held, the end of the first is held until the second is there, and no fresh arena is made meanwhile. Refusals: 1, 2, 3, 4,
  * 8, 10, 11. */
 fenpiling_made fenpiling_set_voxel(fenpiling_arena arena, uint64_t *kids, size_t kids_length, uint64_t *facts, size_t facts_length,
                                    uint16_t *find, size_t find_length, uint64_t root, uint32_t depth, fenpiling_cell position,

@@ -17,7 +17,8 @@
 //! # }
 //! ```
 //!
-//! [`Root::changes`] lists the cells in which two models differ, and passes over what they share.
+//! [`Root::changes`] lists the cells in which two models differ, and passes over what they share. [`Root::enter_all`] enters a list of changes. The lists of
+//! two crews, for different cells, make the same root whichever comes first, on the terms that its page has.
 //!
 //! A surveyor's instrument writes metres: [`Root::enter`] enters a [`Reading`], and [`Root::enter_record`] a record as it stands in the instrument's file.
 //!
@@ -39,6 +40,7 @@ mod changes;
 #[allow(unsafe_code)]
 mod ffi;
 mod id;
+mod list;
 mod reading;
 mod refusal;
 
@@ -46,6 +48,7 @@ pub use arena::{Arena, BranchRefused, Counts, Root};
 pub use cell::Cell;
 pub use changes::{Change, Changes};
 pub use id::Id;
+pub use list::ListRefused;
 pub use reading::{Metres, Reading};
 pub use refusal::Refusal;
 

@@ -1,7 +1,8 @@
 use std::fmt;
 
-/// Why a call was refused: the lowest number that applies, where 13 and 14 count as between 2 and 3. A refused call has changed nothing, but for a bar that
-/// is refused on its way: [`Root::enter`](crate::Root::enter) says what stays then, and what may have moved.
+/// Why a call was refused: the lowest number that applies, where 13 and 14 count as between 2 and 3. A refused call has changed nothing, but for a bar or a
+/// list that is refused on its way: [`Root::enter`](crate::Root::enter) and [`Root::enter_all`](crate::Root::enter_all) say what stays then, and what may
+/// have moved.
 #[derive(Clone, Copy, Debug, PartialEq, Eq, Hash)]
 #[repr(u32)]
 pub enum Refusal {
