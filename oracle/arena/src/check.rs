@@ -263,15 +263,9 @@ fn cells_exchanged(lent: &mut Lent, random: &mut Random) {
     lent.tables().find.swap(one, other);
 }
 
-fn shuffle<T>(list: &mut [T], random: &mut Random) {
-    for at in (1..list.len()).rev() {
-        list.swap(at, random.below(at + 1));
-    }
-}
-
 fn finding_reordered(lent: &mut Lent, random: &mut Random) {
     let mut slots = live_slots(lent);
-    shuffle(&mut slots, random);
+    random.shuffle(&mut slots);
     write_finding(lent, &slots);
 }
 
@@ -294,7 +288,7 @@ fn write_freed(lent: &mut Lent, slots: &[usize]) {
 
 fn freed_reordered(lent: &mut Lent, random: &mut Random) {
     let mut slots = freed_slots(lent);
-    shuffle(&mut slots, random);
+    random.shuffle(&mut slots);
     write_freed(lent, &slots);
 }
 
