@@ -7,12 +7,16 @@
  *
  * Every function is proved to end and to stay inside what it is lent, on any arguments, and to answer as its comment says; the two interns, release,
  * the edit and the entering of a reading say so of well-formed tables, and every call keeps those well formed. What the caller has to see to: an address
- * leads to as many elements as the length beside it says, no two tables or parts of a list overlap, and no two threads use one arena at once. The state
- * that a call answers is the one to pass next; an older state no longer fits the tables.
+ * leads to as many elements as the length beside it says, no two tables or parts of a list overlap, and no two threads use one arena at once. And the
+ * state goes along: after every call that answers `slots`, refused or not,
+ *
+ *     arena.slots = answer.slots;
+ *
+ * An older number no longer fits the tables.
  *
  * An answer's `no` is 0 where the call is accepted, else the number of `enum fenpiling_refusal` that applies, the lowest if several do; 13 and 14 count
- * as between 2 and 3. A refusal answers id INVALID, value 0 and counts 0, the state as it was, and changes nothing lent. From the last of this one call
- * departs: fenpiling_enter_reading, where it refuses a bar on its way. So take the state that it answers, refused or not.
+ * as between 2 and 3. A refusal answers id INVALID, value 0 and counts 0, the state's `slots` as they were, and changes nothing lent. From the last two of
+ * these one call departs: fenpiling_enter_reading, where it refuses a bar on its way.
  *
  * The functions stand in libfenpiling.a (tools/library builds it), for x86-64 Linux.
  */
@@ -33,10 +37,10 @@ extern "C" {
 #define FENPILING_MIN_CAPACITY 2
 #define FENPILING_MAX_CAPACITY 65536
 
-/* The elements of the three tables of an arena of so many slots: children, facts of the nodes, finding table. */
+/* The elements of the three tables of an arena of so many slots: children of 64 bits, facts of the nodes of 32, finding table of 16. */
 #define FENPILING_KIDS_LENGTH(capacity) (8 * (size_t)(capacity))
-#define FENPILING_FACTS_LENGTH(capacity) (7 * (size_t)(capacity))
-#define FENPILING_FIND_LENGTH(capacity) (3 * (size_t)(capacity))
+#define FENPILING_FACTS_LENGTH(capacity) (11 * (size_t)(capacity))
+#define FENPILING_FIND_LENGTH(capacity) (5 * (size_t)(capacity))
 
 /* A cube of depth d has 2^d cells along each axis, 8^d in all. */
 #define FENPILING_MAX_DEPTH 6
@@ -96,13 +100,18 @@ enum fenpiling_kind {
 
 /* ---- What goes by value */
 
-/* An arena's state: its slots, the lowest never given out, the one freed last (0: none), and how many are live. */
+/* An arena's state: its capacity, which stays, and a number that says which slots are to be given out next. A fresh arena has its first one:
+ *
+ *     fenpiling_arena arena = {CAPACITY, fenpiling_fresh(CAPACITY, ...).slots};
+ *
+ * `slots` is the lowest slot never given out, plus 2^32 times the number of freed slots. */
 typedef struct fenpiling_arena {
     size_t capacity;
-    size_t next;
-    size_t top;
-    size_t live;
+    uint64_t slots;
 } fenpiling_arena;
+
+/* How many nodes of an arena are live, by its state, a fenpiling_arena. The argument is evaluated twice. */
+#define FENPILING_LIVE(arena) ((size_t)((arena).slots & UINT32_MAX) - 1 - (size_t)((arena).slots >> 32))
 
 /* The place of a cell. */
 typedef struct fenpiling_cell {
@@ -116,17 +125,18 @@ typedef struct fenpiling_children {
     uint64_t ids[8];
 } fenpiling_children;
 
-/* A call that answers no id: the number, and the state afterwards. */
+/* A call that answers no id: the number, and the state's slots afterwards. Accepted or refused, pass these next: `arena.slots = answer.slots`. */
 typedef struct fenpiling_answer {
     uint32_t no;
-    fenpiling_arena arena;
+    uint64_t slots;
 } fenpiling_answer;
 
-/* A call that answers a node: the number, its id or INVALID, and the state afterwards. */
+/* A call that answers a node: the number, its id or INVALID, and the state's slots afterwards. Accepted or refused, pass these next:
+ * `arena.slots = made.slots`. */
 typedef struct fenpiling_made {
     uint32_t no;
     uint64_t id;
-    fenpiling_arena arena;
+    uint64_t slots;
 } fenpiling_made;
 
 /* The two counts of a node: the holds of callers, and the child places of live branches that name it. */
@@ -188,52 +198,53 @@ typedef struct fenpiling_child {
 
 /* ---- The arena */
 
-/* Makes a fresh arena over the tables, whatever they hold: every slot cleared with generation 0, none given out. It ends all earlier ids over these
- * tables, by agreement: nothing detects their use. Refusal: 1, and then the state answered is of no use. */
-fenpiling_answer fenpiling_fresh(size_t capacity, uint64_t *kids, size_t kids_length, uint64_t *facts, size_t facts_length,
+/* Makes a fresh arena over the tables, whatever they hold: every slot cleared with generation 0, none given out. The capacity and the slots that it
+ * answers are its state. It ends all earlier ids over these tables, by agreement: nothing detects their use. Refusal: 1, and then the slots answered are of
+ * no use. */
+fenpiling_answer fenpiling_fresh(size_t capacity, uint64_t *kids, size_t kids_length, uint32_t *facts, size_t facts_length,
                                  uint16_t *find, size_t find_length);
 
 /* The live leaf of that value if there is one, else a fresh one; the caller gets one hold on it. Refusals: 1, 6, 10, 11. */
-fenpiling_made fenpiling_intern_leaf(fenpiling_arena arena, uint64_t *kids, size_t kids_length, uint64_t *facts, size_t facts_length,
+fenpiling_made fenpiling_intern_leaf(fenpiling_arena arena, uint64_t *kids, size_t kids_length, uint32_t *facts, size_t facts_length,
                                      uint16_t *find, size_t find_length, uint16_t value);
 
 /* The live branch of those eight children if there is one, else a fresh one; the caller gets one hold on it. It uses up one of the caller's holds for
  * each place with a child that isn't EMPTY: on a branch that was there those holds end, on a fresh one they become its places. Refusals: 1, 4, 5, 7,
  * 8, 10, 11. */
-fenpiling_made fenpiling_intern_branch(fenpiling_arena arena, uint64_t *kids, size_t kids_length, uint64_t *facts, size_t facts_length,
+fenpiling_made fenpiling_intern_branch(fenpiling_arena arena, uint64_t *kids, size_t kids_length, uint32_t *facts, size_t facts_length,
                                        uint16_t *find, size_t find_length, fenpiling_children children);
 
 /* One more hold on the node, for the caller. EMPTY is accepted and changes nothing. Refusals: 1, 4, 10. */
-fenpiling_answer fenpiling_hold(fenpiling_arena arena, const uint64_t *kids, size_t kids_length, uint64_t *facts, size_t facts_length,
+fenpiling_answer fenpiling_hold(fenpiling_arena arena, const uint64_t *kids, size_t kids_length, uint32_t *facts, size_t facts_length,
                                 const uint16_t *find, size_t find_length, uint64_t id);
 
 /* Takes one of the caller's holds. A node with no hold and no place left is recycled, its slot put on top of the freed ones, and then its children
  * lose a place each, in octant order, and go the same way; the slot freed last is given out first. EMPTY is accepted and changes nothing. The id of
  * a node that is gone is refused by every call for the next 32,765 recyclings of its slot; after 32,766 it may match again and then names another node:
  * keep an id only together with a hold. Refusals: 1, 4, 5. */
-fenpiling_answer fenpiling_release(fenpiling_arena arena, uint64_t *kids, size_t kids_length, uint64_t *facts, size_t facts_length,
+fenpiling_answer fenpiling_release(fenpiling_arena arena, uint64_t *kids, size_t kids_length, uint32_t *facts, size_t facts_length,
                                    uint16_t *find, size_t find_length, uint64_t id);
 
 /* The holds and places of a node; both 0 for EMPTY. Refusals: 1, 4. */
-fenpiling_counted fenpiling_counts(fenpiling_arena arena, const uint64_t *kids, size_t kids_length, const uint64_t *facts,
+fenpiling_counted fenpiling_counts(fenpiling_arena arena, const uint64_t *kids, size_t kids_length, const uint32_t *facts,
                                    size_t facts_length, const uint16_t *find, size_t find_length, uint64_t id);
 
 /* Are state and tables well formed? Yes exactly then, and no with tables of other lengths. The facts are used to count in, and are afterwards as they
  * were. It can't see that a hold count was changed from outside to another one in range: only the calls know how many holds were granted. */
-bool fenpiling_check(fenpiling_arena arena, const uint64_t *kids, size_t kids_length, uint64_t *facts, size_t facts_length,
+bool fenpiling_check(fenpiling_arena arena, const uint64_t *kids, size_t kids_length, uint32_t *facts, size_t facts_length,
                      const uint16_t *find, size_t find_length);
 
 /* ---- Models */
 
 /* The value of a cell of the model: down from the id to EMPTY (0), a leaf (its value) or level `depth` (the stored value, a branch's average).
  * Refusals: 1, 2, 3, 4. */
-fenpiling_looked fenpiling_get_at_depth(fenpiling_arena arena, const uint64_t *kids, size_t kids_length, const uint64_t *facts,
+fenpiling_looked fenpiling_get_at_depth(fenpiling_arena arena, const uint64_t *kids, size_t kids_length, const uint32_t *facts,
                                         size_t facts_length, const uint16_t *find, size_t find_length, uint64_t id, uint32_t depth,
                                         fenpiling_cell position);
 
 /* Writes the 8^depth values of the model into the cube, each what lookup answers; FENPILING_CUBE_INDEX says where a cell stands. The answer is the
  * number. Refusals: 1, 2, 4, 9. */
-uint32_t fenpiling_to_vec(fenpiling_arena arena, const uint64_t *kids, size_t kids_length, const uint64_t *facts, size_t facts_length,
+uint32_t fenpiling_to_vec(fenpiling_arena arena, const uint64_t *kids, size_t kids_length, const uint32_t *facts, size_t facts_length,
                           const uint16_t *find, size_t find_length, uint64_t id, uint32_t depth, uint16_t *cube, size_t cube_length);
 
 /* The model that has this value in one cell and in all others the values of `root`, tidily made: eight times one leaf is that leaf. The root is not used
@@ -241,7 +252,7 @@ uint32_t fenpiling_to_vec(fenpiling_arena arena, const uint64_t *kids, size_t ki
  * edits of different cells, all at one depth, each made from the answer of the one before and all accepted, end in the same id, if both start from EMPTY or
  * from one tidy root that stays held, the end of the first is held until the second is there, and no fresh arena is made meanwhile. Refusals: 1, 2, 3, 4,
  * 8, 10, 11. */
-fenpiling_made fenpiling_set_voxel(fenpiling_arena arena, uint64_t *kids, size_t kids_length, uint64_t *facts, size_t facts_length,
+fenpiling_made fenpiling_set_voxel(fenpiling_arena arena, uint64_t *kids, size_t kids_length, uint32_t *facts, size_t facts_length,
                                    uint16_t *find, size_t find_length, uint64_t root, uint32_t depth, fenpiling_cell position,
                                    uint16_t value);
 
@@ -256,7 +267,7 @@ fenpiling_made fenpiling_set_voxel(fenpiling_arena arena, uint64_t *kids, size_t
  *
  * Refusals: 1, also where the list's parts differ in length; 2; 4 for either root; 8 for a root taller than the depth; last 15, exactly if more cells differ
  * than the list has places, and so never with FENPILING_CUBE_LENGTH(depth) places. A refusal answers count 0 and opened 0, and no place of the list changes. */
-fenpiling_compared fenpiling_compare(fenpiling_arena arena, const uint64_t *kids, size_t kids_length, const uint64_t *facts,
+fenpiling_compared fenpiling_compare(fenpiling_arena arena, const uint64_t *kids, size_t kids_length, const uint32_t *facts,
                                      size_t facts_length, const uint16_t *find, size_t find_length, uint64_t left, uint64_t right,
                                      uint32_t depth, uint32_t *codes, size_t codes_length, uint16_t *lefts, size_t lefts_length,
                                      uint16_t *rights, size_t rights_length);
@@ -276,9 +287,9 @@ fenpiling_reading fenpiling_parse_reading(const uint8_t *record, size_t record_l
  * Refusals, in the order in which they are tested: 1, 2, 13, 14, 3 (the whole bar first), 4, 8, 10, 11; of a pause 1, 2, 13, 4, 10 alone. Where an edit of a
  * bar is refused, with 10 or 11, the answer is that number with INVALID. The old root and its holds stay, every live node has the id, the content and
  * the counts that it had, and no other is live. But slots were given out and freed again on the way: generations, the freed slots and their order, the
- * highest slot given out and the finding table may have moved, and with them the state. So after a refusal too, the state answered is the one to pass
- * next. Every other refusal changes nothing lent. */
-fenpiling_made fenpiling_enter_reading(fenpiling_arena arena, uint64_t *kids, size_t kids_length, uint64_t *facts, size_t facts_length,
+ * highest slot given out and the finding table may have moved, and with them the state's slots. So after a refusal too, pass the slots answered next. Every
+ * other refusal changes nothing lent. */
+fenpiling_made fenpiling_enter_reading(fenpiling_arena arena, uint64_t *kids, size_t kids_length, uint32_t *facts, size_t facts_length,
                                        uint16_t *find, size_t find_length, uint64_t root, uint32_t depth, uint32_t k,
                                        const uint8_t *record, size_t record_length);
 

@@ -18,7 +18,7 @@ static int failures;
 #define CAPACITY 16
 
 static uint64_t kids[FENPILING_KIDS_LENGTH(CAPACITY)];
-static uint64_t facts[FENPILING_FACTS_LENGTH(CAPACITY)];
+static uint32_t facts[FENPILING_FACTS_LENGTH(CAPACITY)];
 static uint16_t find[FENPILING_FIND_LENGTH(CAPACITY)];
 
 #define TABLES kids, FENPILING_KIDS_LENGTH(CAPACITY), facts, FENPILING_FACTS_LENGTH(CAPACITY), find, FENPILING_FIND_LENGTH(CAPACITY)
@@ -62,44 +62,65 @@ static void paths(void)
     HOLDS(fenpiling_child_index2(32, 0, 1, 6, 6).no == FENPILING_DEPTH);
 }
 
+/* A state's number: the lowest slot never given out, and how many are freed. */
+static uint64_t slots(uint64_t next, uint64_t freed)
+{
+    return next + (freed << 32);
+}
+
 static void arenas(void)
 {
     fenpiling_answer answer = fenpiling_fresh(CAPACITY + 1, TABLES);
-    HOLDS(answer.no == FENPILING_SIZE);
+    HOLDS(answer.no == FENPILING_SIZE && answer.slots == slots(1, 0));
     answer = fenpiling_fresh(CAPACITY, TABLES);
-    HOLDS(answer.no == FENPILING_ACCEPTED && answer.arena.capacity == CAPACITY && answer.arena.next == 1);
-    HOLDS(answer.arena.top == 0 && answer.arena.live == 0);
+    HOLDS(answer.no == FENPILING_ACCEPTED && answer.slots == slots(1, 0));
+    fenpiling_arena arena = {CAPACITY, answer.slots};
+    HOLDS(FENPILING_LIVE(arena) == 0 && fenpiling_check(arena, TABLES));
 
-    fenpiling_made leaf = fenpiling_intern_leaf(answer.arena, TABLES, 80);
-    HOLDS(leaf.no == FENPILING_ACCEPTED && has_text(leaf.id, "Id(L, i: 00000001, g: 0000)") && leaf.arena.live == 1);
-    answer = fenpiling_hold(leaf.arena, TABLES, leaf.id);
-    HOLDS(answer.no == FENPILING_ACCEPTED);
+    fenpiling_made leaf = fenpiling_intern_leaf(arena, TABLES, 80);
+    HOLDS(leaf.no == FENPILING_ACCEPTED && has_text(leaf.id, "Id(L, i: 00000001, g: 0000)") && leaf.slots == slots(2, 0));
+    arena.slots = leaf.slots;
+    HOLDS(FENPILING_LIVE(arena) == 1);
+    answer = fenpiling_hold(arena, TABLES, leaf.id);
+    HOLDS(answer.no == FENPILING_ACCEPTED && answer.slots == arena.slots);
 
     fenpiling_children children = {{leaf.id, 0, 0, 0, 0, 0, 0, 0}};
-    fenpiling_made branch = fenpiling_intern_branch(answer.arena, TABLES, children);
+    fenpiling_made branch = fenpiling_intern_branch(arena, TABLES, children);
     HOLDS(branch.no == FENPILING_ACCEPTED && has_text(branch.id, "Id(B, i: 00000002, g: 0000, m: 01, t: 01)"));
-    fenpiling_counted counts = fenpiling_counts(branch.arena, TABLES, leaf.id);
+    arena.slots = branch.slots;
+    fenpiling_counted counts = fenpiling_counts(arena, TABLES, leaf.id);
     HOLDS(counts.no == FENPILING_ACCEPTED && counts.holds == 1 && counts.places == 1);
-    HOLDS(fenpiling_check(branch.arena, TABLES));
+    HOLDS(fenpiling_check(arena, TABLES));
 
     fenpiling_cell here = {0, 0, 0}, there = {0, 1, 0};
-    HOLDS(fenpiling_get_at_depth(branch.arena, TABLES, branch.id, 1, here).value == 80);
-    HOLDS(fenpiling_get_at_depth(branch.arena, TABLES, branch.id, 0, here).value == 10);
-    HOLDS(fenpiling_get_at_depth(branch.arena, TABLES, branch.id, 0, there).no == FENPILING_POSITION);
+    HOLDS(fenpiling_get_at_depth(arena, TABLES, branch.id, 1, here).value == 80);
+    HOLDS(fenpiling_get_at_depth(arena, TABLES, branch.id, 0, here).value == 10);
+    HOLDS(fenpiling_get_at_depth(arena, TABLES, branch.id, 0, there).no == FENPILING_POSITION);
 
-    fenpiling_made edited = fenpiling_set_voxel(branch.arena, TABLES, branch.id, 1, there, 7);
-    HOLDS(edited.no == FENPILING_ACCEPTED && edited.arena.live == 4);
+    fenpiling_made edited = fenpiling_set_voxel(arena, TABLES, branch.id, 1, there, 7);
+    HOLDS(edited.no == FENPILING_ACCEPTED && edited.slots == slots(5, 0));
+    arena.slots = edited.slots;
+    HOLDS(FENPILING_LIVE(arena) == 4);
     uint16_t cube[FENPILING_CUBE_LENGTH(1)];
-    HOLDS(fenpiling_to_vec(edited.arena, TABLES, edited.id, 1, cube, 7) == FENPILING_CUBE);
-    HOLDS(fenpiling_to_vec(edited.arena, TABLES, edited.id, 1, cube, 8) == FENPILING_ACCEPTED);
+    HOLDS(fenpiling_to_vec(arena, TABLES, edited.id, 1, cube, 7) == FENPILING_CUBE);
+    HOLDS(fenpiling_to_vec(arena, TABLES, edited.id, 1, cube, 8) == FENPILING_ACCEPTED);
     HOLDS(cube[FENPILING_CUBE_INDEX(1, 0, 0, 0)] == 80 && cube[FENPILING_CUBE_INDEX(1, 0, 1, 0)] == 7);
     HOLDS(cube[FENPILING_CUBE_INDEX(1, 1, 0, 0)] == 0 && FENPILING_CUBE_INDEX(1, 0, 1, 0) == 4);
 
-    answer = fenpiling_release(edited.arena, TABLES, edited.id);
-    HOLDS(answer.no == FENPILING_ACCEPTED && answer.arena.live == 2);
-    HOLDS(fenpiling_release(answer.arena, TABLES, edited.id).no == FENPILING_NOT_LIVE);
-    facts[1]++;
-    HOLDS(!fenpiling_check(answer.arena, TABLES));
+    answer = fenpiling_release(arena, TABLES, edited.id);
+    HOLDS(answer.no == FENPILING_ACCEPTED && answer.slots == slots(5, 2));
+    arena.slots = answer.slots;
+    HOLDS(FENPILING_LIVE(arena) == 2 && fenpiling_check(arena, TABLES));
+    answer = fenpiling_release(arena, TABLES, edited.id);
+    HOLDS(answer.no == FENPILING_NOT_LIVE && answer.slots == arena.slots);
+    for (size_t word = 0; word < FENPILING_FACTS_LENGTH(1); word++) {
+        facts[word]++; /* of slot 0, which is never given out; the last is the first entry of the freed slots */
+        HOLDS(!fenpiling_check(arena, TABLES));
+        facts[word]--;
+    }
+    HOLDS(fenpiling_check(arena, TABLES));
+    arena.slots++;
+    HOLDS(!fenpiling_check(arena, TABLES));
 }
 
 /* A record as it lies in the memory of this machine, which has the low byte first. */
@@ -166,20 +187,21 @@ static void readings(void)
     const record bar = {FENPILING_BAR, 7, 0, 0.125, 0.25, 0.0, 0.375};
     fenpiling_cell cell[2] = {{0, 1, 0}, {1, 1, 0}};
 
-    fenpiling_answer fresh = fenpiling_fresh(CAPACITY, TABLES);
-    fenpiling_made barred = enter(fresh.arena, FENPILING_EMPTY, bar);
-    HOLDS(barred.no == FENPILING_ACCEPTED && barred.arena.live == 2);
-    HOLDS(fenpiling_get_at_depth(barred.arena, TABLES, barred.id, 1, cell[0]).value == 7);
-    HOLDS(fenpiling_get_at_depth(barred.arena, TABLES, barred.id, 1, cell[1]).value == 7);
-    fenpiling_made shown = enter(barred.arena, barred.id, shot);
-    HOLDS(shown.no == FENPILING_ACCEPTED && shown.arena.live == 4);
-    HOLDS(fenpiling_get_at_depth(shown.arena, TABLES, shown.id, 1, cell[0]).value == 7);
-    HOLDS(fenpiling_get_at_depth(shown.arena, TABLES, shown.id, 1, cell[1]).value == 9);
-    fenpiling_made paused = enter(shown.arena, shown.id, pause);
-    HOLDS(paused.no == FENPILING_ACCEPTED && paused.id == shown.id);
-    HOLDS(fenpiling_counts(paused.arena, TABLES, shown.id).holds == 2);
+    fenpiling_arena arena = {CAPACITY, fenpiling_fresh(CAPACITY, TABLES).slots};
+    fenpiling_made barred = enter(arena, FENPILING_EMPTY, bar);
+    arena.slots = barred.slots;
+    HOLDS(barred.no == FENPILING_ACCEPTED && FENPILING_LIVE(arena) == 2);
+    HOLDS(fenpiling_get_at_depth(arena, TABLES, barred.id, 1, cell[0]).value == 7);
+    HOLDS(fenpiling_get_at_depth(arena, TABLES, barred.id, 1, cell[1]).value == 7);
+    fenpiling_made shown = enter(arena, barred.id, shot);
+    arena.slots = shown.slots;
+    HOLDS(shown.no == FENPILING_ACCEPTED && FENPILING_LIVE(arena) == 4);
+    HOLDS(fenpiling_get_at_depth(arena, TABLES, shown.id, 1, cell[0]).value == 7);
+    HOLDS(fenpiling_get_at_depth(arena, TABLES, shown.id, 1, cell[1]).value == 9);
+    fenpiling_made paused = enter(arena, shown.id, pause);
+    HOLDS(paused.no == FENPILING_ACCEPTED && paused.id == shown.id && paused.slots == arena.slots);
+    HOLDS(fenpiling_counts(arena, TABLES, shown.id).holds == 2);
 
-    fenpiling_arena arena = paused.arena;
     record outside = shot;
     outside.z = 0.5;
     HOLDS(enter(arena, shown.id, outside).no == FENPILING_POSITION && enter(arena, FENPILING_INVALID, shot).no == FENPILING_NOT_LIVE);
@@ -187,14 +209,16 @@ static void readings(void)
     HOLDS(fenpiling_enter_reading(arena, TABLES, shown.id, 1, FENPILING_MAX_EDGE, NULL, 0).no == FENPILING_RECORD);
 
     /* Two slots are left: enough for the first cell of another bar, and not for the second. The state moves, and what is live stays. */
-    for (uint16_t value = 100; arena.live < CAPACITY - 3; value++)
-        arena = fenpiling_intern_leaf(arena, TABLES, value).arena;
+    for (uint16_t value = 100; FENPILING_LIVE(arena) < CAPACITY - 3; value++)
+        arena.slots = fenpiling_intern_leaf(arena, TABLES, value).slots;
+    HOLDS(arena.slots == slots(CAPACITY - 2, 0));
     record another = bar;
     another.value = 8;
     fenpiling_made refused = enter(arena, shown.id, another);
-    HOLDS(refused.no == FENPILING_FULL && refused.id == FENPILING_INVALID);
-    HOLDS(refused.arena.live == arena.live && refused.arena.next == arena.next + 2 && refused.arena.top != 0);
-    HOLDS(fenpiling_counts(refused.arena, TABLES, shown.id).holds == 2 && fenpiling_check(refused.arena, TABLES));
+    HOLDS(refused.no == FENPILING_FULL && refused.id == FENPILING_INVALID && refused.slots == slots(CAPACITY, 2));
+    arena.slots = refused.slots;
+    HOLDS(FENPILING_LIVE(arena) == CAPACITY - 3);
+    HOLDS(fenpiling_counts(arena, TABLES, shown.id).holds == 2 && fenpiling_check(arena, TABLES));
 }
 
 #define LIST 4
@@ -236,13 +260,16 @@ static int is_refused(fenpiling_compared compared, uint32_t no)
 static void comparisons(void)
 {
     const fenpiling_cell cell[3] = {{1, 0, 0}, {0, 1, 0}, {3, 2, 1}}; /* their codes are 1, 2 and 29 */
-    fenpiling_answer fresh = fenpiling_fresh(CAPACITY, TABLES);
-    fenpiling_made first = fenpiling_set_voxel(fresh.arena, TABLES, FENPILING_EMPTY, 2, cell[0], 5);
-    fenpiling_made october = fenpiling_set_voxel(first.arena, TABLES, first.id, 2, cell[1], 5);
-    fenpiling_made second = fenpiling_set_voxel(october.arena, TABLES, october.id, 2, cell[0], 9);
-    fenpiling_made november = fenpiling_set_voxel(second.arena, TABLES, second.id, 2, cell[2], 7);
+    fenpiling_arena arena = {CAPACITY, fenpiling_fresh(CAPACITY, TABLES).slots};
+    fenpiling_made first = fenpiling_set_voxel(arena, TABLES, FENPILING_EMPTY, 2, cell[0], 5);
+    arena.slots = first.slots;
+    fenpiling_made october = fenpiling_set_voxel(arena, TABLES, first.id, 2, cell[1], 5);
+    arena.slots = october.slots;
+    fenpiling_made second = fenpiling_set_voxel(arena, TABLES, october.id, 2, cell[0], 9);
+    arena.slots = second.slots;
+    fenpiling_made november = fenpiling_set_voxel(arena, TABLES, second.id, 2, cell[2], 7);
+    arena.slots = november.slots;
     HOLDS(first.no + october.no + second.no + november.no == FENPILING_ACCEPTED);
-    fenpiling_arena arena = november.arena;
 
     /* one place too few, just enough, and more */
     HOLDS(is_refused(compare(arena, october.id, november.id, 2, 1), FENPILING_SHORT_LIST));

@@ -13,10 +13,10 @@
 #define CHANGES 100 /* the most cells of a month that are listed */
 #define ROCK 9
 
-/* One arena: its state and the tables that are lent to each call. */
-static fenpiling_arena arena;
+/* One arena: its state and the tables that are lent to each call. What a call answers as slots goes into the state at once, whether it is refused or not. */
+static fenpiling_arena arena = {CAPACITY, 0};
 static uint64_t kids[FENPILING_KIDS_LENGTH(CAPACITY)];
-static uint64_t facts[FENPILING_FACTS_LENGTH(CAPACITY)];
+static uint32_t facts[FENPILING_FACTS_LENGTH(CAPACITY)];
 static uint16_t find[FENPILING_FIND_LENGTH(CAPACITY)];
 static uint16_t cube[FENPILING_CUBE_LENGTH(DEPTH)];
 static uint32_t codes[CHANGES];
@@ -36,15 +36,15 @@ static void accept(uint32_t no, const char *call)
 static void hold(uint64_t root)
 {
     fenpiling_answer answer = fenpiling_hold(arena, TABLES, root);
+    arena.slots = answer.slots;
     accept(answer.no, "hold");
-    arena = answer.arena;
 }
 
 static void release(uint64_t root)
 {
     fenpiling_answer answer = fenpiling_release(arena, TABLES, root);
+    arena.slots = answer.slots;
     accept(answer.no, "release");
-    arena = answer.arena;
 }
 
 /* The model with one cell changed. The old root's hold is given back, so that a model that nobody else holds goes. */
@@ -52,8 +52,8 @@ static uint64_t set(uint64_t root, int32_t x, int32_t y, int32_t z, uint16_t val
 {
     fenpiling_cell cell = {x, y, z};
     fenpiling_made made = fenpiling_set_voxel(arena, TABLES, root, DEPTH, cell, value);
+    arena.slots = made.slots;
     accept(made.no, "edit");
-    arena = made.arena;
     release(root);
     return made.id;
 }
@@ -66,11 +66,11 @@ typedef struct record {
     double x, y, z, second_x;
 } record;
 
-/* The model with a reading entered. The state answered is taken first: where a bar is refused on its way, it has moved too. */
+/* The model with a reading entered. Where a bar is refused on its way, the slots have moved too. */
 static uint64_t enter(uint64_t root, record reading)
 {
     fenpiling_made made = fenpiling_enter_reading(arena, TABLES, root, DEPTH, EDGE, (const uint8_t *)&reading, sizeof reading);
-    arena = made.arena;
+    arena.slots = made.slots;
     accept(made.no, "reading");
     release(root);
     return made.id;
@@ -119,8 +119,8 @@ static void show_changes(uint64_t earlier, uint64_t later)
 int main(void)
 {
     fenpiling_answer fresh = fenpiling_fresh(CAPACITY, TABLES);
+    arena.slots = fresh.slots;
     accept(fresh.no, "fresh arena");
-    arena = fresh.arena;
 
     /* October: a block of clay of 4 by 4 by 4 cells, with one cell of rock. */
     uint64_t model = FENPILING_EMPTY;
@@ -147,7 +147,8 @@ int main(void)
     /* A cell outside the cube is refused, and nothing changes. */
     fenpiling_cell outside = {64, 0, 0};
     fenpiling_made refused = fenpiling_set_voxel(arena, TABLES, model, DEPTH, outside, ROCK);
-    printf("cell (64, 0, 0): refusal %" PRIu32 ", %zu nodes live\n", refused.no, arena.live);
+    arena.slots = refused.slots;
+    printf("cell (64, 0, 0): refusal %" PRIu32 ", %zu nodes live\n", refused.no, FENPILING_LIVE(arena));
 
     /* December: the instrument reads a seam of rock from x = 5 metres to 7.4, and every cell on its way is rock. */
     record seam = {FENPILING_BAR, ROCK, 0, 5.0, 3.1, 7.6, 7.4};
@@ -158,9 +159,9 @@ int main(void)
 
     /* With its last hold October goes, and its id is refused. */
     release(october);
-    printf("October released: %zu nodes live, its id refused with %" PRIu32 "\n", arena.live,
+    printf("October released: %zu nodes live, its id refused with %" PRIu32 "\n", FENPILING_LIVE(arena),
            fenpiling_counts(arena, TABLES, october).no);
     release(model);
-    printf("December released: %zu nodes live, well formed: %s\n", arena.live, fenpiling_check(arena, TABLES) ? "yes" : "no");
+    printf("December released: %zu nodes live, well formed: %s\n", FENPILING_LIVE(arena), fenpiling_check(arena, TABLES) ? "yes" : "no");
     return 0;
 }

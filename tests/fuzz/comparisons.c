@@ -167,7 +167,8 @@ static fenpiling_arena replace(fenpiling_arena arena, model *side, uint64_t root
     fenpiling_answer released = fenpiling_release(arena, TABLES, side->root);
     demand(released.no == FENPILING_ACCEPTED, "the old root can be released");
     side->root = root;
-    return released.arena;
+    arena.slots = released.slots;
+    return arena;
 }
 
 static fenpiling_arena edit(fenpiling_arena arena, model *side, const uint8_t *record)
@@ -177,9 +178,10 @@ static fenpiling_arena edit(fenpiling_arena arena, model *side, const uint8_t *r
     uint16_t value = (uint16_t)(record[4] % 4 * 0x5555);
     fenpiling_made made = fenpiling_set_voxel(arena, TABLES, side->root, side->depth, cell, value);
     demand(made.no == FENPILING_ACCEPTED || made.no == FENPILING_FULL, "an edit inside the cube is refused with 11 alone");
+    arena.slots = made.slots;
     if (made.no == FENPILING_ACCEPTED) {
         side->cells[fenpiling_encode_child_index_path(cell.x, cell.y, cell.z)] = value;
-        return replace(made.arena, side, made.id);
+        return replace(arena, side, made.id);
     }
     return arena;
 }
@@ -189,7 +191,8 @@ static fenpiling_arena end_month(fenpiling_arena arena)
     fenpiling_answer held = fenpiling_hold(arena, TABLES, models[RIGHT].root);
     demand(held.no == FENPILING_ACCEPTED, "the right root can be held");
     memcpy(models[LEFT].cells, models[RIGHT].cells, FENPILING_CUBE_LENGTH(models[LEFT].depth) * sizeof *models[LEFT].cells);
-    return replace(held.arena, &models[LEFT], models[RIGHT].root);
+    arena.slots = held.slots;
+    return replace(arena, &models[LEFT], models[RIGHT].root);
 }
 
 static void play(uint32_t depth, const uint8_t *data, size_t size)
@@ -214,7 +217,7 @@ static void play(uint32_t depth, const uint8_t *data, size_t size)
         arena = replace(arena, &models[side], FENPILING_EMPTY);
         memset(models[side].cells, 0, FENPILING_CUBE_LENGTH(depth) * sizeof *models[side].cells);
     }
-    demand(arena.live == 0, "nothing is live when the last root is released");
+    demand(FENPILING_LIVE(arena) == 0, "nothing is live when the last root is released");
 }
 
 int LLVMFuzzerInitialize(int *count, char ***words)

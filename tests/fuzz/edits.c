@@ -41,14 +41,15 @@ static void play(const uint8_t *data, size_t size, FILE *told)
             if (plain[at] == value)
                 demand(made.id == root, "a cell that has the value already leaves the root");
             plain[at] = (uint16_t)value;
-            fenpiling_answer answer = fenpiling_release(made.arena, TABLES, root);
+            arena.slots = made.slots;
+            fenpiling_answer answer = fenpiling_release(arena, TABLES, root);
             demand(answer.no == FENPILING_ACCEPTED, "the old root can be released");
-            arena = answer.arena;
+            arena.slots = answer.slots;
             root = made.id;
         } else {
             demand(made.no == FENPILING_POSITION || made.no == FENPILING_FULL, "an edit of a held root is refused with 3 or 11 alone");
-            demand(made.no == FENPILING_POSITION || CAPACITY - 1 - arena.live < PATH, "11 only where a path may not fit");
-            demand(made.id == FENPILING_INVALID && same_arena(made.arena, arena) && kept(), "a refusal changes nothing");
+            demand(made.no == FENPILING_POSITION || CAPACITY - 1 - FENPILING_LIVE(arena) < PATH, "11 only where a path may not fit");
+            demand(made.id == FENPILING_INVALID && made.slots == arena.slots && kept(), "a refusal changes nothing");
         }
         demand_canaries();
         if (inside) {
@@ -66,7 +67,7 @@ static void play(const uint8_t *data, size_t size, FILE *told)
     if (told) {
         if (size % RECORD != 0)
             fprintf(told, "short %zu\n", size % RECORD);
-        fprintf(told, "live %zu\n", arena.live);
+        fprintf(told, "live %zu\n", FENPILING_LIVE(arena));
     }
 
     finish(arena, root);

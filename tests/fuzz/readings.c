@@ -83,7 +83,7 @@ static row row_of(fenpiling_reading said, uint32_t k)
 /* The record entered by single calls on the copied tables. */
 static fenpiling_made by_single_calls(fenpiling_arena arena, uint64_t root, uint32_t k, fenpiling_reading said, row *cells)
 {
-    fenpiling_made made = {0, FENPILING_INVALID, arena};
+    fenpiling_made made = {0, FENPILING_INVALID, arena.slots};
     *cells = no_row;
     made.no = k > FENPILING_MAX_EDGE ? FENPILING_DEPTH : said.no;
     if (made.no != FENPILING_ACCEPTED)
@@ -92,7 +92,7 @@ static fenpiling_made by_single_calls(fenpiling_arena arena, uint64_t root, uint
     if (said.kind == FENPILING_PAUSE) {
         fenpiling_answer held = fenpiling_hold(arena, LEND(copy), root);
         demand(held.no == FENPILING_ACCEPTED, "the root can be held");
-        made.arena = held.arena;
+        made.slots = held.slots;
         return made;
     }
     *cells = row_of(said, k);
@@ -103,11 +103,12 @@ static fenpiling_made by_single_calls(fenpiling_arena arena, uint64_t root, uint
     for (int32_t x = cells->first; made.no == FENPILING_ACCEPTED && x <= cells->last; x++) {
         fenpiling_cell cell = {x, cells->y, cells->z};
         uint64_t passing = made.id;
-        made = fenpiling_set_voxel(made.arena, LEND(copy), passing, DEPTH, cell, said.value);
+        made = fenpiling_set_voxel(arena, LEND(copy), passing, DEPTH, cell, said.value);
+        arena.slots = made.slots;
         if (x > cells->first) {
-            fenpiling_answer released = fenpiling_release(made.arena, LEND(copy), passing);
+            fenpiling_answer released = fenpiling_release(arena, LEND(copy), passing);
             demand(released.no == FENPILING_ACCEPTED, "a passing root can be released");
-            made.arena = released.arena;
+            arena.slots = made.slots = released.slots;
         }
     }
     return made;
@@ -150,14 +151,15 @@ static void play(const uint8_t *data, size_t size)
         demand_canaries();
         fenpiling_made expected = by_single_calls(arena, root, k, said, &cells);
         demand(made.no == expected.no && made.id == expected.id, "the answer is that of single calls");
-        demand(same_arena(made.arena, expected.arena) && kept(), "state and tables are those of single calls");
-        demand(made.no == FENPILING_ACCEPTED || made.arena.live == arena.live, "a refusal leaves as many nodes live");
-        arena = made.arena;
+        demand(made.slots == expected.slots && kept(), "state and tables are those of single calls");
+        size_t live = FENPILING_LIVE(arena);
+        arena.slots = made.slots;
+        demand(made.no == FENPILING_ACCEPTED || FENPILING_LIVE(arena) == live, "a refusal leaves as many nodes live");
         if (made.no == FENPILING_ACCEPTED) {
             set_row(cells, said.value);
             fenpiling_answer released = fenpiling_release(arena, TABLES, root);
             demand(released.no == FENPILING_ACCEPTED, "the old root can be released");
-            arena = released.arena;
+            arena.slots = released.slots;
             root = made.id;
         }
         demand_row(arena, root, cells);

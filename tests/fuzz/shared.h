@@ -25,7 +25,7 @@ static struct {
     unsigned char before_kids[CANARIES];
     uint64_t kids[FENPILING_KIDS_LENGTH(CAPACITY)];
     unsigned char before_facts[CANARIES];
-    uint64_t facts[FENPILING_FACTS_LENGTH(CAPACITY)];
+    uint32_t facts[FENPILING_FACTS_LENGTH(CAPACITY)];
     unsigned char before_find[CANARIES];
     uint16_t find[FENPILING_FIND_LENGTH(CAPACITY)];
     unsigned char before_cube[CANARIES];
@@ -51,11 +51,11 @@ static void feed_back(uint32_t no, uint64_t root, fenpiling_arena arena)
     counter += NUMBERS;
     counter[fenpiling_mask(root)] = 1;
     counter += MASKS;
-    counter[arena.live % CAPACITY] = 1;
+    counter[FENPILING_LIVE(arena) % CAPACITY] = 1;
     counter += CAPACITY;
-    counter[arena.next % CAPACITY] = 1;
+    counter[(uint32_t)arena.slots % CAPACITY] = 1;
     counter += CAPACITY;
-    counter[arena.top % CAPACITY] = 1;
+    counter[(arena.slots >> 32) % CAPACITY] = 1;
 }
 
 static void demand(int holds, const char *what)
@@ -95,18 +95,14 @@ static int kept(void)
            memcmp(copy.find, lent.find, sizeof lent.find) == 0;
 }
 
-static inline int same_arena(fenpiling_arena a, fenpiling_arena b)
-{
-    return a.capacity == b.capacity && a.next == b.next && a.top == b.top && a.live == b.live;
-}
-
 /* A fresh arena over tables full of canaries. */
 static fenpiling_arena fresh_arena(void)
 {
     memset(&lent, CANARY, sizeof lent);
     fenpiling_answer answer = fenpiling_fresh(CAPACITY, TABLES);
     demand(answer.no == FENPILING_ACCEPTED, "a fresh arena is accepted");
-    return answer.arena;
+    fenpiling_arena arena = {CAPACITY, answer.slots};
+    return arena;
 }
 
 static void demand_well_formed(fenpiling_arena arena)
@@ -124,8 +120,9 @@ static inline void finish(fenpiling_arena arena, uint64_t root)
     demand_canaries();
     demand(memcmp(lent.cube, plain, sizeof plain) == 0, "the expansion is the plain cube");
     fenpiling_answer answer = fenpiling_release(arena, TABLES, root);
-    demand(answer.no == FENPILING_ACCEPTED && answer.arena.live == 0, "nothing is live when the last root is released");
-    demand(fenpiling_check(answer.arena, TABLES), "the emptied arena is well formed");
+    arena.slots = answer.slots;
+    demand(answer.no == FENPILING_ACCEPTED && FENPILING_LIVE(arena) == 0, "nothing is live when the last root is released");
+    demand(fenpiling_check(arena, TABLES), "the emptied arena is well formed");
 }
 
 #ifndef TELL

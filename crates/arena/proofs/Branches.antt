@@ -10,7 +10,7 @@ use lib.Dec.{leb}
 use lib.ListN.{length, getD}
 use borrow.Author.Tests.{eq-eqb, ne-eqb, leb-true, le-leb}
 use Rattle.nodes.specs.Tally.{Live, occ, same}
-use Rattle.nodes.specs.Words.{own, holds, places, spare, Nodes, slot, floor, Words, wordOf, putOf}
+use Rattle.nodes.specs.Words.{own, holds, places, mark, entry, Nodes, slot, floor, Words, wordOf, putOf}
 use Rattle.nodes.proofs.Access.{SameSize, size-refl, size-trans, put-keeps, put-less}
 use Rattle.nodes.proofs.Counts.{live-same, total-append}
 use Rattle.nodes.proofs.Sums.{cases, occ-nil, occ-cons, occ-here, occ-there}
@@ -18,8 +18,7 @@ use Rattle.find.specs.Content.{agree}
 use Rattle.find.proofs.Contents.{agree-true, agree-words}
 use Rattle.arena.specs.Calls.{each, unheldKid, placedKid, liveOrEmpty, enoughFor, liveOf, allLive, enough, noneOf, unheld, placed, allOf, branchIn, branchSlot}
 use Rattle.arena.specs.Models.{placedBy}
-use Rattle.arena.specs.Tables.{tablesOf, Tables, cap, W, LiveSlot}
-use Rattle.arena.specs.declared.Arena.{Arena}
+use Rattle.arena.specs.Tables.{State, tablesOf, Tables, cap, W, LiveSlot}
 use Rattle.arena.proofs.Dropping.{put-recounted}
 use Rattle.arena.proofs.Eight.{all-at}
 use Rattle.arena.proofs.Fits.{both}
@@ -77,17 +76,19 @@ slot-lone t ks e z s l d h =
 
 pub record Eased (l l′ : Nodes) : Type 0 where
   pub size : SameSize l l′
-  pub words : (b f : ℕ) → f ≤ spare → f ≢ holds → f ≢ places → wordOf l′ b f ≡ wordOf l b f
+  pub words : (b f : ℕ) → f ≤ mark → f ≢ holds → f ≢ places → wordOf l′ b f ≡ wordOf l b f
   pub fewer : (b : ℕ) → wordOf l′ b holds ≤ wordOf l b holds
+  pub entries : (b : ℕ) → wordOf l′ b entry ≡ wordOf l b entry
 
 eased-refl : (l : Nodes) → Eased l l
-eased-refl l = record { size = size-refl l; words = λ b f m p q. refl; fewer = λ b. omega arith }
+eased-refl l = record { size = size-refl l; words = λ b f m p q. refl; fewer = λ b. omega arith; entries = λ b. refl }
 
 eased-trans : {l m n : Nodes} → Eased l m → Eased m n → Eased l n
 eased-trans p q = record {
   size = size-trans (p .size) (q .size);
   words = λ b f m c d. q .words b f m c d ∙ p .words b f m c d;
   fewer = λ b. let x = p .fewer b in let y = q .fewer b in omega arith;
+  entries = λ b. q .entries b ∙ p .entries b;
 }
 
 abbrev pub lessN : Nodes → ℕ → Nodes
@@ -102,6 +103,7 @@ less-eased l s =
       fewer = λ b. cases (ℕ-discrete b s)
           (λ (q : b ≡ s). subst (λ (z : ℕ). wordOf (lessN l s) z holds ≤ wordOf l z holds) (sym q) (let e = put-less l s holds (omega arith) (omega arith) in omega arith))
           (λ q. let e = r .others b holds q (omega arith) in omega arith);
+      entries = r .entries;
     }
 
 pub unheld-empty : (l : Nodes) (ks : List ℕ) (k : ℕ) → k ≡ 0 → unheld l (k ∷ ks) ≡ unheld l ks
@@ -119,7 +121,7 @@ unheld-nil l = refl
 abbrev Named : ℕ → Nodes → List ℕ → Type 0
 Named c l ks = (y : ℕ) → y ≢ 0 → 1 ≤ occ y ks → Live c (wordOf l) y × (1 ≤ wordOf l (slot y) places)
 
-less-inv : (a : Arena) (l : Nodes) (f d : List ℕ) (y : ℕ) → Inv (tablesOf a l f) d → Live (a .capacity) (wordOf l) y → 1 ≤ wordOf l (slot y) places → Inv (tablesOf a (lessN l (slot y)) f) d
+less-inv : (a : State) (l : Nodes) (f d : List ℕ) (y : ℕ) → Inv (tablesOf a l f) d → Live (a .capacity) (wordOf l) y → 1 ≤ wordOf l (slot y) places → Inv (tablesOf a (lessN l (slot y)) f) d
 less-inv a l f d y v live one =
     let r = put-recounted l (slot y) holds (wordOf l (slot y) holds - 1) (inl refl) in
     let e = put-keeps l (slot y) holds (wordOf l (slot y) holds - 1) (slot y) places (omega arith) in
@@ -139,7 +141,7 @@ unheld-eased (k ∷ ks) l = cases (ℕ-discrete k 0)
     (λ z. rw (unheld-empty l ks k z) (unheld-eased ks l))
     (λ z. rw (unheld-node l ks k z) (eased-trans (less-eased l (slot k)) (unheld-eased ks (lessN l (slot k)))))
 
-pub unheld-inv : (a : Arena) (f d ks : List ℕ) (l : Nodes) → Inv (tablesOf a l f) d → Named (a .capacity) l ks → Inv (tablesOf a (unheld l ks) f) d
+pub unheld-inv : (a : State) (f d ks : List ℕ) (l : Nodes) → Inv (tablesOf a l f) d → Named (a .capacity) l ks → Inv (tablesOf a (unheld l ks) f) d
 unheld-inv a f d [] l v h = rw (unheld-nil l) v
 unheld-inv a f d (k ∷ ks) l v h = cases (ℕ-discrete k 0)
     (λ z. rw (unheld-empty l ks k z) (unheld-inv a f d ks l v (λ y d o. h y d (omega (arith, occ-cons y k ks)))))
@@ -150,13 +152,13 @@ unheld-inv a f d (k ∷ ks) l v h = cases (ℕ-discrete k 0)
 
 -- ---- the holds become places
 
-pub record Placing (a : Arena) (l : Nodes) (f ks : List ℕ) : Type 0 where
+pub record Placing (a : State) (l : Nodes) (f ks : List ℕ) : Type 0 where
   pub inv : Inv (tablesOf a (placed l ks) f) (ks ++ [])
   pub same : unheld (placedBy l ks) ks ≡ placed l ks
   pub eased : Eased l (placed l ks)
   pub held : (b : ℕ) → wordOf (each placedKid l ks) b holds ≡ wordOf l b holds
 
-pub placing : (a : Arena) (f ks : List ℕ) (l : Nodes) → length ks ≤ 1000 → Inv (tablesOf a l f) [] → ((y : ℕ) → y ≢ 0 → 1 ≤ occ y ks → Live (a .capacity) (wordOf l) y) → Placing a l f ks
+pub placing : (a : State) (f ks : List ℕ) (l : Nodes) → length ks ≤ 1000 → Inv (tablesOf a l f) [] → ((y : ℕ) → y ≢ 0 → 1 ≤ occ y ks → Live (a .capacity) (wordOf l) y) → Placing a l f ks
 placing a f ks l n v h =
     let o = owing a f ks l [] (omega arith) v h in
     record {
@@ -167,7 +169,7 @@ placing a f ks l n v h =
           (live, omega (arith, total-append 8 (a .capacity) (wordOf (each placedKid l ks)) y ks [])));
       same = ap (λ (x : Nodes). unheld x ks) (o .same);
       eased = eased-trans
-          (record { size = o .size; words = λ b g m p q. o .words b g q; fewer = λ b. (let e = o .words b holds (omega arith) in omega arith) })
+          (record { size = o .size; words = λ b g m p q. o .words b g q; fewer = λ b. (let e = o .words b holds (omega arith) in omega arith); entries = λ b. o .words b entry (omega arith) })
           (unheld-eased ks (each placedKid l ks));
       held = λ b. o .words b holds (omega arith);
     }

@@ -28,6 +28,11 @@ all-at p (k ∷ ks) y e o =
     (λ q. all-at p ks y (b .1) (omega (arith, occ-there y k ks q)))
 
 -- what changes nothing by any of them changes nothing by all
+pub all-true : (p : ℕ → Bool) (ks : List ℕ) → ((y : ℕ) → 1 ≤ occ y ks → p y ≡ true) → allOf p ks ≡ true
+unfolding allOf
+all-true p [] h = refl
+all-true p (k ∷ ks) h = rw (h k (omega (arith, occ-here k ks))) (all-true p ks (λ y o. h y (omega (arith, occ-cons y k ks))))
+
 pub each-idle : {A : Type 0} (g : A → ℕ → A) (t : A) (ks : List ℕ) → ((y : ℕ) → 1 ≤ occ y ks → g t y ≡ t) → each g t ks ≡ t
 unfolding each
 each-idle g t [] h = refl

@@ -5,17 +5,14 @@ use mathlib.Core.Path.{_≡_, refl, sym, _∙_}
 use mathlib.Core.Bool.{Bool, true, false, true≢false}
 use lib.Dec.{eqb, leb, ltb}
 use lib.ListN.{length}
-use borrow.Author.Tests.{leb-true, eqb-true, le-leb, eq-eqb, ltb-true, ne-eqb, eqb-false}
-use mathlib.Core.List.{List}
+use borrow.Author.Tests.{leb-true, eqb-true, le-leb, eq-eqb, lt-ltb, ltb-true, ne-eqb, eqb-false}
 use Rattle.basics.specs.Pick.{pick}
 use Rattle.basics.proofs.Rungs.{pick-no, past-no, past-yes}
 use Rattle.nodes.specs.Tally.{Live}
 use Rattle.nodes.specs.Words.{own, holds, nodes, slot, floor}
 use Rattle.nodes.proofs.Sums.{split}
-use Rattle.arena.specs.Calls.{fitOf, fits, roomOf, liveOf, ofId, thereNo, fullOf, holdNo, releaseNo, allLive, enough, noneOf}
-use Rattle.arena.specs.Models.{kidsNo}
-use Rattle.arena.specs.Tables.{Tables, cap, Sized, W}
-use Rattle.arena.specs.declared.Arena.{Arena}
+use Rattle.arena.specs.Calls.{fitOf, fits, roomOf, liveOf, ofId, thereNo, fullOf, holdNo, releaseNo}
+use Rattle.arena.specs.Tables.{State, liveIn, Tables, cap, Sized, W}
 
 pub unlike : false ≡ true → ⊥
 unlike e = true≢false (sym e)
@@ -24,14 +21,14 @@ pub both : (b x : Bool) → pick b x false ≡ true → (b ≡ true) × (x ≡ t
 both true x e = (refl, e)
 both false x e = absurd (unlike e)
 
-fit-all : (c k f e : ℕ) → fitOf c k f e ≡ true → (2 ≤ c) × (c ≤ 65536) × (k ≡ 8 * c) × (f ≡ 7 * c) × (e ≡ 3 * c)
+fit-all : (c k f e : ℕ) → fitOf c k f e ≡ true → (2 ≤ c) × (c ≤ 65536) × (k ≡ 8 * c) × (f ≡ 11 * c) × (e ≡ 5 * c)
 unfolding fitOf
 fit-all c k f e h =
-    let o = both (leb 2 c) (pick (leb c 65536) (pick (eqb k (8 * c)) (pick (eqb f (7 * c)) (eqb e (3 * c)) false) false) false) h in
-    let p = both (leb c 65536) (pick (eqb k (8 * c)) (pick (eqb f (7 * c)) (eqb e (3 * c)) false) false) (o .1) in
-    let q = both (eqb k (8 * c)) (pick (eqb f (7 * c)) (eqb e (3 * c)) false) (p .1) in
-    let r = both (eqb f (7 * c)) (eqb e (3 * c)) (q .1) in
-    (leb-true 2 c (o .0), leb-true c 65536 (p .0), eqb-true k (8 * c) (q .0), eqb-true f (7 * c) (r .0), eqb-true e (3 * c) (r .1))
+    let o = both (leb 2 c) (pick (leb c 65536) (pick (eqb k (8 * c)) (pick (eqb f (11 * c)) (eqb e (5 * c)) false) false) false) h in
+    let p = both (leb c 65536) (pick (eqb k (8 * c)) (pick (eqb f (11 * c)) (eqb e (5 * c)) false) false) (o .1) in
+    let q = both (eqb k (8 * c)) (pick (eqb f (11 * c)) (eqb e (5 * c)) false) (p .1) in
+    let r = both (eqb f (11 * c)) (eqb e (5 * c)) (q .1) in
+    (leb-true 2 c (o .0), leb-true c 65536 (p .0), eqb-true k (8 * c) (q .0), eqb-true f (11 * c) (r .0), eqb-true e (5 * c) (r .1))
 
 pub fits-sized : (t : Tables) → fits t ≡ true → Sized t
 fits-sized t e =
@@ -45,13 +42,13 @@ sized-fits {t} s =
       le-leb 2 (cap t) (s .least),
       le-leb (cap t) 65536 (s .most),
       eq-eqb (length (t .nodes .kids)) (8 * cap t) (s .kids),
-      eq-eqb (length (t .nodes .facts)) (7 * cap t) (s .facts),
+      eq-eqb (length (t .nodes .facts)) (11 * cap t) (s .facts),
     )
-    (eq-eqb (length (t .find)) (3 * cap t) (s .cells))
+    (eq-eqb (length (t .find)) (5 * cap t) (s .cells))
 
-pub room-yes : (a : Arena) → roomOf a ≡ true → a .live + 1 < a .capacity
+pub room-yes : (a : State) → roomOf a ≡ true → liveIn a + 1 < a .capacity
 unfolding roomOf
-room-yes a e = let p = ltb-true 0 (a .capacity - 1 - a .live) e in omega arith
+room-yes a e = let p = ltb-true 0 (a .capacity - 1 - liveIn a) e in omega arith
 
 pub live-is : (t : Tables) (id : ℕ) → liveOf (cap t) (W t) id ≡ true → Live (cap t) (W t) id
 unfolding liveOf
@@ -59,6 +56,10 @@ live-is t id e =
     let p = both (ltb (slot id) (cap t)) (pick (leb floor id) (eqb (W t (slot id) own) id) false) e in
     let q = both (leb floor id) (eqb (W t (slot id) own) id) (p .1) in
     record { low = ltb-true (slot id) (cap t) (p .0); is = eqb-true (W t (slot id) own) id (q .1); high = leb-true floor id (q .0) }
+
+pub is-live : (t : Tables) (id : ℕ) → Live (cap t) (W t) id → liveOf (cap t) (W t) id ≡ true
+unfolding liveOf
+is-live t id v = rw (lt-ltb (slot id) (cap t) (v .low), le-leb floor id (v .high)) (eq-eqb (W t (slot id) own) id (v .is))
 
 -- a call that is handed an id: the refusals 1 and 4 come first
 pub there-law : {A : Type 0} (t : Tables) (id : ℕ) (refuse : ℕ → A) (live : A)
@@ -88,15 +89,3 @@ module _ (t : Tables) (id : ℕ) where
       let p = fine-live (pick (eqb (W t (slot id) holds) 0) 5 0) e d in
       let z = eqb-false (W t (slot id) holds) 0 (past-no (eqb (W t (slot id) holds) 0) 5 0 0 (λ z. omega arith) (p .1) .0) in
       (p .0, omega arith)
-
-pub kids-fits : (t : Tables) (ks : List ℕ) → kidsNo t ks ≡ 0 → fits t ≡ true
-unfolding kidsNo
-kids-fits t ks e = past-yes (fits t) _ 1 0 (λ z. omega arith) e .0
-
-pub kids-fine : (t : Tables) (ks : List ℕ) → kidsNo t ks ≡ 0 → (allLive (cap t) (W t) ks ≡ true) × (enough (W t) ks ≡ true) × (noneOf ks ≡ false)
-unfolding kidsNo
-kids-fine t ks e =
-    let f = past-yes (fits t) _ 1 0 (λ z. omega arith) e in
-    let a = past-yes (allLive (cap t) (W t) ks) _ 4 0 (λ z. omega arith) (f .1) in
-    let b = past-yes (enough (W t) ks) _ 5 0 (λ z. omega arith) (a .1) in
-    (a .0, b .0, past-no (noneOf ks) 7 0 0 (λ z. omega arith) (b .1) .0)

@@ -2,22 +2,22 @@
 use mathlib.Core.Path.{_≡_, refl, sym, ap, subst}
 use mathlib.Core.Logic.{_≢_}
 use mathlib.Core.Bool.{Bool, true, false}
-use mathlib.Core.List.{List, []}
+use mathlib.Core.List.{List}
 use Prim.Native.Nat.{ℕ, zero, suc, _+_, _-_, _*_, _%_, _^_, _≤_}
 use native.Mathlib.Decide.{ℕ-discrete}
 use native.Mathlib.Omega.{arith}
-use lib.Dec.{leb, ltb}
+use lib.Dec.{eqb, ltb}
 use lib.ListN.{length, getD, replicate, length-replicate}
 use borrow.Author.Tests.{eq-eqb, ne-eqb}
 use Rattle.basics.specs.Pick.{pick}
 use Rattle.ids.specs.Ids.{generationOf}
-use Rattle.nodes.specs.Words.{kidOf, factOf, own, link, spare, nodes, slot, floor, wordOf}
+use Rattle.nodes.specs.Words.{rowIn, rowAt, kidOf, factOf, own, mark, spare, nodes, slot, floor, wordOf}
 use Rattle.nodes.proofs.Counts.{floor-pos}
-use Rattle.nodes.proofs.Freeing.{none-live}
-use Rattle.nodes.proofs.Sums.{cases, occ-nil}
+use Rattle.nodes.proofs.Freeing.{freed-fresh}
+use Rattle.nodes.proofs.Sums.{cases}
 use Rattle.find.specs.Content.{homeAt}
 use Rattle.find.proofs.Finding.{finds-fresh, finds-as}
-use Rattle.arena.specs.Calls.{fitOf, fits, heldAt, holdNo, holdOf, fresh, freshOf}
+use Rattle.arena.specs.Calls.{fitOf, heldAt, holdNo, holdOf, fresh, freshOf}
 use Rattle.arena.specs.Tables.{tables, Tables, LiveSlot, Sized, WellFormed}
 use Rattle.arena.proofs.Fits.{live-is, hold-live, fits-sized}
 use Rattle.arena.proofs.Ids.{gen-zero}
@@ -54,30 +54,26 @@ zeros zero i = refl
 zeros (suc n) zero = refl
 zeros (suc n) (suc i) = zeros n i
 
+none : (b : Bool) {x y : ℕ} → x ≡ 0 → y ≡ 0 → pick b x y ≡ 0
+none true p q = p
+none false p q = q
+
+zeros-row : (r n s i : ℕ) → rowAt r (replicate n 0) s i ≡ 0
+unfolding rowAt
+zeros-row r n s i = none (ltb i r) (none (rowIn r (replicate n 0) s) (zeros n (r * s + i)) refl) refl
+
 -- every word of two cleared tables is 0
 blank : (m n s f : ℕ) → wordOf (nodes (replicate m 0) (replicate n 0)) s f ≡ 0
 unfolding wordOf kidOf factOf
 blank m n s f =
-    none (ltb f 8) (none (ltb f 8) (zeros m (8 * s + f)) refl) (none (leb own f) (none (leb f spare) (zeros n (7 * s + (f - own))) refl) refl)
-  where
-    none : (b : Bool) {x y : ℕ} → x ≡ 0 → y ≡ 0 → pick b x y ≡ 0
-    none true p q = p
-    none false p q = q
+    none (ltb f 8) (zeros-row 8 m s f)
+    (none (eqb f own) (let a = zeros-row 11 n s 0 in let b = zeros-row 11 n s 1 in omega arith) (none (ltb f own) refl (zeros-row 11 n s (f - 7))))
 
 blank-well : (n tallest c j x y : ℕ) → Sized (tables (fresh c) (replicate j 0) (replicate x 0) (replicate y 0))
     → WellFormed n tallest (tables (fresh c) (replicate j 0) (replicate x 0) (replicate y 0))
 blank-well n tallest c j x y z = record {
   sized = z;
-  freed = [];
-  chain = record {
-    some = omega arith;
-    fits = (let p = z .least in omega arith);
-    chain = refl;
-    only = λ s m. absurd (omega (arith, occ-nil s));
-    once = λ s f. absurd (let a = f .given in let b = f .below in omega arith);
-    unused = λ s a l. blank j x s own;
-    ground = blank j x 0 own;
-  };
+  stack = freed-fresh c (wordOf (nodes (replicate j 0) (replicate x 0))) (let p = z .least in omega arith) (λ s. blank j x s own);
   nodes = λ s l. absurd (dead s (l .1));
   distinct = λ s b l m e f. absurd (dead s (l .1));
   tallied = λ s l. absurd (dead s (l .1));
@@ -85,10 +81,9 @@ blank-well n tallest c j x y z = record {
   finds = finds-as (homeAt c (wordOf (nodes (replicate j 0) (replicate x 0)))) (homeAt c (wordOf (nodes (replicate j 0) (replicate x 0)))) (λ s. ⊥) (LiveSlot (tables (fresh c) (replicate j 0) (replicate x 0) (replicate y 0))) (replicate y 0)
       (finds-fresh (homeAt c (wordOf (nodes (replicate j 0) (replicate x 0)))) y) (λ s p. ((λ b. absurd b), (λ l. dead s (l .1)))) (λ s p b. refl);
   cleared = λ s l h. record { words = λ f m a b. blank j x s f; seal = ap (λ (k : ℕ). k % 2 ^ 32) (blank j x s own) };
-  linked = λ s l h. absurd (let e = blank j x s link in omega arith);
+  marked = λ s l h. absurd (let e = blank j x s mark in omega arith);
   spared = λ s l. blank j x s spare;
   gens = λ s l. subst (λ (k : ℕ). generationOf k ≤ 0x7FFD) (sym (blank j x s own)) gen-zero;
-  lives = sym (none-live c (wordOf (nodes (replicate j 0) (replicate x 0))) (λ s. blank j x s own));
 }
   where
     dead : (s : ℕ) → floor ≤ wordOf (nodes (replicate j 0) (replicate x 0)) s own → ⊥

@@ -2,40 +2,38 @@
 use mathlib.Core.Path.{_≡_, sym, ap, ap₂, _∙_, subst}
 use mathlib.Core.Logic.{_≢_, inl, inr, ⊎-elim}
 use mathlib.Core.List.{List, [], _∷_}
-use Prim.Native.Nat.{ℕ, zero, suc, _+_, _/_, _%_, _^_, _≤_, _<_}
+use Prim.Native.Nat.{ℕ, suc, _+_, _/_, _%_, _^_, _≤_, _<_}
 use native.Mathlib.Decide.{ℕ-discrete, decLt}
 use native.Mathlib.Omega.{arith}
 use Rattle.ids.specs.Ids.{generationOf}
-use Rattle.nodes.specs.Tally.{kidsOf, Live, Free, Freed, liveCount, occ, same}
-use Rattle.nodes.specs.Words.{own, value, height, holds, places, link, spare, nodes, slot, floor, Words, wordOf, Nodes}
+use Rattle.nodes.specs.Tally.{kidsOf, Live, Free, Freed, occ, same}
+use Rattle.nodes.specs.Words.{own, value, height, sum, spare, hash, holds, places, mark, entry, nodes, slot, floor, Words, wordOf, Nodes}
 use Rattle.nodes.proofs.Access.{SameSize, Within}
 use Rattle.nodes.proofs.Counts.{Others, kids-same, Counts, move-counts, counts-debt, drop-empty, live-same, kid-live, kid-occ}
 use Rattle.nodes.proofs.Frame.{Frame}
-use Rattle.nodes.proofs.Freeing.{freed-same, live-keep}
+use Rattle.nodes.proofs.Freeing.{freed-same}
 use Rattle.nodes.proofs.Local.{Slots, slots-counts, counts-slots}
 use Rattle.nodes.proofs.Sums.{cases, sumTo-ext}
+use Rattle.find_hash.specs.Hash.{leafHash, kidsHash}
 use Rattle.find.specs.Cells.{Finds}
 use Rattle.find.specs.Content.{homeAt}
 use Rattle.find.proofs.Contents.{home-same}
 use Rattle.find.proofs.Finding.{finds-as}
 use Rattle.arena.specs.Node.{leafId, branchId, LeafNode, BranchNode, Node}
 use Rattle.nodes.specs.Values.{valueAt, heightAt}
-use Rattle.arena.specs.Tables.{tablesOf, Tables, cap, W, LiveSlot, Sized, Cleared, WellFormed}
-use Rattle.arena.specs.declared.Arena.{Arena}
+use Rattle.arena.specs.Tables.{State, tablesOf, Tables, cap, W, LiveSlot, Sized, Cleared, WellFormed}
 use Rattle.arena.proofs.Ids.{node-slot, node-child, height-node, value-node, height-zero, value-zero, max-ext}
 
 pub record Clean (cap next : ℕ) (W : Words) : Type 0 where
   pub cleared : (s : ℕ) → s < cap → W s own < floor → Cleared W s
-  pub linked : (s : ℕ) → s < cap → 1 ≤ W s link → Free W next s
+  pub marked : (s : ℕ) → s < cap → 1 ≤ W s mark → Free W next s
   pub spared : (s : ℕ) → s < cap → W s spare ≡ 0
   pub gens : (s : ℕ) → s < cap → generationOf (W s own) ≤ 0x7FFD
 
 pub record Inv (t : Tables) (debt : List ℕ) : Type 0 where
   pub sized : Sized t
   pub counts : Counts 8 (cap t) (W t) debt
-  pub fs : List ℕ
-  pub freed : Freed (cap t) (W t) (t .arena .top) (t .arena .next) fs
-  pub lives : t .arena .live ≡ liveCount (cap t) (W t)
+  pub freed : Freed (cap t) (W t) (t .arena .next) (t .arena .freed)
   pub clean : Clean (cap t) (t .arena .next) (W t)
   pub finds : Finds (homeAt (cap t) (W t)) (LiveSlot t) (t .find)
 
@@ -64,10 +62,8 @@ pub wf-inv : {n tallest : ℕ} {t : Tables} → n ≤ 8 → WellFormed n tallest
 wf-inv m w = record {
   sized = w .sized;
   counts = wf-counts m w;
-  fs = w .freed;
-  freed = w .chain;
-  lives = w .lives;
-  clean = record { cleared = w .cleared; linked = w .linked; spared = w .spared; gens = w .gens };
+  freed = w .stack;
+  clean = record { cleared = w .cleared; marked = w .marked; spared = w .spared; gens = w .gens };
   finds = w .finds;
 }
 
@@ -77,18 +73,16 @@ wf-content w = record { nodes = λ s l h. w .nodes s (l, h); distinct = λ s b l
 pub inv-wf : (n tallest : ℕ) {t : Tables} → Inv t [] → Content n tallest (cap t) (W t) → WellFormed n tallest t
 inv-wf n tallest {t} v c = record {
   sized = v .sized;
-  freed = v .fs;
-  chain = v .freed;
+  stack = v .freed;
   nodes = λ s l. c .nodes s (l .0) (l .1);
   distinct = λ s b l m e f. c .distinct s b (l .0) (m .0) (l .1) (m .1) e f;
   tallied = λ s l. counts-slots 8 (cap t) (W t) (v .counts) s (l .0) .tallied (l .1);
   used = λ s l. counts-slots 8 (cap t) (W t) (v .counts) s (l .0) .used (l .1);
   finds = v .finds;
   cleared = v .clean .cleared;
-  linked = v .clean .linked;
+  marked = v .clean .marked;
   spared = v .clean .spared;
   gens = v .clean .gens;
-  lives = v .lives;
 }
 
 -- ---- one slot's counts are written
@@ -96,15 +90,16 @@ inv-wf n tallest {t} v c = record {
 pub record Recounted (s : ℕ) (l l′ : Nodes) : Type 0 where
   pub size : SameSize l l′
   pub others : Others s (wordOf l) (wordOf l′)
-  pub same : (f : ℕ) → f ≤ spare → f ≢ holds → f ≢ places → wordOf l′ s f ≡ wordOf l s f
+  pub same : (f : ℕ) → f ≤ mark → f ≢ holds → f ≢ places → wordOf l′ s f ≡ wordOf l s f
+  pub entries : (b : ℕ) → wordOf l′ b entry ≡ wordOf l b entry
 
-pub recounted-word : {s : ℕ} {l l′ : Nodes} → Recounted s l l′ → (b f : ℕ) → f ≤ spare → f ≢ holds → f ≢ places → wordOf l′ b f ≡ wordOf l b f
+pub recounted-word : {s : ℕ} {l l′ : Nodes} → Recounted s l l′ → (b f : ℕ) → f ≤ mark → f ≢ holds → f ≢ places → wordOf l′ b f ≡ wordOf l b f
 recounted-word {s} {l} {l′} r b f m p q = cases (ℕ-discrete b s)
     (λ (e : b ≡ s). rw e (r .same f m p q))
     (λ d. r .others b f d m)
 
-clean-same : (cap next : ℕ) (W W′ : Words) → ((b f : ℕ) → f ≤ spare → f ≢ holds → f ≢ places → W′ b f ≡ W b f)
-    → ((b f : ℕ) → b < cap → W b own < floor → f ≤ spare → W′ b f ≡ W b f) → Clean cap next W → Clean cap next W′
+clean-same : (cap next : ℕ) (W W′ : Words) → ((b f : ℕ) → f ≤ mark → f ≢ holds → f ≢ places → W′ b f ≡ W b f)
+    → ((b f : ℕ) → b < cap → W b own < floor → f ≤ mark → W′ b f ≡ W b f) → Clean cap next W → Clean cap next W′
 clean-same cap next W W′ e z c = record {
   cleared = λ s l h.
       let p = e s own (omega arith) (omega arith) (omega arith) in
@@ -113,17 +108,17 @@ clean-same cap next W W′ e z c = record {
         words = λ f m a b. z s f l (omega arith) m ∙ r .words f m a b;
         seal = ap (λ (k : ℕ). k % 2 ^ 32) p ∙ r .seal;
       };
-  linked = λ s l h.
+  marked = λ s l h.
       let p = e s own (omega arith) (omega arith) (omega arith) in
-      let q = e s link (omega arith) (omega arith) (omega arith) in
-      let r = c .linked s l (omega arith) in
+      let q = e s mark (omega arith) (omega arith) (omega arith) in
+      let r = c .marked s l (omega arith) in
       record { given = r .given; below = r .below; dead = (let d = r .dead in omega arith) };
   spared = λ s l. e s spare (omega arith) (omega arith) (omega arith) ∙ c .spared s l;
   gens = λ s l. let p = ap generationOf (e s own (omega arith) (omega arith) (omega arith)) in let q = c .gens s l in omega arith;
 }
 
 -- both counts of one live node are written: places and debt move together
-pub move-inv : (a : Arena) (l l′ : Nodes) (f d d′ : List ℕ) (x : ℕ) → Inv (tablesOf a l f) d → Live (a .capacity) (wordOf l) x → Recounted (slot x) l l′
+pub move-inv : (a : State) (l l′ : Nodes) (f d d′ : List ℕ) (x : ℕ) → Inv (tablesOf a l f) d → Live (a .capacity) (wordOf l) x → Recounted (slot x) l l′
     → ((y : ℕ) → y ≢ 0 → y ≢ x → occ y d′ ≡ occ y d)
     → wordOf l′ (slot x) places + occ x d ≡ wordOf l (slot x) places + occ x d′ → 1 ≤ wordOf l′ (slot x) holds + wordOf l′ (slot x) places
     → Inv (tablesOf a l′ f) d′
@@ -131,31 +126,34 @@ move-inv a l l′ f d d′ x v live r same-debt moved kept = record {
   sized = record { least = v .sized .least; most = v .sized .most; kids = r .size .kids ∙ v .sized .kids; facts = r .size .facts ∙ v .sized .facts; cells = v .sized .cells };
   counts = move-counts 8 (a .capacity) (wordOf l) (wordOf l′) x d d′ (v .counts) live (r .others)
       (λ g m. r .same g (omega arith) (omega arith) (omega arith)) same-debt moved kept;
-  fs = v .fs;
-  freed = freed-same (wordOf l′) (v .freed) (λ b. w b own (omega arith) (omega arith) (omega arith)) (λ b. w b link (omega arith) (omega arith) (omega arith));
-  lives = v .lives ∙ sym (live-keep (a .capacity) (wordOf l) (wordOf l′) (λ b. w b own (omega arith) (omega arith) (omega arith)));
+  freed = freed-same (wordOf l′) (v .freed) (λ b. w b own (omega arith) (omega arith) (omega arith)) (λ i m. r .entries i)
+      (λ b d. w b mark (omega arith) (omega arith) (omega arith));
   clean = clean-same (a .capacity) (a .next) (wordOf l) (wordOf l′) w
       (λ b g m h k. r .others b g (λ (q : b ≡ slot x). let e : wordOf l b own ≡ x = rw q (live .is) in let t = live .high in omega arith) k) (v .clean);
   finds = finds-as (homeAt (a .capacity) (wordOf l)) (homeAt (a .capacity) (wordOf l′)) (LiveSlot (tablesOf a l f)) (LiveSlot (tablesOf a l′ f)) f (v .finds)
       (λ s p. let e = w s own (omega arith) (omega arith) (omega arith) in ((λ z. (z .0, (let y = z .1 in omega arith))), (λ z. (z .0, (let y = z .1 in omega arith)))))
-      (λ s p z. sym (home-same (a .capacity) (wordOf l) (wordOf l′) s (λ g m k. w s g (omega arith) (omega arith) (omega arith))));
+      (λ s p z. sym (home-same (a .capacity) (wordOf l) (wordOf l′) s (w s hash (omega arith) (omega arith) (omega arith))));
 }
   where
-    w : (b g : ℕ) → g ≤ spare → g ≢ holds → g ≢ places → wordOf l′ b g ≡ wordOf l b g
+    w : (b g : ℕ) → g ≤ mark → g ≢ holds → g ≢ places → wordOf l′ b g ≡ wordOf l b g
     w = recounted-word r
 
 pub inv-debt : {t : Tables} (d d′ : List ℕ) → ((y : ℕ) → y ≢ 0 → occ y d ≡ occ y d′) → Inv t d → Inv t d′
 inv-debt {t} d d′ e v =
-    record { sized = v .sized; counts = counts-debt 8 (cap t) (W t) d d′ e (v .counts); fs = v .fs; freed = v .freed; lives = v .lives; clean = v .clean; finds = v .finds }
+    record { sized = v .sized; counts = counts-debt 8 (cap t) (W t) d d′ e (v .counts); freed = v .freed; clean = v .clean; finds = v .finds }
 
 pub inv-empty : {t : Tables} (d : List ℕ) → Inv t (0 ∷ d) → Inv t d
 inv-empty {t} d v =
-    record { sized = v .sized; counts = drop-empty 8 (cap t) (W t) d (v .counts); fs = v .fs; freed = v .freed; lives = v .lives; clean = v .clean; finds = v .finds }
+    record { sized = v .sized; counts = drop-empty 8 (cap t) (W t) d (v .counts); freed = v .freed; clean = v .clean; finds = v .finds }
 
 -- ---- a slot below the capacity lies inside the tables
 
 pub sized-within : {t : Tables} (s : ℕ) → Sized t → s < cap t → Within (t .nodes) s
-sized-within s z l = let k = z .kids in let f = z .facts in record { kids = omega arith; facts = omega arith }
+sized-within s z l =
+    let k = z .kids in
+    let f = z .facts in
+    let m = z .most in
+    record { kids = record { small = omega arith; room = omega arith }; facts = record { small = omega arith; room = omega arith } }
 
 -- ---- content goes through
 
@@ -184,6 +182,8 @@ module _ (n tallest cap : ℕ) (m : n ≤ 8) (W W′ : Words) (s : ℕ) (mine : 
         some = (let p = v .some in omega arith);
         bare = λ i l. mine i (omega arith) ∙ v .bare i l;
         flat = mine height (omega arith) ∙ v .flat;
+        summed = mine sum (omega arith) ∙ v .summed;
+        hashed = mine hash (omega arith) ∙ v .hashed ∙ ap leafHash (sym e9);
       }
 
   branch-kept : BranchNode n tallest cap W s → BranchNode n tallest cap W′ s
@@ -201,6 +201,8 @@ module _ (n tallest cap : ℕ) (m : n ≤ 8) (W W′ : Words) (s : ℕ) (mine : 
         averaged = mine value (omega arith) ∙ v .averaged ∙ ap (λ (x : ℕ). x / n) (sym (sumTo-ext n (λ i. valueAt W′ (W′ s i)) (λ i. valueAt W (W s i)) value-kept));
         tall = mine height (omega arith) ∙ v .tall ∙ ap suc (sym (max-ext n (λ i. heightAt W′ (W′ s i)) (λ i. heightAt W (W s i)) height-kept));
         low = (let q = mine height (omega arith) in let h = v .low in omega arith);
+        summed = mine sum (omega arith) ∙ v .summed ∙ sym (sumTo-ext n (λ i. valueAt W′ (W′ s i)) (λ i. valueAt W (W s i)) value-kept);
+        hashed = mine hash (omega arith) ∙ v .hashed ∙ ap kidsHash (sym k);
       }
 
   pub node-kept : W′ s holds ≤ 1000000 → Node n tallest cap W s → Node n tallest cap W′ s

@@ -2,26 +2,24 @@
 use mathlib.Core.Path.{_≡_, refl, sym, ap, _∙_, subst}
 use mathlib.Core.Logic.{_≢_, inl, inr, ⊎-elim}
 use mathlib.Core.Bool.{true, false, true≢false}
-use mathlib.Core.List.{List, []}
+use mathlib.Core.List.{[]}
 use Prim.Native.Nat.{ℕ, _+_, _≤_, _<_}
 use native.Mathlib.Decide.{ℕ-discrete}
 use native.Mathlib.Omega.{arith}
 use lib.Dec.{eqb}
-use lib.ListN.{length, getD}
 use borrow.Author.Tests.{eq-eqb, ne-eqb, eqb-true, leb-false}
 use Rattle.ids.specs.Ids.{generationOf, isLeaf}
 use Rattle.nodes.specs.Tally.{Live, occ}
 use Rattle.nodes.specs.Words.{own, value, holds, places, floor, wordOf, putOf}
 use Rattle.nodes.proofs.Access.{put-same, put-field}
-use Rattle.nodes.proofs.Counts.{floor-pos, live-own}
+use Rattle.nodes.proofs.Counts.{live-own}
 use Rattle.nodes.proofs.Sums.{cases, split}
-use Rattle.find_hash.specs.Hash.{homeFor}
-use Rattle.find.specs.Cells.{cellOf, probe}
-use Rattle.find.specs.Content.{contentIs, homeAt}
-use Rattle.find.proofs.Contents.{content-true, content-words, home-content}
-use Rattle.find.proofs.Finding.{finds-hit, finds-miss}
-use Rattle.arena.specs.Calls.{empties, Out, said, refused, fits, Fair, fullOf, roomOf, heldAt, leafAnew, leafIn, leafSlot, internLeafNo, leafMade, internLeafOf}
-use Rattle.arena.specs.Models.{leafAt, cellFor, hitBy, leafMissBy, leafBy, internLeafBy}
+use Rattle.find_hash.specs.Hash.{leafHash}
+use Rattle.find.specs.Cells.{leafCell}
+use Rattle.find.specs.Content.{leafIs}
+use Rattle.find.proofs.Contents.{leaf-true, leaf-words}
+use Rattle.arena.specs.Calls.{empties, Out, said, refused, fits, Fair, fullOf, roomOf, heldAt, leafIn, leafSlot, internLeafNo, leafMade, internLeafOf}
+use Rattle.arena.specs.Models.{leafAt, leafFor, hitBy, leafMissBy, leafBy, internLeafBy}
 use Rattle.arena.specs.Node.{LeafNode}
 use Rattle.arena.specs.Tables.{tablesOf, Tables, cap, W, LiveSlot, WellFormed}
 use Rattle.arena.proofs.Dropping.{put-recounted}
@@ -30,33 +28,9 @@ use Rattle.arena.proofs.Fresh.{leaf-makes, search-ends, leaf-fresh}
 use Rattle.arena.proofs.Ids.{flag-floor, leaf-flag, node-leaf, gen-small}
 use Rattle.arena.proofs.Inv.{sized-within, Inv, Recounted, recounted-word, move-inv, wf-inv, wf-content, inv-wf, content-recount}
 use Rattle.arena.proofs.Make.{Alone}
-use Rattle.arena.proofs.Rows.{empties-length, empties-at}
+use Rattle.arena.proofs.Rows.{empties-at}
 use Rattle.arena.proofs.Scan.{find-hit, find-miss}
-
--- ---- the search by content on well-formed tables: for any content (ks, v)
-module _ {n tallest : ℕ} {t : Tables} (w : WellFormed n tallest t) (ks : List ℕ) (v : ℕ) (e : length ks ≡ 8) where
-  pub not-ground : (s : ℕ) → LiveSlot t s → 0 < s
-  not-ground s l = cases (ℕ-discrete s 0)
-      (λ (q : s ≡ 0). absurd (let z : W t s own ≡ 0 = rw q (w .chain .ground) in let f = floor-pos in let h = l .1 in omega arith)) (λ q. omega arith)
-
-  pub search-hit : (s : ℕ) → LiveSlot t s → contentIs (W t) ks v s ≡ true → getD (t .find) (cellFor t ks v) 0 ≡ s
-  unfolding cellOf
-  search-hit s l h =
-      let c = content-words (W t) ks v s e h in
-      let o : homeAt (cap t) (W t) s ≡ homeFor (cap t) ks v = home-content (cap t) (W t) s ks v e (c .0) (c .1) in
-      let r = finds-hit (homeAt (cap t) (W t)) (LiveSlot t) (t .find) (w .finds) (contentIs (W t) ks v) s (not-ground s l) l h
-      (λ x p lx hx.
-      let d = content-words (W t) ks v x e hx in
-      w .distinct x s lx l (λ i j. d .0 i j ∙ sym (c .0 i j)) (d .1 ∙ sym (c .1))) in
-      subst (λ (z : ℕ). getD (t .find) (probe (contentIs (W t) ks v) (t .find) z) 0 ≡ s) o r
-
-  pub search-miss : ((x : ℕ) → 0 < x → LiveSlot t x → contentIs (W t) ks v x ≡ false) → getD (t .find) (cellFor t ks v) 0 ≡ 0
-  unfolding cellOf
-  search-miss h = finds-miss (homeAt (cap t) (W t)) (LiveSlot t) (t .find) (w .finds) (contentIs (W t) ks v) (homeFor (cap t) ks v) h
-
-  -- what the search does not find, no live node has
-  none-alone : ((x : ℕ) → 0 < x → LiveSlot t x → contentIs (W t) ks v x ≡ false) → Alone t ks v
-  none-alone none x l k w = true≢false (sym (content-true (W t) ks v x e k w) ∙ none x (not-ground x l) l)
+use Rattle.arena.proofs.Searched.{not-ground, leaf-one, search-hit, search-miss}
 
 -- ---- what the calls leave
 
@@ -101,32 +75,38 @@ module _ {n tallest : ℕ} {t : Tables} (m : n ≤ 8) (w : WellFormed n tallest 
       let live : floor ≤ W t s own = flag-floor (W t s own) (b .0) in
       ((l, live), node-leaf m l (w .sized .most) (w .nodes s (l, live)) (b .0), eqb-true (W t s value) v (b .1))
 
-  pub leaf-content : (s : ℕ) → s < cap t → leafIn t v s ≡ true → contentIs (W t) empties v s ≡ true
-  leaf-content s l h =
+  pub leaf-is : (s : ℕ) → s < cap t → leafIn t v s ≡ true → leafIs (W t) (leafHash v) v s ≡ true
+  leaf-is s l h =
       let p = leaf-in s l h in
-      content-true (W t) empties v s empties-length (λ i j. p .1 .bare i j ∙ sym (empties-at i j)) (p .2)
+      leaf-true (W t) (leafHash v) v s (p .1 .hashed ∙ ap leafHash (p .2)) (leaf-flagged s (p .0 .0) (p .1)) (p .2)
+    where
+      leaf-flagged : (s : ℕ) → s < cap t → LeafNode (W t) s → isLeaf (W t s own) ≡ true
+      leaf-flagged s l f =
+          let most = w .sized .most in ap isLeaf (f .id) ∙ leaf-flag s (generationOf (W t s own)) (omega arith) (gen-small (W t s own))
 
-  content-leaf : (s : ℕ) → LiveSlot t s → contentIs (W t) empties v s ≡ true → leafIn t v s ≡ true
+  pub is-leaf : (s : ℕ) → leafIs (W t) (leafHash v) v s ≡ true → leafIn t v s ≡ true
   unfolding leafIn
-  content-leaf s l h =
-      let c = content-words (W t) empties v s empties-length h in
-      ⊎-elim
-      (λ f.
-      let low = l .0 in
-      let most = w .sized .most in
-      let q : isLeaf (W t s own) ≡ true = ap isLeaf (f .id) ∙ leaf-flag s (generationOf (W t s own)) (omega arith) (gen-small (W t s own)) in
-      rw q (eq-eqb (W t s value) v (c .1)))
-      (λ b. absurd (let k = b .some in let j = k .1 in k .2 (c .0 (k .0) (omega arith) ∙ empties-at (k .0) (omega arith))))
-      (w .nodes s l .kind)
+  is-leaf s h = let c = leaf-words (W t) (leafHash v) v s h in rw (c .1) (eq-eqb (W t s value) v (c .2))
 
-  pub no-leaf : leafSlot t v ≡ 0 → (x : ℕ) → 0 < x → LiveSlot t x → contentIs (W t) empties v x ≡ false
+  pub no-leaf : leafSlot t v ≡ 0 → (x : ℕ) → 0 < x → LiveSlot t x → leafIs (W t) (leafHash v) v x ≡ false
   unfolding leafSlot
-  no-leaf z x p l = split (contentIs (W t) empties v x)
-      (λ h. absurd (true≢false (sym (content-leaf x l h) ∙ find-miss (leafIn t v) (cap t) z x (l .0) (omega arith))))
+  no-leaf z x p l = split (leafIs (W t) (leafHash v) v x)
+      (λ h. absurd (true≢false (sym (is-leaf x h) ∙ find-miss (leafIn t v) (cap t) z x (l .0) (omega arith))))
       (λ h. h)
 
+  -- a slot with no children has a leaf
   pub leaf-alone : leafSlot t v ≡ 0 → Alone t empties v
-  leaf-alone z = none-alone w empties v empties-length (no-leaf z)
+  unfolding leafSlot leafIn
+  leaf-alone z x l k q = ⊎-elim
+      (λ f.
+      let most = w .sized .most in
+      let low = l .0 in
+      let flag : isLeaf (W t x own) ≡ true = ap isLeaf (f .id) ∙ leaf-flag x (generationOf (W t x own)) (omega arith) (gen-small (W t x own)) in
+      let in-it : leafIn t v x ≡ true = rw flag (eq-eqb (W t x value) v q) in
+      let g = not-ground w x l in
+      true≢false (sym in-it ∙ find-miss (leafIn t v) (cap t) z x (l .0) (omega arith)))
+      (λ b. let j = b .some in let i = j .1 in j .2 (k (j .0) (omega arith) ∙ empties-at (j .0) (omega arith)))
+      (w .nodes x l .kind)
 
   -- the slot of the leaf
   pub leaf-slot : leafSlot t v ≢ 0 → (leafSlot t v < cap t) × (leafIn t v (leafSlot t v) ≡ true)
@@ -135,27 +115,33 @@ module _ {n tallest : ℕ} {t : Tables} (m : n ≤ 8) (w : WellFormed n tallest 
 
   -- ---- there is one
   hit-law : leafSlot t v ≢ 0 → leafBy t v ≡ hitBy t (leafSlot t v)
-  unfolding leafBy leafAt
+  unfolding leafBy leafAt leafCell
   hit-law d =
       let q = leaf-slot d in
-      let r = search-hit w empties v empties-length (leafSlot t v) (leaf-in (leafSlot t v) (q .0) (q .1) .0) (leaf-content (leafSlot t v) (q .0) (q .1)) in
+      let p = leaf-in (leafSlot t v) (q .0) (q .1) in
+      let i = leaf-is (leafSlot t v) (q .0) (q .1) in
+      let r = search-hit m w (leafIs (W t) (leafHash v) v) (leafHash v) (leafSlot t v) (p .0) (p .1 .hashed ∙ ap leafHash (p .2)) i
+      (λ x l h.
+      let c = leaf-words (W t) (leafHash v) v x h in
+      let e = leaf-words (W t) (leafHash v) v (leafSlot t v) i in
+      leaf-one m w x (leafSlot t v) l (p .0) (c .1) (e .1) (c .2 ∙ sym (e .2))) in
       rw (r, ne-eqb (leafSlot t v) 0 d)
 
   -- ---- there is none
-  miss-law : leafSlot t v ≡ 0 → leafBy t v ≡ leafMissBy t v (cellFor t empties v)
-  unfolding leafBy leafAt
-  miss-law z = let r = search-miss w empties v empties-length (no-leaf z) in rw r
+  miss-law : leafSlot t v ≡ 0 → leafBy t v ≡ leafMissBy t v (leafFor t v)
+  unfolding leafBy leafAt leafCell
+  miss-law z = let r = search-miss m w (leafIs (W t) (leafHash v) v) (leafHash v) (no-leaf z) in rw r
 
   inv : Inv t []
   inv = wf-inv m w
 
-  made-law : leafSlot t v ≡ 0 → roomOf (t .arena) ≡ true → leafMissBy t v (cellFor t empties v) ≡ leafMade t v
-  unfolding leafMissBy leafMade cellOf
+  made-law : leafSlot t v ≡ 0 → roomOf (t .arena) ≡ true → leafMissBy t v (leafFor t v) ≡ leafMade t v
+  unfolding leafMissBy leafMade leafCell
   made-law z r =
       let room = room-yes (t .arena) r in
-      rw r (leaf-fresh [] inv room v 1 0 (cellFor t empties v) (search-ends [] inv room empties v (contentIs (W t) empties v) (no-leaf z)))
+      rw r (leaf-fresh [] inv room v 1 0 (leafFor t v) (search-ends [] inv room (leafHash v) (leafIs (W t) (leafHash v) v) (no-leaf z)))
 
-  full-law : roomOf (t .arena) ≡ false → leafMissBy t v (cellFor t empties v) ≡ refused 11 t
+  full-law : roomOf (t .arena) ≡ false → leafMissBy t v (leafFor t v) ≡ refused 11 t
   unfolding leafMissBy
   full-law r = rw r
 

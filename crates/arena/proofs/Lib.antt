@@ -11,8 +11,8 @@ pub mod Make
 pub mod Places
 pub mod Branches
 pub mod Fresh
+pub mod Searched
 pub mod Leaves
 pub mod Holding
 pub mod Branching
 pub mod Releasing
-pub mod Searched

@@ -16,16 +16,15 @@ use Rattle.nodes.proofs.Counts.{live-same, total-bound}
 use Rattle.nodes.proofs.Sums.{cases, occ-cons, occ-here, occ-there, occ-append}
 use Rattle.arena.specs.Calls.{each, placedKid}
 use Rattle.arena.specs.Models.{bumped, moreOf, placedBy}
-use Rattle.arena.specs.Tables.{tablesOf}
-use Rattle.arena.specs.declared.Arena.{Arena}
+use Rattle.arena.specs.Tables.{State, tablesOf}
 use Rattle.arena.proofs.Dropping.{put-recounted}
 use Rattle.arena.proofs.Inv.{sized-within, Inv, move-inv, inv-debt}
 
-pub more-few : (x : ℕ) → x < 2 ^ 64 - 1 → moreOf x ≡ x + 1
+pub more-few : (x : ℕ) → x < 2 ^ 32 - 1 → moreOf x ≡ x + 1
 unfolding moreOf
 more-few x h = omega arith
 
-pub bumped-is : (w : ℕ) (x : Nodes) (k : ℕ) → own ≤ w → (k ≢ 0 → wordOf x (slot k) w < 2 ^ 64 - 1)
+pub bumped-is : (w : ℕ) (x : Nodes) (k : ℕ) → own ≤ w → (k ≢ 0 → wordOf x (slot k) w < 2 ^ 32 - 1)
     → nodes (x .kids) (bumped w (x .facts) k) ≡ pick (eqb k 0) x (putOf x (slot k) w (wordOf x (slot k) w + 1))
 unfolding bumped putOf
 bumped-is w x k l h = cases (ℕ-discrete k 0)
@@ -58,7 +57,7 @@ module _ (x : Nodes) (k : ℕ) where
       (λ z. rw (placed-empty z))
       (λ z. rw (placed-node z) (put-keeps x (slot k) places (wordOf x (slot k) places + 1) b f d))
 
-  module _ (a : Arena) (e d : List ℕ) (i : Inv (tablesOf a x e) d) (live : k ≢ 0 → Live (a .capacity) (wordOf x) k) where
+  module _ (a : State) (e d : List ℕ) (i : Inv (tablesOf a x e) d) (live : k ≢ 0 → Live (a .capacity) (wordOf x) k) where
     pub placed-inv : Inv (tablesOf a (placedKid x k) e) (k ∷ d)
     placed-inv = cases (ℕ-discrete k 0)
         (λ z. rw (placed-empty z) (inv-debt d (k ∷ d) (λ y p. sym (occ-there y k d (λ q. p (q ∙ z)))) i))
@@ -76,13 +75,13 @@ module _ (x : Nodes) (k : ℕ) where
 
 -- ---- each
 
-pub record Owing (a : Arena) (x : Nodes) (e ks d : List ℕ) : Type 0 where
+pub record Owing (a : State) (x : Nodes) (e ks d : List ℕ) : Type 0 where
   pub inv : Inv (tablesOf a (each placedKid x ks) e) (ks ++ d)
   pub same : placedBy x ks ≡ each placedKid x ks
   pub size : SameSize x (each placedKid x ks)
   pub words : (b f : ℕ) → f ≢ places → wordOf (each placedKid x ks) b f ≡ wordOf x b f
 
-pub owing : (a : Arena) (e ks : List ℕ) (x : Nodes) (d : List ℕ) → length d + length ks ≤ 1000 → Inv (tablesOf a x e) d
+pub owing : (a : State) (e ks : List ℕ) (x : Nodes) (d : List ℕ) → length d + length ks ≤ 1000 → Inv (tablesOf a x e) d
     → ((y : ℕ) → y ≢ 0 → 1 ≤ occ y ks → Live (a .capacity) (wordOf x) y) → Owing a x e ks d
 unfolding each
 owing a e [] x d n i h = record { inv = i; same = refl; size = size-refl x; words = λ b f q. refl }

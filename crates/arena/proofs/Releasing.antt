@@ -4,13 +4,14 @@ use mathlib.Core.Path.{_≡_, refl, sym, ap, ap₂, _∙_, subst}
 use mathlib.Core.Logic.{_≢_, inl, inr, _↔_}
 use mathlib.Core.Bool.{true, false}
 use mathlib.Core.List.{List, [], _∷_}
-use Prim.Native.Nat.{ℕ, zero, suc, _+_, _-_, _^_, _≤_, _<_}
+use Prim.Native.Nat.{ℕ, zero, suc, _+_, _-_, _*_, _^_, _≤_, _<_}
 use native.Mathlib.Decide.{ℕ-discrete, decLt}
 use native.Mathlib.Omega.{arith}
 use lib.ListN.{length}
 use borrow.Author.Tests.{eq-eqb, ne-eqb}
+use Rattle.ids.specs.Ids.{generationOf}
 use Rattle.nodes.specs.Tally.{kidsOf, Live, occ, same, Under, here, down}
-use Rattle.nodes.specs.Words.{own, height, holds, places, spare, Nodes, nodes, written, slot, floor, Words, wordOf, putOf}
+use Rattle.nodes.specs.Words.{own, height, hash, holds, places, mark, entry, Nodes, nodes, written, slot, floor, Words, wordOf, putOf}
 use Rattle.nodes.proofs.Access.{Within, put-size, size-trans, within-size, written-over, put-same, put-slot, put-field, put-keeps, put-put, put-word, put-less}
 use Rattle.nodes.proofs.Counts.{floor-pos, kids-same, Counts, live-same, total-bound}
 use Rattle.nodes.proofs.Frame.{Frame, lives-iff}
@@ -19,44 +20,44 @@ use Rattle.find.specs.Cells.{remove}
 use Rattle.find.specs.Content.{homeAt}
 use Rattle.find.proofs.Contents.{home-same}
 use Rattle.arena.specs.Calls.{deadFacts, empties, Out, did, fits, Fair, recycled, lessOf, unusedOf, each, takes, releaseNo, releaseOf}
-use Rattle.arena.specs.Models.{settledN, unplaced, dropOne, dropPlace, moreOf, settled, releaseBy, releaseAny}
-use Rattle.arena.specs.Tables.{tablesOf, Tables, cap, W, WellFormed}
-use Rattle.arena.specs.declared.Arena.{Arena}
+use Rattle.arena.specs.Models.{settledN, unplaced, goneOf, dropOne, dropPlace, moreOf, settled, releaseBy, releaseAny}
+use Rattle.arena.specs.Node.{nextGeneration}
+use Rattle.arena.specs.Tables.{State, tablesOf, Tables, cap, W, WellFormed}
 use Rattle.arena.proofs.Dropping.{one-empty, one-held, one-more, one-last, Dropped, drop-good, drop-enough}
 use Rattle.arena.proofs.Fits.{live-is, release-live}
 use Rattle.arena.proofs.Ids.{node-low}
 use Rattle.arena.proofs.Inv.{sized-within, Inv, Content, Recounted, recounted-word, move-inv, wf-inv, wf-content, inv-wf, content-recount, content-frame}
-use Rattle.arena.proofs.Rows.{dead-length, empties-length}
+use Rattle.arena.proofs.Rows.{deadRest, empties-length}
 
 -- ---- tables that differ in counts of one slot are the same once it is recycled
 
-recycled-same : (a : Arena) (l m : Nodes) (f : List ℕ) (s : ℕ) → wordOf m s own ≡ wordOf l s own → ((b g : ℕ) → g < height → wordOf m b g ≡ wordOf l b g)
-    → ((row : List ℕ) → length row ≡ 7 → written m s empties row ≡ written l s empties row) → recycled (tablesOf a m f) s ≡ recycled (tablesOf a l f) s
-unfolding recycled
+recycled-same : (a : State) (l m : Nodes) (f : List ℕ) (s : ℕ) → wordOf m s own ≡ wordOf l s own → ((b : ℕ) → wordOf m b hash ≡ wordOf l b hash)
+    → ((o : ℕ) (row : List ℕ) → length row ≡ 8 → written m s empties (o ∷ row) ≡ written l s empties (o ∷ row)) → recycled (tablesOf a m f) s ≡ recycled (tablesOf a l f) s
+unfolding recycled deadFacts
 recycled-same a l m f s mine e over =
-    let home : homeAt (a .capacity) (wordOf m) ≡ homeAt (a .capacity) (wordOf l) = (λ i b. home-same (a .capacity) (wordOf l) (wordOf m) b (λ g k d. e b g k) i) in
-    let row : written m s empties (deadFacts (wordOf m s own) (a .top)) ≡ written l s empties (deadFacts (wordOf l s own) (a .top)) =
-    ap (λ (x : ℕ). written m s empties (deadFacts x (a .top))) mine ∙ over (deadFacts (wordOf l s own) (a .top)) (dead-length (wordOf l s own) (a .top)) in
-    λ i. tablesOf (record { capacity = a .capacity; next = a .next; top = s; live = a .live - 1 }) (row i) (remove (home i) f s)
+    let home : homeAt (a .capacity) (wordOf m) ≡ homeAt (a .capacity) (wordOf l) = (λ i b. home-same (a .capacity) (wordOf l) (wordOf m) b (e b) i) in
+    let row = over (nextGeneration (generationOf (wordOf l s own)) * 2 ^ 32) (deadRest (a .freed)) refl in
+    rw mine
+    (λ i. tablesOf (record { capacity = a .capacity; next = a .next; freed = a .freed + 1 }) (putOf (row i) (a .freed) entry s) (remove (home i) f s))
 
-put-over : (l : Nodes) (s f v : ℕ) (row : List ℕ) → length row ≡ 7 → written (putOf l s f v) s empties row ≡ written l s empties row
-put-over l s f v row e = written-over l s empties row empties-length e f v
+put-over : (l : Nodes) (s f v o : ℕ) (row : List ℕ) → f ≤ mark → length row ≡ 8 → written (putOf l s f v) s empties (o ∷ row) ≡ written l s empties (o ∷ row)
+put-over l s f v o row h e = written-over l s empties o row empties-length e f v h
 
-pub less-recycled : (f : ℕ) (t : Tables) (id : ℕ) → height ≤ f → recycled (lessOf f t id) (slot id) ≡ recycled t (slot id)
+pub less-recycled : (f : ℕ) (t : Tables) (id : ℕ) → holds ≤ f → f ≤ mark → recycled (lessOf f t id) (slot id) ≡ recycled t (slot id)
 unfolding lessOf
-less-recycled f t id k =
+less-recycled f t id k h =
     recycled-same (t .arena) (t .nodes) (putOf (t .nodes) (slot id) f (W t (slot id) f - 1)) (t .find) (slot id)
     (put-keeps (t .nodes) (slot id) f (W t (slot id) f - 1) (slot id) own (omega arith))
-    (λ b g j. put-keeps (t .nodes) (slot id) f (W t (slot id) f - 1) b g (omega arith))
-    (put-over (t .nodes) (slot id) f (W t (slot id) f - 1))
+    (λ b. put-keeps (t .nodes) (slot id) f (W t (slot id) f - 1) b hash (omega arith))
+    (λ o row e. put-over (t .nodes) (slot id) f (W t (slot id) f - 1) o row h e)
 
 pub less-word : (f : ℕ) (t : Tables) (id b g : ℕ) → g ≢ f → W (lessOf f t id) b g ≡ W t b g
 unfolding lessOf
 less-word f t id b g d = put-keeps (t .nodes) (slot id) f (W t (slot id) f - 1) b g d
 
-pub less-at : (f : ℕ) (t : Tables) (id : ℕ) → own ≤ f → f ≤ spare → W (lessOf f t id) (slot id) f ≡ W t (slot id) f - 1
+pub less-at : (f : ℕ) (t : Tables) (id : ℕ) → own < f → f ≤ mark → W (lessOf f t id) (slot id) f ≡ W t (slot id) f - 1
 unfolding lessOf
-less-at f t id m k = put-less (t .nodes) (slot id) f m k
+less-at f t id m k = put-less (t .nodes) (slot id) f m (omega arith)
 
 pub less-kids : (f : ℕ) (t : Tables) (id : ℕ) → height ≤ f → kidsOf 8 (W (lessOf f t id)) (slot id) ≡ kidsOf 8 (W t) (slot id)
 less-kids f t id k = kids-same 8 (W t) (W (lessOf f t id)) (slot id) (λ i j. less-word f t id (slot id) i (omega arith))
@@ -93,9 +94,9 @@ unfolding unplaced lessOf
 unplaced-less t id = refl
 
 -- taking a place is the code's drop, on any tables
-takes-drop-step : (k : ℕ) → ((t : Tables) (x : ℕ) → takes k places t x ≡ dropPlace k t x) → (t : Tables) (x : ℕ) → takes (suc k) places t x ≡ dropOne (dropPlace k) t x
+takes-drop-step : (k : ℕ) → ((t : Tables) (x : ℕ) → takes k places t x ≡ dropPlace goneOf k t x) → (t : Tables) (x : ℕ) → takes (suc k) places t x ≡ dropOne goneOf (dropPlace goneOf k) t x
 takes-drop-step k ih t x = cases (ℕ-discrete x 0)
-    (λ e. takes-empty k places t x e ∙ sym (one-empty (dropPlace k) t x e))
+    (λ e. takes-empty k places t x e ∙ sym (one-empty goneOf (dropPlace goneOf k) t x e))
     (λ d.
     let h = less-word places t x (slot x) holds (omega arith) in
     let p = less-at places t x (omega arith) (omega arith) in
@@ -103,28 +104,32 @@ takes-drop-step k ih t x = cases (ℕ-discrete x 0)
     (λ z. cases (decLt 1 (W t (slot x) places))
     (λ m.
     takes-left k places t x d (used-place (lessOf places t x) x (h ∙ z) (omega arith))
-    ∙ sym (one-more (dropPlace k) t x d z m ∙ unplaced-less t x))
+    ∙ sym (one-more goneOf (dropPlace goneOf k) t x d z m ∙ unplaced-less t x))
     (λ m.
     takes-gone k places t x d (unused-both (lessOf places t x) x (h ∙ z) (omega arith))
-    ∙ ap₂ (λ (u : Tables) (l : List ℕ). each (takes k places) u l) (less-recycled places t x (omega arith)) (less-kids places t x (omega arith))
+    ∙ ap₂ (λ (u : Tables) (l : List ℕ). each (takes k places) u l) (less-recycled places t x (omega arith) (omega arith)) (less-kids places t x (omega arith))
     ∙ ap (λ (r : Tables → ℕ → Tables). each r (recycled t (slot x)) (kidsOf 8 (W t) (slot x))) (λ i u y. ih u y i)
-    ∙ sym (one-last (dropPlace k) t x d z (omega arith))))
+    ∙ sym (one-last goneOf (dropPlace goneOf k) t x d z (omega arith))))
     (λ z.
     takes-left k places t x d (used-hold (lessOf places t x) x (λ y. z (sym h ∙ y)))
-    ∙ sym (one-held (dropPlace k) t x d z ∙ unplaced-less t x)))
+    ∙ sym (one-held goneOf (dropPlace goneOf k) t x d z ∙ unplaced-less t x)))
 
 takes-zero : (f : ℕ) (t : Tables) (x : ℕ) → takes 0 f t x ≡ t
 unfolding takes
 takes-zero f t x = refl
 
-pub takes-drop : (k : ℕ) (t : Tables) (x : ℕ) → takes k places t x ≡ dropPlace k t x
+pub takes-drop : (k : ℕ) (t : Tables) (x : ℕ) → takes k places t x ≡ dropPlace goneOf k t x
 unfolding dropPlace
 takes-drop zero t x = takes-zero places t x
 takes-drop (suc k) t x = takes-drop-step k (takes-drop k) t x
 
 -- ---- the hold that becomes an owed place
 
-module _ (t : Tables) (id : ℕ) (d : id ≢ 0) (within : Within (t .nodes) (slot id)) (held : 1 ≤ W t (slot id) holds) (few : W t (slot id) places < (2 ^ 64 - 1)) where
+-- it is dropped
+abbrev droppedBy : ℕ → Tables → ℕ → Tables
+droppedBy k t id = dropPlace goneOf (suc k) (settled t (slot id)) id
+
+module _ (t : Tables) (id : ℕ) (d : id ≢ 0) (within : Within (t .nodes) (slot id)) (held : 1 ≤ W t (slot id) holds) (few : W t (slot id) places < (2 ^ 32 - 1)) where
   abbrev s : ℕ
   s = slot id
 
@@ -155,9 +160,10 @@ module _ (t : Tables) (id : ℕ) (d : id ≢ 0) (within : Within (t .nodes) (slo
     size = size-trans (put-size (t .nodes) s holds (W t s holds - 1)) (put-size one s places (moreOf (W t s places)));
     others = λ b f q m. put-slot one s places (moreOf (W t s places)) b f q ∙ put-slot (t .nodes) s holds (W t s holds - 1) b f q;
     same = λ f m a b. put-field one s places (moreOf (W t s places)) f b ∙ put-field (t .nodes) s holds (W t s holds - 1) f a;
+    entries = λ b. put-keeps one s places (moreOf (W t s places)) b entry (omega arith) ∙ put-keeps (t .nodes) s holds (W t s holds - 1) b entry (omega arith);
   }
 
-  settled-word : (b f : ℕ) → f ≤ spare → f ≢ holds → f ≢ places → W (settled t s) b f ≡ W t b f
+  settled-word : (b f : ℕ) → f ≤ mark → f ≢ holds → f ≢ places → W (settled t s) b f ≡ W t b f
   settled-word = recounted-word settled-recounted
 
   settled-unplaced : unplaced (settled t s) s ≡ lessOf holds t id
@@ -172,13 +178,13 @@ module _ (t : Tables) (id : ℕ) (d : id ≢ 0) (within : Within (t .nodes) (slo
   settled-recycled =
       recycled-same (t .arena) (t .nodes) (putOf one s places (moreOf (W t s places))) (t .find) s
       (put-keeps one s places (moreOf (W t s places)) s own (omega arith) ∙ put-keeps (t .nodes) s holds (W t s holds - 1) s own (omega arith))
-      (λ b g j. put-keeps one s places (moreOf (W t s places)) b g (omega arith) ∙ put-keeps (t .nodes) s holds (W t s holds - 1) b g (omega arith))
-      (λ row e. put-over one s places (moreOf (W t s places)) row e ∙ put-over (t .nodes) s holds (W t s holds - 1) row e)
+      (λ b. put-keeps one s places (moreOf (W t s places)) b hash (omega arith) ∙ put-keeps (t .nodes) s holds (W t s holds - 1) b hash (omega arith))
+      (λ o row e. put-over one s places (moreOf (W t s places)) o row (omega arith) e ∙ put-over (t .nodes) s holds (W t s holds - 1) o row (omega arith) e)
 
   settled-kids : kidsOf 8 (W (settled t s)) s ≡ kidsOf 8 (W t) s
   settled-kids = kids-same 8 (W t) (W (settled t s)) s (λ i j. settled-word s i (omega arith) (omega arith) (omega arith))
 
-  release-step : (k : ℕ) → dropOne (dropPlace k) (settled t s) id ≡ takes (suc k) holds t id
+  release-step : (k : ℕ) → dropOne goneOf (dropPlace goneOf k) (settled t s) id ≡ takes (suc k) holds t id
   release-step k =
       let h = less-at holds t id (omega arith) (omega arith) in
       let p = less-word holds t id s places (omega arith) in
@@ -187,19 +193,19 @@ module _ (t : Tables) (id : ℕ) (d : id ≢ 0) (within : Within (t .nodes) (slo
       cases (ℕ-discrete (W t s holds - 1) 0)
       (λ z. cases (ℕ-discrete (W t s places) 0)
       (λ y.
-      one-last (dropPlace k) (settled t s) id d (u11 ∙ z) (omega arith)
-      ∙ ap₂ (λ (u : Tables) (l : List ℕ). each (dropPlace k) u l) (settled-recycled ∙ sym (less-recycled holds t id (omega arith))) (settled-kids ∙ sym (less-kids holds t id (omega arith)))
+      one-last goneOf (dropPlace goneOf k) (settled t s) id d (u11 ∙ z) (omega arith)
+      ∙ ap₂ (λ (u : Tables) (l : List ℕ). each (dropPlace goneOf k) u l) (settled-recycled ∙ sym (less-recycled holds t id (omega arith) (omega arith))) (settled-kids ∙ sym (less-kids holds t id (omega arith)))
       ∙ ap (λ (r : Tables → ℕ → Tables). each r (recycled (lessOf holds t id) s) (kidsOf 8 (W (lessOf holds t id)) s)) (λ i u y. sym (takes-drop k u y) i)
       ∙ sym (takes-gone k holds t id d (unused-both (lessOf holds t id) id (h ∙ z) (p ∙ y))))
       (λ y.
-      one-more (dropPlace k) (settled t s) id d (u11 ∙ z) (omega arith) ∙ settled-unplaced
+      one-more goneOf (dropPlace goneOf k) (settled t s) id d (u11 ∙ z) (omega arith) ∙ settled-unplaced
       ∙ sym (takes-left k holds t id d (used-place (lessOf holds t id) id (h ∙ z) (λ q. y (sym p ∙ q))))))
       (λ z.
-      one-held (dropPlace k) (settled t s) id d (λ q. z (sym u11 ∙ q)) ∙ settled-unplaced
+      one-held goneOf (dropPlace goneOf k) (settled t s) id d (λ q. z (sym u11 ∙ q)) ∙ settled-unplaced
       ∙ sym (takes-left k holds t id d (used-hold (lessOf holds t id) id (λ q. z (sym h ∙ q)))))
 
-  pub release-takes : (k : ℕ) → releaseBy k t id ≡ takes (suc k) holds t id
-  unfolding releaseBy dropPlace
+  pub release-takes : (k : ℕ) → droppedBy k t id ≡ takes (suc k) holds t id
+  unfolding dropPlace
   release-takes = release-step
 
 -- ---- on well-formed tables
@@ -233,13 +239,13 @@ module _ {n tallest : ℕ} {t : Tables} (m : n ≤ 8) (w : WellFormed n tallest 
   inside : Within (t .nodes) (slot id)
   inside = sized-within (slot id) (w .sized) (live .low)
 
-  few : W t (slot id) places < (2 ^ 64 - 1)
+  few : W t (slot id) places < (2 ^ 32 - 1)
   few = let p = inv .counts .placed id live in let q = w .sized .most in omega (arith, total-bound 8 (cap t) (W t) [] id)
 
-  pub release-by : (k : ℕ) → releaseBy k t id ≡ takes (suc k) holds t id
+  pub release-by : (k : ℕ) → droppedBy k t id ≡ takes (suc k) holds t id
   release-by = release-takes t id some inside held few
 
-  pub u-word : (b f : ℕ) → f ≤ spare → f ≢ holds → f ≢ places → W (settled t (slot id)) b f ≡ W t b f
+  pub u-word : (b f : ℕ) → f ≤ mark → f ≢ holds → f ≢ places → W (settled t (slot id)) b f ≡ W t b f
   u-word = settled-word t id some inside held few
 
   pub u-less : lessOf places (settled t (slot id)) id ≡ lessOf holds t id
@@ -254,7 +260,7 @@ module _ {n tallest : ℕ} {t : Tables} (m : n ≤ 8) (w : WellFormed n tallest 
       settle-inv (t .arena) (t .nodes) (t .find) id (settled t (slot id) .nodes) inv live (settled-recounted t id some inside held few)
       (omega arith) (omega arith)
     where
-      settle-inv : (a : Arena) (l : Nodes) (f : List ℕ) (x : ℕ) (l′ : Nodes) → Inv (tablesOf a l f) [] → Live (a .capacity) (wordOf l) x → Recounted (slot x) l l′
+      settle-inv : (a : State) (l : Nodes) (f : List ℕ) (x : ℕ) (l′ : Nodes) → Inv (tablesOf a l f) [] → Live (a .capacity) (wordOf l) x → Recounted (slot x) l l′
           → wordOf l′ (slot x) places ≡ wordOf l (slot x) places + 1 → 1 ≤ wordOf l′ (slot x) holds + wordOf l′ (slot x) places → Inv (tablesOf a l′ f) (x ∷ [])
       settle-inv a l f x l′ v lv r e k =
           move-inv a l l′ f [] (x ∷ []) x v lv r (λ y z q. occ-there y x [] q) (omega (arith, occ-here x [], occ-nil x)) k
@@ -282,17 +288,16 @@ module _ {n tallest : ℕ} {t : Tables} (m : n ≤ 8) (w : WellFormed n tallest 
   pub u-short : W (settled t (slot id)) (slot id) height < suc tallest
   u-short = u-low (slot id) (live .low) (let e = u-word (slot id) own (omega arith) (omega arith) (omega arith) in let i = live .is in let h = live .high in omega arith)
 
-  dropped : Dropped (settled t (slot id)) (releaseBy tallest t id) []
-  unfolding releaseBy
+  dropped : Dropped (settled t (slot id)) (droppedBy tallest t id) []
   dropped = drop-good (suc tallest) id [] u-inv (λ d. u-short)
 
   -- to go deeper than the tallest node changes nothing
-  pub release-enough : (k : ℕ) → tallest ≤ k → releaseBy k t id ≡ releaseBy tallest t id
+  pub release-enough : (k : ℕ) → tallest ≤ k → releaseBy k t id ≡ droppedBy tallest t id
   unfolding releaseBy
   release-enough k l = drop-enough (suc tallest) id [] u-inv (λ d. u-short) (suc k) (omega arith)
 
   -- a hold less, and a place more
-  less-u : (b f : ℕ) → f ≤ spare → f ≢ places → W (settled t (slot id)) b f ≡ W (lessOf holds t id) b f
+  less-u : (b f : ℕ) → f ≤ mark → f ≢ places → W (settled t (slot id)) b f ≡ W (lessOf holds t id) b f
   less-u b f k d = cases (ℕ-discrete f holds)
       (λ (q : f ≡ holds). subst (λ (z : ℕ). W (settled t (slot id)) b z ≡ W (lessOf holds t id) b z) (sym q) (same-holds b))
       (λ q. u-word b f k q d ∙ sym (less-word holds t id b f q))
@@ -302,20 +307,20 @@ module _ {n tallest : ℕ} {t : Tables} (m : n ≤ 8) (w : WellFormed n tallest 
           (λ (q : b ≡ slot id). subst (λ (z : ℕ). W (settled t (slot id)) z holds ≡ W (lessOf holds t id) z holds) (sym q) (settled-holds t id some inside held few ∙ sym (less-at holds t id (omega arith) (omega arith))))
           (λ q. settled-recounted t id some inside held few .others b holds q (omega arith) ∙ sym (less-slot t id b q))
 
-  after-frame : Frame (cap t) (W (settled t (slot id))) (W (releaseBy tallest t id))
-  after-frame = subst (λ (c : ℕ). Frame c (W (settled t (slot id))) (W (releaseBy tallest t id))) u-cap (dropped .frame)
+  after-frame : Frame (cap t) (W (settled t (slot id))) (W (droppedBy tallest t id))
+  after-frame = subst (λ (c : ℕ). Frame c (W (settled t (slot id))) (W (droppedBy tallest t id))) u-cap (dropped .frame)
 
-  after-cap : cap (releaseBy tallest t id) ≡ cap t
+  after-cap : cap (droppedBy tallest t id) ≡ cap t
   after-cap = dropped .size ∙ u-cap
 
-  after-counts : Counts 8 (cap t) (W (releaseBy tallest t id)) []
-  after-counts = subst (λ (c : ℕ). Counts 8 c (W (releaseBy tallest t id)) []) after-cap (dropped .inv .counts)
+  after-counts : Counts 8 (cap t) (W (droppedBy tallest t id)) []
+  after-counts = subst (λ (c : ℕ). Counts 8 c (W (droppedBy tallest t id)) []) after-cap (dropped .inv .counts)
 
-  pub release-good : Released n tallest t id (releaseBy tallest t id)
+  pub release-good : Released n tallest t id (droppedBy tallest t id)
   release-good = record {
     well = inv-wf n tallest (dropped .inv)
-        (subst (λ (c : ℕ). Content n tallest c (W (releaseBy tallest t id))) (sym after-cap)
-        (content-frame n tallest (cap t) (W (settled t (slot id))) (W (releaseBy tallest t id)) [] m after-counts after-frame u-content));
+        (subst (λ (c : ℕ). Content n tallest c (W (droppedBy tallest t id))) (sym after-cap)
+        (content-frame n tallest (cap t) (W (settled t (slot id))) (W (droppedBy tallest t id)) [] m after-counts after-frame u-content));
     size = after-cap;
     frame = record {
       kept = λ b l h f k d. after-frame .kept b l h f k d ∙ less-u b f k d;
@@ -325,7 +330,7 @@ module _ {n tallest : ℕ} {t : Tables} (m : n ≤ 8) (w : WellFormed n tallest 
           after-frame .held b l (omega arith) (omega arith);
     };
     lives = λ y.
-        let r = lives-iff (cap t) (W (settled t (slot id))) (W (releaseBy tallest t id)) after-counts after-frame (suc tallest) u-low y in (
+        let r = lives-iff (cap t) (W (settled t (slot id))) (W (droppedBy tallest t id)) after-counts after-frame (suc tallest) u-low y in (
           (λ v.
               let q = r .0 v in (
                 q .0,

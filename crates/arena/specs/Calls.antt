@@ -11,14 +11,13 @@ use Rattle.basics.specs.Pick.{pick}
 use Rattle.ids.specs.Ids.{empty, invalid, isLeaf, generationOf}
 use Rattle.nodes.specs.Tally.{occ, kidsOf}
 use Rattle.ids.specs.declared.BlockId.{BlockId}
-use Rattle.nodes.specs.Words.{Nodes, nodes, Words, wordOf, putOf, written, own, value, holds, places, link, slot, floor}
-use Rattle.find_hash.specs.Hash.{homeFor}
+use Rattle.nodes.specs.Words.{Nodes, nodes, Words, wordOf, putOf, written, own, value, holds, places, entry, slot, floor}
+use Rattle.find_hash.specs.Hash.{leafHash, kidsHash, homeIn}
 use Rattle.find.specs.Cells.{insertAt, remove}
 use Rattle.find.specs.Content.{agree, homeAt}
-use Rattle.arena.specs.Node.{nextGeneration, leafId, branchId, valueFor, heightFor}
-use Rattle.arena.specs.Tables.{Tables, tablesOf, tables, cap, W, WellFormed}
+use Rattle.arena.specs.Node.{nextGeneration, leafId, branchId, sumFor, valueFor, heightFor}
+use Rattle.arena.specs.Tables.{State, liveIn, stateIn, Tables, tablesOf, tables, cap, W, WellFormed}
 use Rattle.arena.specs.declared.Answer.{Answer}
-use Rattle.arena.specs.declared.Arena.{Arena}
 use Rattle.arena.specs.declared.Counted.{Counted}
 use Rattle.arena.specs.declared.Made.{Made}
 
@@ -45,16 +44,16 @@ unfoldable pub rawIds : List BlockId → List ℕ
 rawIds [] = []
 rawIds (b ∷ bs) = b .0 ∷ rawIds bs
 
--- what the code's answer and the lists afterwards come to
-abbrev pub madeOf : Made → List ℕ → List ℕ → List ℕ → Out
-madeOf r k f e = said (r .no) (r .id .0) (tables (r .arena) k f e)
+-- what the code's answer and the lists afterwards come to, in an arena of c slots
+abbrev pub madeOf : ℕ → Made → List ℕ → List ℕ → List ℕ → Out
+madeOf c r k f e = said (r .no) (r .id .0) (tables (stateIn c (r .slots)) k f e)
 
-abbrev pub answeredOf : Answer → List ℕ → List ℕ → List ℕ → Out
-answeredOf r k f e = did (r .no) (tables (r .arena) k f e)
+abbrev pub answeredOf : ℕ → Answer → List ℕ → List ℕ → List ℕ → Out
+answeredOf c r k f e = did (r .no) (tables (stateIn c (r .slots)) k f e)
 
 -- ## Refusals
 
--- not refusal 1: capacity 2 to 65,536, and each table's length the one fixed for it: 8 and 7 words and 3 cells a slot
+-- not refusal 1: capacity 2 to 65,536, and each table's length the one fixed for it: 8 and 11 words and 5 cells a slot
 unfoldable pub fitOf : ℕ → ℕ → ℕ → ℕ → Bool
 fitOf c k f e =
     pick (leb leastSlots c) (pick (leb c mostSlots) (pick (eqb k (kidWords * c)) (pick (eqb f (factWords * c)) (eqb e (slotCells * c)) false) false) false) false
@@ -84,11 +83,11 @@ unfoldable pub fullOf : Words → ℕ → Bool
 fullOf W s = leb mostHolds (W s holds)
 
 -- the free slots: capacity - 1 - live
-abbrev pub freeSlots : Arena → ℕ
-freeSlots a = a .capacity - 1 - a .live
+abbrev pub freeSlots : State → ℕ
+freeSlots a = a .capacity - 1 - liveIn a
 
 -- not refusal 11: there is one
-unfoldable pub roomOf : Arena → Bool
+unfoldable pub roomOf : State → Bool
 roomOf a = ltb 0 (freeSlots a)
 
 -- ## A hold: the caller gets one hold on the node in slot s
@@ -99,50 +98,49 @@ heldAt t s = tablesOf (t .arena) (putOf (t .nodes) s holds (W t s holds + 1)) (t
 -- ## A fresh node
 
 -- fresh slot: the last one freed, else the lowest never used
-unfoldable pub freshSlot : Arena → ℕ
-freshSlot a = pick (eqb (a .top) 0) (a .next) (a .top)
+unfoldable pub freshSlot : State → Words → ℕ
+freshSlot a W = pick (eqb (a .freed) 0) (a .next) (W (a .freed - 1) entry)
+
+abbrev pub freshIn : Tables → ℕ
+freshIn t = freshSlot (t .arena) (W t)
 
 -- the state once a slot is given out, where `more` counts one more
-abbrev pub givenBy : (ℕ → ℕ) → Arena → Words → Arena
-givenBy more a W = record {
-  capacity = a .capacity;
-  next = pick (eqb (a .top) 0) (more (a .next)) (a .next);
-  top = pick (eqb (a .top) 0) 0 (W (a .top) link);
-  live = more (a .live);
-}
+abbrev pub givenBy : (ℕ → ℕ) → State → State
+givenBy more a = record { capacity = a .capacity; next = pick (eqb (a .freed) 0) (more (a .next)) (a .next); freed = a .freed - 1 }
 
 -- the state once it is given out
-unfoldable pub slotGiven : Arena → Words → Arena
-slotGiven a W = givenBy (λ x. x + 1) a W
+unfoldable pub slotGiven : State → State
+slotGiven a = givenBy (λ x. x + 1) a
 
--- its facts in order: its id, value and height, h holds and p places; link and spare are 0
-unfoldable pub freshFacts : ℕ → ℕ → ℕ → ℕ → ℕ → List ℕ
-freshFacts id v up h p = id ∷ v ∷ up ∷ h ∷ p ∷ 0 ∷ 0 ∷ []
+-- its facts in order: its id, value and height; the sum and the hash that it keeps beside, with the spare word between them, which is 0; h holds and p
+-- places; it has no number on the stack of freed slots
+unfoldable pub freshFacts : ℕ → ℕ → ℕ → ℕ → ℕ → ℕ → ℕ → List ℕ
+freshFacts id v up sum k h p = id ∷ v ∷ up ∷ sum ∷ 0 ∷ k ∷ h ∷ p ∷ 0 ∷ []
 
 -- eight EMPTY children
 unfoldable pub empties : List ℕ
 empties = 0 ∷ 0 ∷ 0 ∷ 0 ∷ 0 ∷ 0 ∷ 0 ∷ 0 ∷ []
 
--- its slot stands in the first empty cell from its home on
-unfoldable pub named : Tables → List ℕ → ℕ → ℕ → List ℕ
-named t ks v s = insertAt (λ x. false) (t .find) (homeFor (cap t) ks v) s
+-- its slot stands in the first empty cell from the home of its hash on
+unfoldable pub named : Tables → ℕ → ℕ → List ℕ
+named t k s = insertAt (λ x. false) (t .find) (homeIn (cap t) k) s
 
--- the node of id, with the children ks, the stored value v and the height up, h holds and q places
-unfoldable pub freshNode : Tables → ℕ → List ℕ → ℕ → ℕ → ℕ → ℕ → Out
-freshNode t id ks v up h q =
-    let s = freshSlot (t .arena) in
-    said 0 id (tablesOf (slotGiven (t .arena) (W t)) (written (t .nodes) s ks (freshFacts id v up h q)) (named t ks v s))
+-- the node of id, with the children ks, the stored value v and the height up, and beside these the sum and the hash k; h holds and q places
+unfoldable pub freshNode : Tables → ℕ → List ℕ → ℕ → ℕ → ℕ → ℕ → ℕ → ℕ → Out
+freshNode t id ks v up sum k h q =
+    let s = freshIn t in
+    said 0 id (tablesOf (slotGiven (t .arena)) (written (t .nodes) s ks (freshFacts id v up sum k h q)) (named t k s))
 
 -- a fresh leaf of the value x, and a fresh branch of the children ks, of which each has its place already
 unfoldable pub leafAnew : Tables → ℕ → ℕ → ℕ → Out
 leafAnew t x h q =
-    let s = freshSlot (t .arena) in
-    freshNode t (leafId s (generationOf (W t s own))) empties x 0 h q
+    let s = freshIn t in
+    freshNode t (leafId s (generationOf (W t s own))) empties x 0 0 (leafHash x) h q
 
 unfoldable pub branchAnew : ℕ → Tables → List ℕ → ℕ → ℕ → Out
 branchAnew n t ks h q =
-    let s = freshSlot (t .arena) in
-    freshNode t (branchId ks s (generationOf (W t s own))) ks (valueFor n (W t) ks) (heightFor n (W t) ks) h q
+    let s = freshIn t in
+    freshNode t (branchId ks s (generationOf (W t s own))) ks (valueFor n (W t) ks) (heightFor n (W t) ks) (sumFor n (W t) ks) (kidsHash ks) h q
 
 -- ## Intern leaf: the live node of that value if there is one, else a fresh one; the caller gets one hold
 
@@ -179,15 +177,16 @@ internLeafOf t v =
 -- ## Release: takes one hold. A node with both counts 0 is recycled, and then its eight children are released in octant order, each
 -- completely before the next (a child's place ends, as the hold did)
 
--- recycled: value 0, both counts 0, generation one higher, or 0 where that would reach 0x7FFE; linked to the one freed before it
+-- recycled: value 0, both counts 0, generation one higher, or 0 where that would reach 0x7FFE; it keeps its number on the stack of freed slots
 unfoldable pub deadFacts : ℕ → ℕ → List ℕ
-deadFacts o top = nextGeneration (generationOf o) * 2 ^ 32 ∷ 0 ∷ 0 ∷ 0 ∷ 0 ∷ top ∷ 0 ∷ []
+deadFacts o number = nextGeneration (generationOf o) * 2 ^ 32 ∷ 0 ∷ 0 ∷ 0 ∷ 0 ∷ 0 ∷ 0 ∷ 0 ∷ number ∷ []
 
 -- children EMPTY; its slot is on top of the freed ones, and no longer in the finding table
 unfoldable pub recycled : Tables → ℕ → Tables
 recycled t s =
-    tablesOf (record { capacity = t .arena .capacity; next = t .arena .next; top = s; live = t .arena .live - 1 })
-    (written (t .nodes) s empties (deadFacts (W t s own) (t .arena .top))) (remove (homeAt (cap t) (W t)) (t .find) s)
+    let top = t .arena .freed in
+    tablesOf (record { capacity = t .arena .capacity; next = t .arena .next; freed = top + 1 })
+    (putOf (written (t .nodes) s empties (deadFacts (W t s own) top)) top entry s) (remove (homeAt (cap t) (W t)) (t .find) s)
 
 -- one less in a count f, holds or places, of the node of id
 unfoldable pub lessOf : ℕ → Tables → ℕ → Tables
@@ -245,8 +244,8 @@ counted r = numbers (r .no) (r .holds) (r .places)
 
 -- ## A fresh arena clears every slot, with generation 0 and none given out. Refusal 1
 
-abbrev pub fresh : ℕ → Arena
-fresh c = record { capacity = c; next = 1; top = 0; live = 0 }
+abbrev pub fresh : ℕ → State
+fresh c = record { capacity = c; next = 1; freed = 0 }
 
 unfoldable pub freshOf : ℕ → List ℕ → List ℕ → List ℕ → Out
 freshOf c k f e =

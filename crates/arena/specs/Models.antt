@@ -6,15 +6,16 @@ use lib.Dec.{eqb, ltb}
 use lib.ListN.{getD, set}
 use Rattle.basics.specs.Limits.{kidWords}
 use Rattle.basics.specs.Pick.{pick}
-use Rattle.basics.specs.Sums.{sumTo}
 use Rattle.ids.specs.Ids.{generationOf, newLeaf, newBranch}
 use Rattle.nodes.specs.Tally.{kidsOf}
-use Rattle.nodes.specs.Words.{Nodes, nodes, Words, wordOf, factOf, putOf, factPut, written, own, holds, places, slot}
-use Rattle.find.specs.Cells.{cellOf}
-use Rattle.arena.specs.Calls.{Out, said, refused, did, fits, fullOf, roomOf, heldAt, freshSlot, givenBy, freshFacts, empties, recycled, each, releaseNo, noneOf, unheld, allLive, enough}
-use Rattle.arena.specs.Node.{kidTypes, kidMask}
-use Rattle.nodes.specs.Values.{valueAt, heightAt, maxTo}
-use Rattle.arena.specs.Tables.{Tables, tablesOf, cap, W}
+use Rattle.nodes.specs.Words.{Nodes, nodes, Words, wordOf, factOf, putOf, factPut, factsPut, rowPut, written, own, height, holds, places, entry, slot}
+use Rattle.find_hash.specs.Hash.{leafHash, kidsHash}
+use Rattle.find.specs.Cells.{leafCell, kidsCell, remove}
+use Rattle.find.specs.Content.{homeAt}
+use Rattle.arena.specs.Calls.{Out, said, refused, did, fits, fullOf, roomOf, heldAt, freshIn, givenBy, freshFacts, deadFacts, empties, recycled, each, releaseNo, noneOf, unheld, allLive, enough}
+use Rattle.arena.specs.Node.{kidTypes, kidMask, sumFor, valueFor}
+use Rattle.nodes.specs.Values.{heightAt, maxTo}
+use Rattle.arena.specs.Tables.{Tables, tablesOf, tables, cap, W}
 
 -- ## Recycling
 
@@ -26,26 +27,40 @@ unfoldable pub staysOf : Words → ℕ → Bool
 staysOf W s = pick (eqb (W s holds) 0) (ltb 1 (W s places)) true
 
 -- slot s recycled, and `rec` done for each of its children
-unfoldable pub goneBy : (Tables → ℕ → Tables) → Tables → ℕ → Tables
-goneBy rec t s = each rec (recycled t s) (kidsOf kidWords (W t) s)
+abbrev pub goneOf : (Tables → ℕ → Tables) → Tables → ℕ → Tables
+goneOf rec t s = each rec (recycled t s) (kidsOf kidWords (W t) s)
 
--- one place taken from x: it stays, or it goes; EMPTY: nothing
-unfoldable pub dropOne : (Tables → ℕ → Tables) → Tables → ℕ → Tables
-dropOne rec t x =
-    let gone = goneBy rec t (slot x) in
-    let left = pick (staysOf (W t) (slot x)) (unplaced t (slot x)) gone in
+-- one place taken from x: it stays, or it goes by `gone`; EMPTY: nothing
+unfoldable pub dropOne : ((Tables → ℕ → Tables) → Tables → ℕ → Tables) → (Tables → ℕ → Tables) → Tables → ℕ → Tables
+dropOne gone rec t x =
+    let left = pick (staysOf (W t) (slot x)) (unplaced t (slot x)) (gone rec t (slot x)) in
     pick (eqb x 0) t left
 
 -- takes one place from x; the last one recycles its slot and drops its children in turn, k levels down at most
-unfoldable pub dropPlace : ℕ → Tables → ℕ → Tables
-dropPlace zero t x = t
-dropPlace (suc k) t x = dropOne (dropPlace k) t x
+unfoldable pub dropPlace : ((Tables → ℕ → Tables) → Tables → ℕ → Tables) → ℕ → Tables → ℕ → Tables
+dropPlace gone zero t x = t
+dropPlace gone (suc k) t x = dropOne gone (dropPlace gone k) t x
+
+-- one more, running over at 2^32
+unfoldable pub moreOf : ℕ → ℕ
+moreOf x = (x + 1) % 2 ^ 32
+
+-- slot s recycled but for its children, as the code counts
+unfoldable pub recycledBy : Tables → ℕ → Tables
+recycledBy t s =
+    let top = t .arena .freed in
+    tablesOf (record { capacity = t .arena .capacity; next = t .arena .next; freed = moreOf top })
+    (nodes (t .nodes .kids) (factPut (factsPut (t .nodes .facts) s (deadFacts (W t s own) top)) top entry (s % 2 ^ 32))) (remove (homeAt (cap t) (W t)) (t .find) s)
+
+-- the children of slot s are EMPTY
+unfoldable pub bared : Tables → ℕ → Tables
+bared t s = tables (t .arena) (rowPut kidWords (t .nodes .kids) s empties) (t .nodes .facts) (t .find)
+
+-- slot s recycled, and `rec` done for each of its children, as the code does: of a leaf, which has height 0, no children are read or written
+unfoldable pub goneBy : (Tables → ℕ → Tables) → Tables → ℕ → Tables
+goneBy rec t s = let dead = recycledBy t s in pick (eqb (W t s height) 0) dead (each rec (bared dead s) (kidsOf kidWords (W t) s))
 
 -- ## A fresh node
-
--- one more, running over at 2^64
-unfoldable pub moreOf : ℕ → ℕ
-moreOf x = (x + 1) % 2 ^ 64
 
 -- one more in the fact w of the node of id; EMPTY: nothing
 unfoldable pub bumped : ℕ → List ℕ → ℕ → List ℕ
@@ -56,39 +71,44 @@ abbrev pub placedBy : Nodes → List ℕ → Nodes
 placedBy x ks = nodes (x .kids) (each (bumped places) (x .facts) ks)
 
 -- a fresh node, named in the cell `at`
-unfoldable pub freshAt : Tables → ℕ → List ℕ → ℕ → ℕ → ℕ → ℕ → ℕ → Out
-freshAt t id ks v up h q at =
-    let s = freshSlot (t .arena) in
-    said 0 id (tablesOf (givenBy moreOf (t .arena) (W t)) (written (t .nodes) s ks (freshFacts id v up h q)) (set (t .find) at (s % 65536)))
+unfoldable pub freshAt : Tables → ℕ → List ℕ → ℕ → ℕ → ℕ → ℕ → ℕ → ℕ → ℕ → Out
+freshAt t id ks v up sum k h q at =
+    let s = freshIn t in
+    said 0 id (tablesOf (givenBy moreOf (t .arena)) (written (t .nodes) s ks (freshFacts id v up sum k h q)) (set (t .find) at (s % 65536)))
 
-unfoldable pub leafFresh : Tables → ℕ → ℕ → ℕ → ℕ → Out
-leafFresh t v h q at =
-    let s = freshSlot (t .arena) in
-    freshAt t (newLeaf (s % 2 ^ 32) (generationOf (W t s own))) empties v 0 h q at
+-- a fresh leaf: no children are written, since a free slot has none
+unfoldable pub leafFresh : Tables → ℕ → ℕ → ℕ → ℕ → ℕ → Out
+leafFresh t v k h q at =
+    let s = freshIn t in
+    let id = newLeaf (s % 2 ^ 32) (generationOf (W t s own)) in
+    said 0 id (tables (givenBy moreOf (t .arena)) (t .nodes .kids) (factsPut (t .nodes .facts) s (freshFacts id v 0 0 k h q)) (set (t .find) at (s % 65536)))
 
-unfoldable pub branchFresh : Tables → List ℕ → ℕ → ℕ → ℕ → ℕ → ℕ → Out
-branchFresh t ks v up h q at =
-    let s = freshSlot (t .arena) in
-    freshAt t (newBranch (s % 2 ^ 32) (generationOf (W t s own)) (kidTypes ks) (kidMask ks)) ks v up h q at
+unfoldable pub branchFresh : Tables → List ℕ → ℕ → ℕ → ℕ → ℕ → ℕ → ℕ → ℕ → Out
+branchFresh t ks v up sum k h q at =
+    let s = freshIn t in
+    freshAt t (newBranch (s % 2 ^ 32) (generationOf (W t s own)) (kidTypes ks) (kidMask ks)) ks v up sum k h q at
 
 -- ## Intern leaf
 
--- the cell where the search for a content ends
-abbrev pub cellFor : Tables → List ℕ → ℕ → ℕ
-cellFor t ks v = cellOf (t .find) (cap t) (W t) ks v
+-- the cells where the searches for a leaf and for a branch end
+abbrev pub leafFor : Tables → ℕ → ℕ
+leafFor t v = leafCell (t .find) (cap t) (W t) (leafHash v) v
+
+abbrev pub kidsFor : Tables → List ℕ → ℕ
+kidsFor t ks = kidsCell (t .find) (cap t) (W t) (kidsHash ks) ks
 
 unfoldable pub hitBy : Tables → ℕ → Out
 hitBy t s = pick (fullOf (W t) s) (refused 10 t) (said 0 (W t s own) (heldAt t s))
 
 unfoldable pub leafMissBy : Tables → ℕ → ℕ → Out
-leafMissBy t v at = pick (roomOf (t .arena)) (leafFresh t v 1 0 at) (refused 11 t)
+leafMissBy t v at = pick (roomOf (t .arena)) (leafFresh t v (leafHash v) 1 0 at) (refused 11 t)
 
 -- once the search has ended at the cell `at`, which names s
 unfoldable pub leafAt : Tables → ℕ → ℕ → ℕ → Out
 leafAt t v s at = pick (eqb s 0) (leafMissBy t v at) (hitBy t s)
 
 unfoldable pub leafBy : Tables → ℕ → Out
-leafBy t v = leafAt t v (getD (t .find) (cellFor t empties v) 0) (cellFor t empties v)
+leafBy t v = leafAt t v (getD (t .find) (leafFor t v) 0) (leafFor t v)
 
 unfoldable pub internLeafBy : Tables → ℕ → Out
 internLeafBy t v = pick (fits t) (pick (eqb v 0) (refused 6 t) (leafBy t v)) (refused 1 t)
@@ -103,45 +123,51 @@ unfoldable pub settled : Tables → ℕ → Tables
 settled t s = tablesOf (t .arena) (settledN (t .nodes) s) (t .find)
 
 unfoldable pub releaseBy : ℕ → Tables → ℕ → Tables
-releaseBy tallest t id = dropPlace (suc tallest) (settled t (slot id)) id
+releaseBy tallest t id = dropPlace goneBy (suc tallest) (settled t (slot id)) id
 
 unfoldable pub releaseAny : ℕ → Tables → ℕ → Out
 releaseAny tallest t id = pick (eqb (releaseNo t id) 0) (did 0 (pick (eqb id 0) t (releaseBy tallest t id))) (did (releaseNo t id) t)
 
 -- ## Intern branch
 
--- the sum of the stored values, as the code adds them
-unfoldable pub wrapSum : Words → List ℕ → ℕ → ℕ
-wrapSum W ks n = sumTo n (λ i. valueAt W (getD ks i 0) % 65536)
-
 -- the height of the tallest of the children
 unfoldable pub topFor : Words → List ℕ → ℕ → ℕ
 topFor W ks n = maxTo n (λ i. heightAt W (getD ks i 0))
 
--- the stored value, as the code works it out
-unfoldable pub valueBy : ℕ → Words → List ℕ → ℕ
-valueBy n W ks = wrapSum W ks n / n
+-- the sum, as the code keeps it
+unfoldable pub sumBy : ℕ → Words → List ℕ → ℕ
+sumBy n W ks = sumFor n W ks % 2 ^ 32
 
-unfoldable pub branchMissBy : Tables → List ℕ → ℕ → ℕ → ℕ → Out
-branchMissBy t ks v up at =
-    pick (roomOf (t .arena)) (branchFresh (tablesOf (t .arena) (unheld (placedBy (t .nodes) ks) ks) (t .find)) ks v up 1 0 at) (refused 11 t)
+-- the branch is not there, and may be made: a slot for it, or refusal 11
+unfoldable pub branchRoomBy : ℕ → Tables → List ℕ → ℕ → ℕ → Out
+branchRoomBy n t ks top at =
+    pick (roomOf (t .arena))
+    (branchFresh (tablesOf (t .arena) (unheld (placedBy (t .nodes) ks) ks) (t .find)) ks (valueFor n (W t) ks) (top + 1) (sumBy n (W t) ks) (kidsHash ks) 1 0 at)
+    (refused 11 t)
 
+-- refusals 4 and 5
+unfoldable pub kidsNo : ℕ → Words → List ℕ → ℕ
+kidsNo c W ks = pick (allLive c W ks) (pick (enough W ks) 0 5) 4
+
+-- it is not there: refusals 4, 5 and 8 first
+unfoldable pub branchLowBy : ℕ → ℕ → Tables → List ℕ → ℕ → Out
+branchLowBy n tallest t ks at = let top = topFor (W t) ks n in pick (ltb top tallest) (branchRoomBy n t ks top at) (refused 8 t)
+
+unfoldable pub branchMissBy : ℕ → ℕ → Tables → List ℕ → ℕ → Out
+branchMissBy n tallest t ks at = pick (eqb (kidsNo (cap t) (W t) ks) 0) (branchLowBy n tallest t ks at) (refused (kidsNo (cap t) (W t) ks) t)
+
+-- it is there, in slot s, so that its children live and it is no taller than allowed: refusals 5 and 10 are left
 unfoldable pub branchHitBy : Tables → List ℕ → ℕ → Out
-branchHitBy t ks s = pick (fullOf (W t) s) (refused 10 t) (hitBy (tablesOf (t .arena) (unheld (t .nodes) ks) (t .find)) s)
+branchHitBy t ks s =
+    pick (enough (W t) ks) (pick (fullOf (W t) s) (refused 10 t) (hitBy (tablesOf (t .arena) (unheld (t .nodes) ks) (t .find)) s)) (refused 5 t)
 
-unfoldable pub branchAt : Tables → List ℕ → ℕ → ℕ → ℕ → ℕ → Out
-branchAt t ks v up s at = pick (eqb s 0) (branchMissBy t ks v up at) (branchHitBy t ks s)
+-- once the search has ended at the cell `at`, which names s
+unfoldable pub branchAt : ℕ → ℕ → Tables → List ℕ → ℕ → ℕ → Out
+branchAt n tallest t ks s at = pick (eqb s 0) (branchMissBy n tallest t ks at) (branchHitBy t ks s)
 
-unfoldable pub branchBy : ℕ → Tables → List ℕ → ℕ → Out
-branchBy n t ks top =
-    let v = valueBy n (W t) ks in
-    branchAt t ks v (top + 1) (getD (t .find) (cellFor t ks v) 0) (cellFor t ks v)
+unfoldable pub branchBy : ℕ → ℕ → Tables → List ℕ → Out
+branchBy n tallest t ks = branchAt n tallest t ks (getD (t .find) (kidsFor t ks) 0) (kidsFor t ks)
 
-unfoldable pub kidsNo : Tables → List ℕ → ℕ
-kidsNo t ks = pick (fits t) (pick (allLive (cap t) (W t) ks) (pick (enough (W t) ks) (pick (noneOf ks) 7 0) 5) 4) 1
-
-unfoldable pub branchLow : ℕ → ℕ → Tables → List ℕ → Out
-branchLow n tallest t ks = let top = topFor (W t) ks n in pick (ltb top tallest) (branchBy n t ks top) (refused 8 t)
-
+-- of eight EMPTY ids neither 4 nor 5 can apply
 unfoldable pub internBranchBy : ℕ → ℕ → Tables → List ℕ → Out
-internBranchBy n tallest t ks = pick (eqb (kidsNo t ks) 0) (branchLow n tallest t ks) (refused (kidsNo t ks) t)
+internBranchBy n tallest t ks = pick (fits t) (pick (noneOf ks) (refused 7 t) (branchBy n tallest t ks)) (refused 1 t)

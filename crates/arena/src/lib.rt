@@ -11,11 +11,10 @@ use basics::SLOT_CELLS;
 use ids::BlockId;
 use nodes::FLOOR;
 use nodes::HOLDS;
-use nodes::OWN;
 use nodes::PLACES;
 use nodes::fact;
+use nodes::own;
 use nodes_write::put_fact;
-use std::num::wrapping_add_u64;
 ghost use mathlib.Core.Path.{_≡_};
 ghost use mathlib.Core.List.{List};
 ghost use Prim.Native.Nat.{ℕ, _-_};
@@ -23,30 +22,28 @@ ghost use Rattle.nodes.specs.Words.{holds as holdsWord, places as placesWord, f
 ghost use Rattle.arena.specs.Calls.{madeOf, each, fitOf, liveOf, liveOrEmpty, noneOf, thereNo};
 ghost use Rattle.arena.specs.Lent.{before};
 ghost use Rattle.arena.specs.Models.{moreOf, bumped, hitBy};
-ghost use Rattle.arena.specs.Tables.{tables};
+ghost use Rattle.arena.specs.Tables.{liveIn, nextIn, freedIn, stateOf, tables};
 
-// An arena's state: how many slots its tables have, the lowest never given out, the last one freed (0: none), how many live.
+// An arena's state: how many slots its tables have; and in one word the lowest slot never given out, in its low half, and how many are freed, in its high half.
 #[repr(C)]
 pub struct Arena {
     pub capacity: usize,
-    pub next: usize,
-    pub top: usize,
-    pub live: usize,
+    pub slots: u64,
 }
 
-// The answer of a call that makes a node: refusal number or 0, the node's id, the state afterwards.
+// The answer of a call that makes a node: refusal number or 0, the node's id, and `slots` of the state afterwards.
 #[repr(C)]
 pub struct Made {
     pub no: u32,
     pub id: BlockId,
-    pub arena: Arena,
+    pub slots: u64,
 }
 
 // The answer of a call that answers no id.
 #[repr(C)]
 pub struct Answer {
     pub no: u32,
-    pub arena: Arena,
+    pub slots: u64,
 }
 
 // The answer of `counts`.
@@ -57,18 +54,51 @@ pub struct Counted {
     pub places: u64,
 }
 
+// The lowest slot never given out.
+pub fn next_in(slots: u64) -> u32
+    ensures { λ r. ⌜ r ≡ nextIn slots ⌝ }
+{
+    (slots % 0x1_0000_0000) as u32
+}
+
+// How many slots are freed.
+pub fn freed_in(slots: u64) -> u32
+    ensures { λ r. ⌜ r ≡ freedIn slots ⌝ }
+{
+    (slots / 0x1_0000_0000) as u32
+}
+
+// Both in one word.
+pub fn slots_of(next: u32, freed: u32) -> u64
+    ensures { λ r. ⌜ (nextIn r ≡ next) × (freedIn r ≡ freed) ⌝ }
+{
+    next as u64 + 0x1_0000_0000 * freed as u64
+}
+
+// How many slots live.
+pub fn live(a: Arena) -> u64
+    ensures { λ r. ⌜ r ≡ liveIn (stateOf a) ⌝ }
+{
+    let next = next_in(a.slots) as u64;
+    let freed = freed_in(a.slots) as u64;
+    if freed < next {
+        return next - 1 - freed;
+    }
+    0
+}
+
 // One less; 0 stays 0.
-pub fn less(x: u64) -> u64
+pub fn less(x: u32) -> u32
     ensures { λ r. ⌜ r ≡ x - 1 ⌝ }
 {
     if x == 0 { 0 } else { x - 1 }
 }
 
-// One more, running over at 2^64. (No count comes near it.)
-pub fn more(x: u64) -> u64
+// One more, running over at 2^32. (No count comes near it.)
+pub fn more(x: u32) -> u32
     ensures { λ r. ⌜ r ≡ moreOf x ⌝ }
 {
-    wrapping_add_u64(x, 1)
+    ((x as u64 + 1) % 0x1_0000_0000) as u32
 }
 
 // The slot of an id: its index.
@@ -95,20 +125,20 @@ pub fn fit(capacity: usize, kids: usize, facts: usize, find: usize) -> bool
 }
 
 // Is the id that of a node now in the arena?
-pub fn is_live(capacity: usize, facts: &[u64], id: u64) -> bool
+pub fn is_live(capacity: usize, facts: &[u32], id: u64) -> bool
     ensures { λ r. ⌜ r ≡ liveOf capacity (factOf (now (facts .entry))) id ⌝ }
 {
     let s = slot_of(id);
     if s < capacity {
         if FLOOR <= id {
-            return fact(facts, s, OWN) == id;
+            return own(facts, s) == id;
         }
     }
     false
 }
 
 // Not refusal 4: EMPTY, or in all 64 bits the id of a node now in the arena.
-pub fn is_live_or_empty(capacity: usize, facts: &[u64], id: u64) -> bool
+pub fn is_live_or_empty(capacity: usize, facts: &[u32], id: u64) -> bool
     ensures { λ r. ⌜ r ≡ liveOrEmpty capacity (factOf (now (facts .entry))) id ⌝ }
 {
     if id == BlockId::EMPTY.0 {
@@ -132,7 +162,7 @@ pub fn all_empty(ids: Kids) -> bool
 }
 
 // Refusals 1 and 4 of a call that is handed an id: the tables are not sized, or the id is neither EMPTY nor live.
-pub fn there_no(a: Arena, kids: &[u64], facts: &[u64], find: &[u16], id: u64) -> u32
+pub fn there_no(a: Arena, kids: &[u64], facts: &[u32], find: &[u16], id: u64) -> u32
     ensures { λ r. ⌜ r ≡ thereNo (before a kids facts find) id ⌝ }
 {
     if fit(a.capacity, kids.len(), facts.len(), find.len()) {
@@ -145,7 +175,7 @@ pub fn there_no(a: Arena, kids: &[u64], facts: &[u64], find: &[u16], id: u64) ->
 }
 
 // A hold on the node in slot s becomes a place that is owed.
-pub fn settle(facts: &mut [u64], s: usize)
+pub fn settle(facts: &mut [u32], s: usize)
     ensures { λ _. ⌜ now (facts .exit) ≡ factPut (factPut (now (facts .entry)) s holdsWord (factOf (now (facts .entry)) s holdsWord - 1)) s placesWord (moreOf (factOf (now (facts .entry)) s placesWord)) ⌝ }
 {
     let h = fact(facts, s, HOLDS);
@@ -155,7 +185,7 @@ pub fn settle(facts: &mut [u64], s: usize)
 }
 
 // One more in the fact f of the node of id; EMPTY: nothing.
-pub fn bump(facts: &mut [u64], f: usize, id: u64)
+pub fn bump(facts: &mut [u32], f: usize, id: u64)
     ensures { λ _. ⌜ now (facts .exit) ≡ bumped f (now (facts .entry)) id ⌝ }
 {
     if id == BlockId::EMPTY.0 {
@@ -166,7 +196,7 @@ pub fn bump(facts: &mut [u64], f: usize, id: u64)
 }
 
 // One more in the fact f of the nodes of the eight ids, once for each.
-pub fn bump_all(facts: &mut [u64], f: usize, ids: Kids)
+pub fn bump_all(facts: &mut [u32], f: usize, ids: Kids)
     ensures { λ _. ⌜ now (facts .exit) ≡ each (bumped f) (now (facts .entry)) ids ⌝ }
 {
     let mut i: usize = 0;
@@ -177,22 +207,22 @@ pub fn bump_all(facts: &mut [u64], f: usize, ids: Kids)
 }
 
 // One hold more on the node in slot s, which is there already.
-pub fn hit(a: Arena, facts: &mut [u64], s: usize) -> Made
-    ensures { λ r. ⌜ ((k e : List ℕ) → madeOf r k (now (facts .exit)) e ≡ hitBy (tables a k (now (facts .entry)) e) s) ⌝ }
+pub fn hit(a: Arena, facts: &mut [u32], s: usize) -> Made
+    ensures { λ r. ⌜ ((k e : List ℕ) → madeOf (a .capacity) r k (now (facts .exit)) e ≡ hitBy (tables (stateOf a) k (now (facts .entry)) e) s) ⌝ }
 {
     let h = fact(facts, s, HOLDS);
     if MOST_HOLDS <= h {
         return Made {
             no: 10,
             id: BlockId::INVALID,
-            arena: a,
+            slots: a.slots,
         };
     }
-    let o = fact(facts, s, OWN);
+    let o = own(facts, s);
     put_fact(facts, s, HOLDS, h + 1);
     Made {
         no: 0,
         id: BlockId(o),
-        arena: a,
+        slots: a.slots,
     }
 }

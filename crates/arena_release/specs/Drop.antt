@@ -8,11 +8,6 @@ use Rattle.basics.specs.Pick.{pick}
 use Rattle.nodes.specs.Words.{places, factOf, factPut, slot}
 use Rattle.arena.specs.Models.{staysOf, goneBy, dropPlace}
 use Rattle.arena.specs.Tables.{Tables}
-use Rattle.arena.specs.declared.Arena.{Arena}
-
--- an arena's state
-abbrev pub arenaOf : ℕ → ℕ → ℕ → ℕ → Arena
-arenaOf c n top live = record { capacity = c; next = n; top = top; live = live }
 
 -- what `take_place_unless_last` answers, and the facts that it leaves
 pub record Took : Type 0 where
@@ -30,4 +25,4 @@ takeOf f id =
 
 -- slot s recycled, and its children dropped in turn, k levels down at most
 abbrev pub dropSlot : ℕ → Tables → ℕ → Tables
-dropSlot k t s = goneBy (dropPlace k) t s
+dropSlot k t s = goneBy (dropPlace goneBy k) t s

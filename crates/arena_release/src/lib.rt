@@ -1,45 +1,42 @@
 // Release: takes one hold, and recycles what has neither hold nor place. What it answers and leaves is in the crate arena's specs/Calls.antt.
 use arena::Answer;
 use arena::Arena;
-use arena::all_empty;
-use arena::less;
+use arena::freed_in;
+use arena::more;
+use arena::next_in;
 use arena::settle;
 use arena::slot_of;
+use arena::slots_of;
 use arena::there_no;
 use basics::KID_WORDS;
 use basics::Kids;
 use basics::LAST_GENERATION;
 use basics::NO_KIDS;
 use basics::TALLEST;
-use find_hash::home_for;
-use find_remove::remove_from;
+use find_remove::remove_slot;
 use ids::BlockId;
+use nodes::ENTRY;
+use nodes::HEIGHT;
 use nodes::HOLDS;
-use nodes::OWN;
 use nodes::PLACES;
-use nodes::VALUE;
 use nodes::children;
 use nodes::fact;
+use nodes::own;
+use nodes_write::put_children;
 use nodes_write::put_fact;
-use nodes_write::write_slot;
+use nodes_write::put_facts;
 ghost use mathlib.Core.Path.{_≡_};
-ghost use Prim.Native.Nat.{ℕ, _+_, _*_, _^_, _≤_};
+ghost use mathlib.Core.List.{List};
+ghost use Prim.Native.Nat.{ℕ, _+_, _*_, _%_, _^_, _≤_};
 ghost use Rattle.basics.specs.Limits.{deepest, kidWords};
 ghost use Rattle.ids.specs.Ids.{generationOf};
-ghost use Rattle.nodes.specs.Tally.{kidsOf};
-ghost use Rattle.nodes.specs.Words.{own as ownWord, nodes as nodesOf, factOf, kidOf, written};
-ghost use Rattle.arena.specs.Calls.{Fair, empties, deadFacts, recycled, each, releaseOf};
-ghost use Rattle.arena.specs.Models.{dropPlace, releaseBy, releaseAny};
+ghost use Rattle.nodes.specs.Words.{own as ownWord, entry as entryWord, factOf, factPut, factsPut};
+ghost use Rattle.arena.specs.Calls.{Fair, deadFacts, each, releaseOf};
+ghost use Rattle.arena.specs.Models.{goneBy, dropPlace, recycledBy, releaseBy, releaseAny};
 ghost use Rattle.arena.specs.Node.{nextGeneration};
-ghost use Rattle.arena.specs.Lent.{before, after, answered};
-ghost use Rattle.arena_release.specs.Drop.{arenaOf, took, takeOf, dropSlot};
-
-// An arena's state but for its capacity: three numbers go to a function in registers.
-struct Slots {
-    next: usize,
-    top: usize,
-    live: usize,
-}
+ghost use Rattle.arena.specs.Tables.{stateIn, tables};
+ghost use Rattle.arena.specs.Lent.{before, beforeIn, afterIn, answered};
+ghost use Rattle.arena_release.specs.Drop.{took, takeOf, dropSlot};
 
 // The own word of a recycled slot: the generation one higher, or 0 where that would reach 0x7FFE.
 fn next_own(o: u64) -> u64
@@ -52,39 +49,27 @@ fn next_own(o: u64) -> u64
     0
 }
 
-// Clears slot s, its generation one higher, linked to the one freed before it.
-fn clear_slot(kids: &mut [u64], facts: &mut [u64], s: usize, top: usize)
-    ensures { λ _. ⌜ nodesOf (now (kids .exit)) (now (facts .exit)) ≡ written (nodesOf (now (kids .entry)) (now (facts .entry))) s empties (deadFacts (factOf (now (facts .entry)) s ownWord) top) ⌝ }
+// Clears the facts of slot s, its generation one higher, and puts it on the stack of freed slots, which has `freed` of them.
+fn clear_slot(facts: &mut [u32], s: usize, freed: u32)
+    ensures { λ _. ⌜ now (facts .exit) ≡ factPut (factsPut (now (facts .entry)) s (deadFacts (factOf (now (facts .entry)) s ownWord) freed)) freed entryWord (s % 2 ^ 32) ⌝ }
 {
-    let o = next_own(fact(facts, s, OWN));
-    write_slot(kids, facts, s, NO_KIDS, [o, 0, 0, 0, 0, top as u64, 0]);
+    let o = next_own(own(facts, s));
+    put_facts(facts, s, o, 0, 0, 0, 0, 0, 0, freed);
+    put_fact(facts, freed as usize, ENTRY, (s % 0x1_0000_0000) as u32);
 }
 
-// Clears slot s, whose children are `below`, and puts it on top of the freed ones; the finding table no longer names it.
-fn recycle(
-    capacity: usize,
-    a: Slots,
-    kids: &mut [u64],
-    facts: &mut [u64],
-    find: &mut [u16],
-    s: usize,
-    below: Kids,
-) -> Slots
-    requires { ⌜ below ≡ kidsOf kidWords (kidOf (now kids)) s ⌝ }
-    ensures { λ r. ⌜ after (arenaOf capacity (r .next) (r .top) (r .live)) kids facts find ≡ recycled (before (arenaOf capacity (a .next) (a .top) (a .live)) kids facts find) s ⌝ }
+// Clears slot s but for its children and puts it on top of the freed ones; the finding table no longer names it. Answers `slots` then.
+fn recycle(capacity: usize, slots: u64, facts: &mut [u32], find: &mut [u16], s: usize) -> u64
+    ensures { λ r. ⌜ ((j : List ℕ) → tables (stateIn capacity r) j (now (facts .exit)) (now (find .exit)) ≡ recycledBy (tables (stateIn capacity slots) j (now (facts .entry)) (now (find .entry))) s) ⌝ }
 {
-    let from = home_for(capacity, below, fact(facts, s, VALUE));
-    remove_from(find, kids, facts, capacity, s, from);
-    clear_slot(kids, facts, s, a.top);
-    Slots {
-        next: a.next,
-        top: s,
-        live: less(a.live as u64) as usize,
-    }
+    let freed = freed_in(slots);
+    remove_slot(find, facts, capacity, s);
+    clear_slot(facts, s, freed);
+    slots_of(next_in(slots), more(freed))
 }
 
 // Takes one place from the node of `id`, unless that leaves it neither a hold nor a place: then the answer is true, and nothing is written. EMPTY: nothing.
-fn take_place_unless_last(facts: &mut [u64], id: u64) -> bool
+fn take_place_unless_last(facts: &mut [u32], id: u64) -> bool
     ensures { λ r. ⌜ took r (now (facts .exit)) ≡ takeOf (now (facts .entry)) id ⌝ }
 {
     if id == BlockId::EMPTY.0 {
@@ -103,103 +88,113 @@ fn take_place_unless_last(facts: &mut [u64], id: u64) -> bool
     false
 }
 
-// Recycles slot s, and drops its children in turn, `levels` levels down at most.
+// Recycles slot s, and drops its children in turn, `levels` levels down at most; a leaf, which has height 0, has none. Answers `slots` then.
 fn drop_slot(
     capacity: usize,
-    a: Slots,
+    slots: u64,
     kids: &mut [u64],
-    facts: &mut [u64],
+    facts: &mut [u32],
     find: &mut [u16],
     s: usize,
-    levels: u64,
-) -> Slots
-    ensures { λ r. ⌜ after (arenaOf capacity (r .next) (r .top) (r .live)) kids facts find ≡ dropSlot levels (before (arenaOf capacity (a .next) (a .top) (a .live)) kids facts find) s ⌝ }
+    levels: u32,
+) -> u64
+    ensures { λ r. ⌜ afterIn (stateIn capacity r) kids facts find ≡ dropSlot levels (beforeIn (stateIn capacity slots) kids facts find) s ⌝ }
 {
+    let up = fact(facts, s, HEIGHT);
+    let gone = recycle(capacity, slots, facts, find, s);
+    if up == 0 {
+        return gone;
+    }
     let below = children(kids, s);
-    let b = recycle(capacity, a, kids, facts, find, s, below);
-    if all_empty(below) {
-        return b;
-    }
+    put_children(kids, s, NO_KIDS);
     if levels == 0 {
-        return b;
+        return gone;
     }
-    drop_all(capacity, b, kids, facts, find, below, levels - 1)
+    drop_all(capacity, gone, kids, facts, find, below, levels - 1)
 }
 
 // Takes one place from each of the eight ids, and recycles what is left without any, with what is `levels` levels below it: each completely before the next.
 fn drop_all(
     capacity: usize,
-    a: Slots,
+    slots: u64,
     kids: &mut [u64],
-    facts: &mut [u64],
+    facts: &mut [u32],
     find: &mut [u16],
     ids: Kids,
-    levels: u64,
-) -> Slots
-    ensures { λ r. ⌜ after (arenaOf capacity (r .next) (r .top) (r .live)) kids facts find ≡ each (dropPlace (levels + 1)) (before (arenaOf capacity (a .next) (a .top) (a .live)) kids facts find) ids ⌝ }
+    levels: u32,
+) -> u64
+    ensures { λ r. ⌜ afterIn (stateIn capacity r) kids facts find ≡ each (dropPlace goneBy (levels + 1)) (beforeIn (stateIn capacity slots) kids facts find) ids ⌝ }
 {
-    let mut b = a;
+    let mut gone = slots;
     let mut i: usize = 0;
     while i < KID_WORDS {
         let id = ids[i];
         i += 1;
         if take_place_unless_last(facts, id) {
-            b = drop_slot(capacity, b, kids, facts, find, slot_of(id), levels);
+            gone = drop_slot(capacity, gone, kids, facts, find, slot_of(id), levels);
         }
     }
-    b
+    gone
 }
 
-// Takes one hold from the node of `id`. No node is taller than TALLEST.
-fn take_hold(a: Arena, kids: &mut [u64], facts: &mut [u64], find: &mut [u16], id: u64) -> Arena
-    ensures { λ r. ⌜ after r kids facts find ≡ releaseBy deepest (before a kids facts find) id ⌝ }
+// Takes one hold from the node of `id`. No node is taller than TALLEST. Answers `slots` then.
+fn take_hold(
+    capacity: usize,
+    slots: u64,
+    kids: &mut [u64],
+    facts: &mut [u32],
+    find: &mut [u16],
+    id: u64,
+) -> u64
+    ensures { λ r. ⌜ afterIn (stateIn capacity r) kids facts find ≡ releaseBy deepest (beforeIn (stateIn capacity slots) kids facts find) id ⌝ }
 {
     let s = slot_of(id);
     settle(facts, s);
     if take_place_unless_last(facts, id) {
-        let slots = Slots {
-            next: a.next,
-            top: a.top,
-            live: a.live,
-        };
-        let b = drop_slot(a.capacity, slots, kids, facts, find, s, TALLEST);
-        return Arena {
-            capacity: a.capacity,
-            next: b.next,
-            top: b.top,
-            live: b.live,
-        };
+        return drop_slot(capacity, slots, kids, facts, find, s, TALLEST);
     }
-    a
+    slots
 }
 
 // Release on any tables. Refusals 1, 4 and 5; EMPTY: nothing.
-fn release_any(a: Arena, kids: &mut [u64], facts: &mut [u64], find: &mut [u16], id: u64) -> Answer
-    ensures { λ r. ⌜ answered r kids facts find ≡ releaseAny deepest (before a kids facts find) id ⌝ }
+fn release_any(a: Arena, kids: &mut [u64], facts: &mut [u32], find: &mut [u16], id: u64) -> Answer
+    ensures { λ r. ⌜ answered a r kids facts find ≡ releaseAny deepest (before a kids facts find) id ⌝ }
 {
     let no = there_no(a, kids, facts, find, id);
     if no != 0 {
-        return Answer { no: no, arena: a };
+        return Answer {
+            no: no,
+            slots: a.slots,
+        };
     }
     if id == BlockId::EMPTY.0 {
-        return Answer { no: 0, arena: a };
+        return Answer {
+            no: 0,
+            slots: a.slots,
+        };
     }
     if fact(facts, slot_of(id), HOLDS) == 0 {
-        return Answer { no: 5, arena: a };
+        return Answer {
+            no: 5,
+            slots: a.slots,
+        };
     }
-    let b = take_hold(a, kids, facts, find, id);
-    Answer { no: 0, arena: b }
+    let slots = take_hold(a.capacity, a.slots, kids, facts, find, id);
+    Answer {
+        no: 0,
+        slots: slots,
+    }
 }
 
 // Release: takes one hold. A node with both counts 0 is recycled, and then its children are released, each completely before the next.
 pub fn release(
     arena: Arena,
     kids: &mut [u64],
-    facts: &mut [u64],
+    facts: &mut [u32],
     find: &mut [u16],
     id: BlockId,
 ) -> Answer
-    ensures { λ r. ⌜ ((n tallest : ℕ) → n ≤ kidWords → tallest ≤ deepest → Fair n tallest (before arena kids facts find) → answered r kids facts find ≡ releaseOf tallest (before arena kids facts find) (id .0)) ⌝ }
+    ensures { λ r. ⌜ ((n tallest : ℕ) → n ≤ kidWords → tallest ≤ deepest → Fair n tallest (before arena kids facts find) → answered arena r kids facts find ≡ releaseOf tallest (before arena kids facts find) (id .0)) ⌝ }
 {
     release_any(arena, kids, facts, find, id.0)
 }

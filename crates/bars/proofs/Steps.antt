@@ -14,7 +14,7 @@ use Rattle.basics.specs.Limits.{deepest, cubeKids, kidWords}
 use Rattle.paths.specs.declared.IVec3.{IVec3}
 use Rattle.paths.specs.Paths.{place}
 use Rattle.nodes.proofs.Sums.{cases}
-use Rattle.arena.specs.Tables.{Tables, tables}
+use Rattle.arena.specs.Tables.{stateIn, stateOf, Tables, tables}
 use Rattle.arena.specs.Calls.{Out, said, refused, Fair, madeOf, answeredOf, releaseOf}
 use Rattle.arena.specs.declared.Arena.{Arena}
 use Rattle.arena.specs.declared.Made.{Made}
@@ -109,13 +109,13 @@ next-fair t r d p v h f = release-fair (omega arith) r (edit-fair r d p v (omega
 
 -- the edit, and the release
 pub next-law : (a : Arena) (k f e : List ℕ) (root d : ℕ) (p : IVec3) (v : ℕ) → v < 65536 → (m : Made) (k₁ f₁ e₁ : List ℕ)
-    → (Fair cubeKids deepest (tables a k f e) → madeOf m k₁ f₁ e₁ ≡ editOf (tables a k f e) root d p v) → (r : Answer) (k₂ f₂ e₂ : List ℕ)
-    → ((n tallest : ℕ) → n ≤ kidWords → tallest ≤ deepest → Fair n tallest (tables (m .arena) k₁ f₁ e₁) → answeredOf r k₂ f₂ e₂ ≡ releaseOf tallest (tables (m .arena) k₁ f₁ e₁) root)
-    → Fair cubeKids deepest (tables a k f e) → said (m .no) (m .id .0) (tables (r .arena) k₂ f₂ e₂) ≡ nextOf (tables a k f e) root d p v
+    → (Fair cubeKids deepest (tables (stateOf a) k f e) → madeOf (a .capacity) m k₁ f₁ e₁ ≡ editOf (tables (stateOf a) k f e) root d p v) → (r : Answer) (k₂ f₂ e₂ : List ℕ)
+    → ((n tallest : ℕ) → n ≤ kidWords → tallest ≤ deepest → Fair n tallest (tables (stateIn (a .capacity) (m .slots)) k₁ f₁ e₁) → answeredOf (a .capacity) r k₂ f₂ e₂ ≡ releaseOf tallest (tables (stateIn (a .capacity) (m .slots)) k₁ f₁ e₁) root)
+    → Fair cubeKids deepest (tables (stateOf a) k f e) → said (m .no) (m .id .0) (tables (stateIn (a .capacity) (r .slots)) k₂ f₂ e₂) ≡ nextOf (tables (stateOf a) k f e) root d p v
 unfolding nextOf
 next-law a k f e root d p v small m k₁ f₁ e₁ edited r k₂ f₂ e₂ released fair =
     let q = edited fair in
-    let fair₁ : Fair cubeKids deepest (tables (m .arena) k₁ f₁ e₁) =
+    let fair₁ : Fair cubeKids deepest (tables (stateIn (a .capacity) (m .slots)) k₁ f₁ e₁) =
     subst (λ (o : Out). Fair cubeKids deepest (o .after)) (sym q) (edit-fair root d p v (omega arith) fair) in
     ap (λ (o : Out). said (m .no) (m .id .0) (o .after)) (released cubeKids deepest (omega arith) (omega arith) fair₁)
     ∙ ap (λ (o : Out). said (o .no) (o .id) (releaseOf deepest (o .after) root .after)) q
@@ -132,14 +132,14 @@ module _ (d y z v x more : ℕ) where
       let b : more - 0 ≡ more = omega arith in
       (fair, ap (λ (n : ℕ). onOf d y z v first n (more - 0)) a ∙ ap (λ (n : ℕ). onOf d y z v first x n) b)
 
-  pub left-again : (first : Out) (i : ℕ) (l : Made) (k f e : List ℕ) → Left d y z v x more first (madeOf l k f e) i → i < more → l .no ≡ 0 → v < 65536
+  pub left-again : (first : Out) (i c : ℕ) (l : Made) (k f e : List ℕ) → Left d y z v x more first (madeOf c l k f e) i → i < more → l .no ≡ 0 → v < 65536
       → (p : IVec3) → p ≡ place (x + i) y z → (m : Made) (k₁ f₁ e₁ : List ℕ)
-      → (Fair cubeKids deepest (tables (l .arena) k f e) → madeOf m k₁ f₁ e₁ ≡ nextOf (tables (l .arena) k f e) (l .id .0) d p v)
-      → Left d y z v x more first (madeOf m k₁ f₁ e₁) (i + 1)
-  left-again first i l k f e left on ok small p at m k₁ f₁ e₁ next fair =
+      → (Fair cubeKids deepest (tables (stateIn c (l .slots)) k f e) → madeOf c m k₁ f₁ e₁ ≡ nextOf (tables (stateIn c (l .slots)) k f e) (l .id .0) d p v)
+      → Left d y z v x more first (madeOf c m k₁ f₁ e₁) (i + 1)
+  left-again first i c l k f e left on ok small p at m k₁ f₁ e₁ next fair =
       let (now, same) = left fair in
-      let t = tables (l .arena) k f e in
-      let q : madeOf m k₁ f₁ e₁ ≡ nextOf t (l .id .0) d (place (x + i) y z) v = next now ∙ ap (λ (c : IVec3). nextOf t (l .id .0) d c v) at in
+      let t = tables (stateIn c (l .slots)) k f e in
+      let q : madeOf c m k₁ f₁ e₁ ≡ nextOf t (l .id .0) d (place (x + i) y z) v = next now ∙ ap (λ (b : IVec3). nextOf t (l .id .0) d b v) at in
       let a : x + (i + 1) ≡ suc (x + i) = omega arith in
       let b : suc (more - (i + 1)) ≡ more - i = omega arith in (
         subst (λ (o : Out). Fair cubeKids deepest (o .after)) (sym q) (next-fair t (l .id .0) d (place (x + i) y z) v small now),
@@ -147,7 +147,7 @@ module _ (d y z v x more : ℕ) where
             ∙ ap (λ (n : ℕ). onOf d y z v (nextOf t (l .id .0) d (place (x + i) y z) v) n (more - (i + 1))) a
             ∙ on-next d y z v t (l .id .0) (x + i) (more - (i + 1))
             ∙ ap (λ (n : ℕ). passOf d y z v t (l .id .0) (x + i) n) b
-            ∙ sym (on-yes d y z v (madeOf l k f e) (x + i) (more - i) ok) ∙ same,
+            ∙ sym (on-yes d y z v (madeOf c l k f e) (x + i) (more - i) ok) ∙ same,
       )
 
   module _ (first : Out) (i : ℕ) (o : Out) (left : Left d y z v x more first o i) where
@@ -163,12 +163,12 @@ module _ (d y z v x more : ℕ) where
 
 -- the first edit, and what follows it
 pub bar-law : (a : Arena) (k f e : List ℕ) (root d y z x more v : ℕ) → v < 65536 → (p : IVec3) → p ≡ place x y z → (m : Made) (k₁ f₁ e₁ : List ℕ)
-    → (Fair cubeKids deepest (tables a k f e) → madeOf m k₁ f₁ e₁ ≡ editOf (tables a k f e) root d p v) → (o : Out)
-    → (Fair cubeKids deepest (tables (m .arena) k₁ f₁ e₁) → o ≡ onOf d y z v (madeOf m k₁ f₁ e₁) (x + 1) more)
-    → Fair cubeKids deepest (tables a k f e) → o ≡ barOf (tables a k f e) root d y z x more v
+    → (Fair cubeKids deepest (tables (stateOf a) k f e) → madeOf (a .capacity) m k₁ f₁ e₁ ≡ editOf (tables (stateOf a) k f e) root d p v) → (o : Out)
+    → (Fair cubeKids deepest (tables (stateIn (a .capacity) (m .slots)) k₁ f₁ e₁) → o ≡ onOf d y z v (madeOf (a .capacity) m k₁ f₁ e₁) (x + 1) more)
+    → Fair cubeKids deepest (tables (stateOf a) k f e) → o ≡ barOf (tables (stateOf a) k f e) root d y z x more v
 bar-law a k f e root d y z x more v small p at m k₁ f₁ e₁ edited o on fair =
-    let t = tables a k f e in
-    let q : madeOf m k₁ f₁ e₁ ≡ editOf t root d (place x y z) v = edited fair ∙ ap (λ (c : IVec3). editOf t root d c v) at in
+    let t = tables (stateOf a) k f e in
+    let q : madeOf (a .capacity) m k₁ f₁ e₁ ≡ editOf t root d (place x y z) v = edited fair ∙ ap (λ (c : IVec3). editOf t root d c v) at in
     let s : x + 1 ≡ suc x = omega arith in
     on (subst (λ (i : Out). Fair cubeKids deepest (i .after)) (sym q) (edit-fair root d (place x y z) v (omega arith) fair))
     ∙ ap (λ (i : Out). onOf d y z v i (x + 1) more) q ∙ ap (λ (n : ℕ). onOf d y z v (editAt d y z v t root x) n more) s

@@ -9,7 +9,8 @@ ghost use Prim.Native.Nat.{_+_, _^_, _<_};
 ghost use Rattle.basics.specs.Limits.{deepest, cubeKids};
 ghost use Rattle.paths.specs.Paths.{place};
 ghost use Rattle.arena.specs.Calls.{Fair, madeOf};
-ghost use Rattle.arena.specs.Lent.{before, made};
+ghost use Rattle.arena.specs.Lent.{before, beforeIn, made};
+ghost use Rattle.arena.specs.Tables.{stateIn};
 ghost use Rattle.bars.specs.Bars.{barOf};
 ghost use Rattle.bars.specs.Models.{nextOf, onOf};
 
@@ -29,7 +30,7 @@ fn cell(x: u32, y: u16, z: u16) -> IVec3
 fn next(
     a: Arena,
     kids: &mut [u64],
-    facts: &mut [u64],
+    facts: &mut [u32],
     find: &mut [u16],
     root: BlockId,
     depth: u32,
@@ -37,25 +38,28 @@ fn next(
     value: u16,
 ) -> Made
     ensures { λ r. ⌜ (Fair cubeKids deepest (before a kids facts find)
-        → made r kids facts find ≡ nextOf (before a kids facts find) (root .0) depth position value) ⌝ }
+        → made a r kids facts find ≡ nextOf (before a kids facts find) (root .0) depth position value) ⌝ }
 {
     let answer = edit::set_voxel(a, kids, facts, find, root, depth, position, value);
-    let edited = answer.arena;
+    let edited = Arena {
+        capacity: a.capacity,
+        slots: answer.slots,
+    };
     let released = arena_release::release(edited, kids, facts, find, root);
-    let arena = released.arena;
     let id = answer.id;
     Made {
         no: answer.no,
         id: id,
-        arena: arena,
+        slots: released.slots,
     }
 }
 
-// From an answer on: while it is accepted, the `more` cells from x on, each passing root released after the next is made.
+// From an answer on, in an arena of so many slots: while it is accepted, the `more` cells from x on, each passing root released after the next is made.
 fn onward(
+    capacity: usize,
     first: Made,
     kids: &mut [u64],
-    facts: &mut [u64],
+    facts: &mut [u32],
     find: &mut [u16],
     depth: u32,
     y: u16,
@@ -65,8 +69,8 @@ fn onward(
     value: u16,
 ) -> Made
     requires { ⌜ x + more < 2 ^ 31 ⌝ }
-    ensures { λ r. ⌜ (Fair cubeKids deepest (before (first .arena) kids facts find)
-        → made r kids facts find ≡ onOf depth y z value (madeOf first (now (kids .entry)) (now (facts .entry)) (now (find .entry))) x more) ⌝ }
+    ensures { λ r. ⌜ (Fair cubeKids deepest (beforeIn (stateIn capacity (first .slots)) kids facts find)
+        → madeOf capacity r (now (kids .exit)) (now (facts .exit)) (now (find .exit)) ≡ onOf depth y z value (madeOf capacity first (now (kids .entry)) (now (facts .entry)) (now (find .entry))) x more) ⌝ }
 {
     let mut last = first;
     let mut i: u32 = 0;
@@ -75,7 +79,10 @@ fn onward(
             return last;
         }
         let passing = last.id;
-        let state = last.arena;
+        let state = Arena {
+            capacity: capacity,
+            slots: last.slots,
+        };
         let position = cell(x + i, y, z);
         let made = next(state, kids, facts, find, passing, depth, position, value);
         last = made;
@@ -89,7 +96,7 @@ fn onward(
 pub fn set_bar(
     arena: Arena,
     kids: &mut [u64],
-    facts: &mut [u64],
+    facts: &mut [u32],
     find: &mut [u16],
     root: BlockId,
     depth: u32,
@@ -100,11 +107,12 @@ pub fn set_bar(
     value: u16,
 ) -> Made
     ensures { λ r. ⌜ (Fair cubeKids deepest (before arena kids facts find)
-        → made r kids facts find ≡ barOf (before arena kids facts find) (root .0) depth y z x more value) ⌝ }
+        → made arena r kids facts find ≡ barOf (before arena kids facts find) (root .0) depth y z x more value) ⌝ }
 {
     let position = cell(x as u32, y, z);
     let first = edit::set_voxel(arena, kids, facts, find, root, depth, position, value);
     onward(
+        arena.capacity,
         first,
         kids,
         facts,

@@ -22,10 +22,14 @@ abbrev pub kidWords : ℕ
 kidWords = 8
 
 abbrev pub factWords : ℕ
-factWords = 7
+factWords = 11
 
 abbrev pub slotCells : ℕ
-slotCells = 3
+slotCells = 5
+
+-- of a slot's cells in find so many are homes, cells where a search can begin
+abbrev pub slotHomes : ℕ
+slotHomes = 4
 
 -- the capacity of an arena
 abbrev pub leastSlots : ℕ

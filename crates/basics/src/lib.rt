@@ -5,7 +5,7 @@
 pub const DEEPEST: u32 = 6;
 
 // The same of a height, which is a word of a slot.
-pub const TALLEST: u64 = 6;
+pub const TALLEST: u32 = 6;
 
 // The deepest cube that is expanded.
 pub const DEEPEST_CUBE: u32 = 6;
@@ -19,9 +19,12 @@ pub const CUBE_KIDS: usize = 8;
 // The words of a slot in the tables `kids` and `facts`, and its cells in the table `find`.
 pub const KID_WORDS: usize = 8;
 
-pub const FACT_WORDS: usize = 7;
+pub const FACT_WORDS: usize = 11;
 
-pub const SLOT_CELLS: usize = 3;
+pub const SLOT_CELLS: usize = 5;
+
+// Of a slot's cells in `find` so many are homes, cells where a search can begin.
+pub const SLOT_HOMES: usize = 4;
 
 // The children of a node: as many words as its slot has in `kids`.
 pub type Kids = [u64; KID_WORDS];
@@ -35,10 +38,10 @@ pub const LEAST_SLOTS: usize = 2;
 pub const MOST_SLOTS: usize = 65536;
 
 // Values are 0 to this.
-pub const LARGEST_VALUE: u64 = 65535;
+pub const LARGEST_VALUE: u32 = 65535;
 
 // Callers' holds on one node.
-pub const MOST_HOLDS: u64 = 1000000;
+pub const MOST_HOLDS: u32 = 1000000;
 
 // The generation after which a slot's next is 0.
 pub const LAST_GENERATION: u16 = 0x7FFD;

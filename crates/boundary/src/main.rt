@@ -2,7 +2,7 @@
 // that were answered.
 //
 // Every case begins with a fresh arena of 8 slots, of which 7 can be given out: as many as the path of one cell at depth 6 has nodes. Its tables have
-// 1,008 bytes.
+// 944 bytes.
 use arena::Arena;
 use arena::Made;
 use ids::BlockId;
@@ -13,9 +13,9 @@ const SLOTS: usize = 8;
 
 const KIDS: usize = 64;
 
-const FACTS: usize = 56;
+const FACTS: usize = 88;
 
-const CELLS: usize = 24;
+const CELLS: usize = 40;
 
 const DEPTH: u32 = 6;
 
@@ -74,9 +74,17 @@ fn cell(x: i32) -> IVec3 {
     IVec3 { x: x, y: 0, z: 0 }
 }
 
-fn fresh(kids: &mut [u64], facts: &mut [u64], find: &mut [u16]) -> Arena {
+// The arena after a call that answered `slots`.
+fn after(slots: u64) -> Arena {
+    Arena {
+        capacity: SLOTS,
+        slots: slots,
+    }
+}
+
+fn fresh(kids: &mut [u64], facts: &mut [u32], find: &mut [u16]) -> Arena {
     let answer = arena_hold::fresh(SLOTS, kids, facts, find);
-    answer.arena
+    after(answer.slots)
 }
 
 // Edits a cell of the x axis at depth 6.
@@ -84,7 +92,7 @@ fn edit_cell(
     asked: &[u8],
     a: Arena,
     kids: &mut [u64],
-    facts: &mut [u64],
+    facts: &mut [u32],
     find: &mut [u16],
     root: BlockId,
     x: i32,
@@ -96,7 +104,7 @@ fn edit_cell(
 }
 
 // Looks a cell of the x axis up at depth 6.
-fn look(asked: &[u8], a: Arena, kids: &[u64], facts: &[u64], find: &[u16], root: BlockId, x: i32) {
+fn look(asked: &[u8], a: Arena, kids: &[u64], facts: &[u32], find: &[u16], root: BlockId, x: i32) {
     let looked = read_cell::get_at_depth(a, kids, facts, find, root, DEPTH, cell(x));
     say_refusal(asked, looked.no);
     say(b" ");
@@ -108,7 +116,7 @@ fn intern(
     asked: &[u8],
     a: Arena,
     kids: &mut [u64],
-    facts: &mut [u64],
+    facts: &mut [u32],
     find: &mut [u16],
     value: u16,
 ) -> Made {
@@ -117,7 +125,7 @@ fn intern(
     made
 }
 
-fn count(asked: &[u8], a: Arena, kids: &[u64], facts: &[u64], find: &[u16], id: BlockId) {
+fn count(asked: &[u8], a: Arena, kids: &[u64], facts: &[u32], find: &[u16], id: BlockId) {
     let counted = arena_hold::counts(a, kids, facts, find, id);
     say_refusal(asked, counted.no);
     say(b" holds ");
@@ -129,22 +137,22 @@ fn count(asked: &[u8], a: Arena, kids: &[u64], facts: &[u64], find: &[u16], id: 
 
 // ---- depth 6, cell 63 against 64
 
-fn looks(a: Arena, kids: &[u64], facts: &[u64], find: &[u16], root: BlockId) {
+fn looks(a: Arena, kids: &[u64], facts: &[u32], find: &[u16], root: BlockId) {
     look(b"lookup cell 63", a, kids, facts, find, root, 63);
     look(b"lookup cell 64", a, kids, facts, find, root, 64);
 }
 
-fn cells(a: Arena, kids: &mut [u64], facts: &mut [u64], find: &mut [u16]) {
+fn cells(a: Arena, kids: &mut [u64], facts: &mut [u32], find: &mut [u16]) {
     let made = edit_cell(b"edit cell 63", a, kids, facts, find, BlockId::EMPTY, 63, 7);
     let root = made.id;
-    let b = made.arena;
+    let b = after(made.slots);
     looks(b, kids, facts, find, root);
     edit_cell(b"edit cell 64", b, kids, facts, find, root, 64, 7);
 }
 
 // ---- a full arena, on a hit and on a miss
 
-fn full(a: Arena, kids: &mut [u64], facts: &mut [u64], find: &mut [u16]) {
+fn full(a: Arena, kids: &mut [u64], facts: &mut [u32], find: &mut [u16]) {
     let made = edit_cell(
         b"edit that fills the arena",
         a,
@@ -158,11 +166,11 @@ fn full(a: Arena, kids: &mut [u64], facts: &mut [u64], find: &mut [u16]) {
     full_edits(made, kids, facts, find);
 }
 
-fn full_edits(made: Made, kids: &mut [u64], facts: &mut [u64], find: &mut [u16]) {
+fn full_edits(made: Made, kids: &mut [u64], facts: &mut [u32], find: &mut [u16]) {
     let root = made.id;
     let hit = edit_cell(
         b"full, edit to what is there",
-        made.arena,
+        after(made.slots),
         kids,
         facts,
         find,
@@ -173,11 +181,11 @@ fn full_edits(made: Made, kids: &mut [u64], facts: &mut [u64], find: &mut [u16])
     full_miss(hit, kids, facts, find);
 }
 
-fn full_miss(made: Made, kids: &mut [u64], facts: &mut [u64], find: &mut [u16]) {
+fn full_miss(made: Made, kids: &mut [u64], facts: &mut [u32], find: &mut [u16]) {
     let root = made.id;
     let miss = edit_cell(
         b"full, edit to what is not",
-        made.arena,
+        after(made.slots),
         kids,
         facts,
         find,
@@ -185,25 +193,32 @@ fn full_miss(made: Made, kids: &mut [u64], facts: &mut [u64], find: &mut [u16]) 
         0,
         6,
     );
-    full_leaves(miss.arena, kids, facts, find);
+    full_leaves(after(miss.slots), kids, facts, find);
 }
 
-fn full_leaves(a: Arena, kids: &mut [u64], facts: &mut [u64], find: &mut [u16]) {
+fn full_leaves(a: Arena, kids: &mut [u64], facts: &mut [u32], find: &mut [u16]) {
     let hit = intern(b"full, leaf that is there", a, kids, facts, find, 5);
-    intern(b"full, leaf that is not", hit.arena, kids, facts, find, 6);
+    intern(
+        b"full, leaf that is not",
+        after(hit.slots),
+        kids,
+        facts,
+        find,
+        6,
+    );
 }
 
 // ---- generation 0x7FFD against its successor
 
 // Interns a leaf and releases it: its slot is recycled.
-fn recycle_once(a: Arena, kids: &mut [u64], facts: &mut [u64], find: &mut [u16]) -> Arena {
+fn recycle_once(a: Arena, kids: &mut [u64], facts: &mut [u32], find: &mut [u16]) -> Arena {
     let made = arena_leaf::intern_leaf(a, kids, facts, find, 5);
     let id = made.id;
-    let released = arena_release::release(made.arena, kids, facts, find, id);
-    released.arena
+    let released = arena_release::release(after(made.slots), kids, facts, find, id);
+    after(released.slots)
 }
 
-fn recycle(a: Arena, kids: &mut [u64], facts: &mut [u64], find: &mut [u16], times: u32) -> Arena {
+fn recycle(a: Arena, kids: &mut [u64], facts: &mut [u32], find: &mut [u16], times: u32) -> Arena {
     let mut state = a;
     let mut i: u32 = 0;
     while i < times {
@@ -214,28 +229,33 @@ fn recycle(a: Arena, kids: &mut [u64], facts: &mut [u64], find: &mut [u16], time
     state
 }
 
-fn generations(a: Arena, kids: &mut [u64], facts: &mut [u64], find: &mut [u16]) {
+fn generations(a: Arena, kids: &mut [u64], facts: &mut [u32], find: &mut [u16]) {
     let b = recycle(a, kids, facts, find, 0x7FFD);
     last_generation(b, kids, facts, find);
 }
 
-fn last_generation(a: Arena, kids: &mut [u64], facts: &mut [u64], find: &mut [u16]) {
+fn last_generation(a: Arena, kids: &mut [u64], facts: &mut [u32], find: &mut [u16]) {
     let last = intern(b"leaf after 32765 recyclings", a, kids, facts, find, 5);
     next_generation(last, kids, facts, find);
 }
 
-fn next_generation(last: Made, kids: &mut [u64], facts: &mut [u64], find: &mut [u16]) {
+fn next_generation(last: Made, kids: &mut [u64], facts: &mut [u32], find: &mut [u16]) {
     let id = last.id;
-    let released = arena_release::release(last.arena, kids, facts, find, id);
+    let released = arena_release::release(after(last.slots), kids, facts, find, id);
     say_answer(b"release it", released.no);
-    let first = intern(b"leaf after one more", released.arena, kids, facts, find, 5);
+    leaf_after(after(released.slots), kids, facts, find, id);
+}
+
+// The leaf once more, in the slot of the id that is gone.
+fn leaf_after(a: Arena, kids: &mut [u64], facts: &mut [u32], find: &mut [u16], gone: BlockId) {
+    let first = intern(b"leaf after one more", a, kids, facts, find, 5);
     count(
         b"counts of the id before",
-        first.arena,
+        after(first.slots),
         kids,
         facts,
         find,
-        id,
+        gone,
     );
 }
 
@@ -251,7 +271,7 @@ fn packings() {
 fn hold_times(
     a: Arena,
     kids: &[u64],
-    facts: &mut [u64],
+    facts: &mut [u32],
     find: &[u16],
     id: BlockId,
     times: u32,
@@ -266,37 +286,37 @@ fn hold_times(
     no
 }
 
-fn holds(a: Arena, kids: &mut [u64], facts: &mut [u64], find: &mut [u16]) {
+fn holds(a: Arena, kids: &mut [u64], facts: &mut [u32], find: &mut [u16]) {
     let leaf = intern(b"leaf, hold 1", a, kids, facts, find, 5);
     most_holds(leaf, kids, facts, find);
 }
 
-fn most_holds(leaf: Made, kids: &mut [u64], facts: &mut [u64], find: &mut [u16]) {
+fn most_holds(leaf: Made, kids: &mut [u64], facts: &mut [u32], find: &mut [u16]) {
     let id = leaf.id;
-    let a = leaf.arena;
+    let a = after(leaf.slots);
     let no = hold_times(a, kids, facts, find, id, 999999);
     say_answer(b"hold 1000000", no);
     count(b"counts", a, kids, facts, find, id);
     one_more(a, kids, facts, find, id);
 }
 
-fn one_more(a: Arena, kids: &mut [u64], facts: &mut [u64], find: &mut [u16], id: BlockId) {
+fn one_more(a: Arena, kids: &mut [u64], facts: &mut [u32], find: &mut [u16], id: BlockId) {
     let no = hold_times(a, kids, facts, find, id, 1);
     say_answer(b"hold 1000001", no);
     leaf_again(a, kids, facts, find, id);
 }
 
-fn leaf_again(a: Arena, kids: &mut [u64], facts: &mut [u64], find: &mut [u16], id: BlockId) {
+fn leaf_again(a: Arena, kids: &mut [u64], facts: &mut [u32], find: &mut [u16], id: BlockId) {
     let again = intern(b"the leaf again", a, kids, facts, find, 5);
-    let b = again.arena;
+    let b = after(again.slots);
     count(b"counts", b, kids, facts, find, id);
     back_and_again(b, kids, facts, find, id);
 }
 
 // One given back, and one more again.
-fn back_and_again(a: Arena, kids: &mut [u64], facts: &mut [u64], find: &mut [u16], id: BlockId) {
+fn back_and_again(a: Arena, kids: &mut [u64], facts: &mut [u32], find: &mut [u16], id: BlockId) {
     let released = arena_release::release(a, kids, facts, find, id);
-    let b = released.arena;
+    let b = after(released.slots);
     say_answer(b"release", released.no);
     let no = hold_times(b, kids, facts, find, id, 1);
     say_answer(b"hold", no);
@@ -305,7 +325,7 @@ fn back_and_again(a: Arena, kids: &mut [u64], facts: &mut [u64], find: &mut [u16
 
 fn main() {
     let mut kids = [0u64; KIDS];
-    let mut facts = [0u64; FACTS];
+    let mut facts = [0u32; FACTS];
     let mut find = [0u16; CELLS];
     let a = fresh(&mut kids, &mut facts, &mut find);
     cells(a, &mut kids, &mut facts, &mut find);

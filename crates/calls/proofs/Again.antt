@@ -14,7 +14,7 @@ use Rattle.nodes.proofs.Counts.{kids-same, live-nonzero, occ-bare}
 use Rattle.nodes.proofs.Freeing.{live-zero}
 use Rattle.nodes.proofs.Sums.{cases, sumTo-pos}
 use Rattle.arena.specs.Calls.{empties, internLeafOf, releaseOf, freshOf, fitOf}
-use Rattle.arena.specs.Tables.{Tables, cap, W, WellFormed}
+use Rattle.arena.specs.Tables.{liveIn, Tables, cap, W, WellFormed}
 use Rattle.arena.proofs.Holding.{fresh-well}
 use Rattle.arena.proofs.Rows.{empties-at}
 use Rattle.ledger.specs.Ledger.{on, ifAccepted, holdsOn}
@@ -27,6 +27,7 @@ use Rattle.ledger.proofs.Found.{kid-word, slot-lives, not-ground}
 use Rattle.ledger.proofs.Generations.{ended-none, ended-one}
 use Rattle.ledger.proofs.Going.{leaf-makes-one, release-makes-none}
 use Rattle.ledger.proofs.Refusals.{leaf-refusals}
+use Rattle.ledger.proofs.Stack.{live-counted}
 use Rattle.calls.specs.Does.{Does, Stepping, Since, now, then}
 use Rattle.calls.proofs.Arena.{leaf-does, release-does}
 use Rattle.calls.proofs.Compose.{since-does}
@@ -37,11 +38,11 @@ use Rattle.calls.proofs.Living.{held-released}
 abbrev Bare : Tables → Type 0
 Bare t = (y : ℕ) → Lives t y → ⊥
 
-bare-count : {n tallest : ℕ} {t : Tables} → n ≤ kidWords → WellFormed n tallest t → Bare t → t .arena .live ≡ 0
+bare-count : {n tallest : ℕ} {t : Tables} → n ≤ kidWords → WellFormed n tallest t → Bare t → liveIn (t .arena) ≡ 0
 unfolding liveCount
-bare-count {t = t} m w none = cases (decLt 0 (t .arena .live))
+bare-count {t = t} m w none = cases (decLt 0 (liveIn (t .arena)))
     (λ h.
-    let e = w .lives in
+    let e = live-counted w in
     let p = sumTo-pos (cap t) (λ s. liveBit (W t s own)) (omega arith) in
     let q = p .2 in
     absurd (cases (decLt (W t (p .0) own) floor)

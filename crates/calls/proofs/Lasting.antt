@@ -7,23 +7,28 @@ use native.Mathlib.Decide.{ℕ-discrete, decLt}
 use native.Mathlib.Omega.{arith}
 use borrow.Author.Tests.{eq-eqb, ne-eqb}
 use Rattle.basics.specs.Limits.{kidWords}
+use Rattle.ids.specs.Ids.{isLeaf}
 use Rattle.nodes.specs.Tally.{Live, tally, liveBit, liveCount}
 use Rattle.nodes.specs.Values.{valueAt, heightAt}
-use Rattle.nodes.specs.Words.{own, value, height, holds, places, slot, floor}
-use Rattle.nodes.proofs.Counts.{live-nonzero, tally-same}
+use Rattle.nodes.specs.Words.{own, value, height, sum, spare, hash, holds, places, slot, floor}
+use Rattle.nodes.proofs.Counts.{kids-same, live-nonzero, tally-same}
 use Rattle.nodes.proofs.Freeing.{live-zero}
 use Rattle.nodes.proofs.Sums.{cases, split, sumTo-ext}
 use Rattle.tree.specs.Tree.{Below, Extends}
 use Rattle.tree.proofs.Canon.{live}
 use Rattle.tree.proofs.Grow.{below-live, below-earlier, extends-keeps}
+use Rattle.find.specs.Content.{hashFor}
 use Rattle.arena.specs.Calls.{liveOf, countsOf}
-use Rattle.arena.specs.Tables.{Tables, cap, W, LiveSlot, WellFormed}
+use Rattle.arena.specs.Tables.{liveIn, Tables, cap, W, LiveSlot, WellFormed}
 use Rattle.arena.proofs.Fits.{live-is, sized-fits}
+use Rattle.arena.proofs.Ids.{node-leaf, node-branch, value-zero}
 use Rattle.arena.proofs.Inv.{wf-counts}
+use Rattle.arena.proofs.Searched.{hash-kept}
 use Rattle.ledger.specs.Ledger.{holdsOn}
 use Rattle.ledger.specs.Fates.{Lives, Grew}
 use Rattle.ledger.proofs.Effects.{live-true, by-life, holds-live, holds-dead}
 use Rattle.ledger.proofs.Found.{lives-slot, slot-own, slot-lives}
+use Rattle.ledger.proofs.Stack.{live-counted}
 use Rattle.read_cell.proofs.Meaning.{wf-made}
 use Rattle.calls.specs.Does.{Does}
 use Rattle.calls.specs.Living.{SameLife}
@@ -33,6 +38,26 @@ use Rattle.calls.proofs.Living.{lives-below}
 -- child words from n on are EMPTY
 beyond : {n tallest : ℕ} {t : Tables} → WellFormed n tallest t → (y : ℕ) → Lives t y → (i : ℕ) → n ≤ i → i < kidWords → W t (slot y) i ≡ 0
 beyond {t = t} w y l i p q = ⊎-elim (λ f. f .bare i q) (λ f. f .beyond i p q) (w .nodes (slot y) (lives-slot t y l) .kind)
+
+-- the sum and the hash that a node keeps follow from its content
+module _ {n tallest : ℕ} (m : n ≤ kidWords) {t u : Tables} (wt : WellFormed n tallest t) (wu : WellFormed n tallest u) (s : ℕ) (lt : LiveSlot t s) (lu : LiveSlot u s)
+    (self : W u s own ≡ W t s own) (kid : (i : ℕ) → i < kidWords → W u s i ≡ W t s i) where
+  same-sum : ((y : ℕ) → Lives t y → valueAt (W u) y ≡ valueAt (W t) y) → W u s sum ≡ W t s sum
+  same-sum worth = split (isLeaf (W t s own))
+      (λ f.
+      node-leaf m (lu .0) (wu .sized .most) (wu .nodes s lu) (ap isLeaf self ∙ f) .summed
+      ∙ sym (node-leaf m (lt .0) (wt .sized .most) (wt .nodes s lt) f .summed))
+      (λ f.
+      let b = node-branch m (lt .0) (wt .sized .most) (wt .nodes s lt) f in
+      node-branch m (lu .0) (wu .sized .most) (wu .nodes s lu) (ap isLeaf self ∙ f) .summed
+      ∙ sumTo-ext n (λ i. valueAt (W u) (W u s i)) (λ i. valueAt (W t) (W t s i)) (λ i h. ap (valueAt (W u)) (kid i (omega arith)) ∙ cases (ℕ-discrete (W t s i) 0)
+      (λ z. ap (valueAt (W u)) z ∙ value-zero (W u) ∙ sym (ap (valueAt (W t)) z ∙ value-zero (W t)))
+      (λ z. worth (W t s i) (b .children i h z)))
+      ∙ sym (b .summed))
+
+  same-hash : W u s value ≡ W t s value → W u s hash ≡ W t s hash
+  unfolding hashFor
+  same-hash worth = hash-kept m wu s lu ∙ rw (self, worth, kids-same kidWords (W t) (W u) s kid) (sym (hash-kept m wt s lt))
 
 -- Where every node stays as it is, each has all its words but the counts.
 pub extends-grew : {n tallest : ℕ} → n ≤ kidWords → {t u : Tables} → WellFormed n tallest t → WellFormed n tallest u → cap u ≡ cap t → Extends n (cap t) (W t) (W u)
@@ -56,9 +81,17 @@ extends-grew {n} m {t} {u} wt wu e x = record { size = e; stays = λ y l. (later
         (λ q. kid y l f q)
         (λ q. cases (ℕ-discrete f own)
         (λ p. rw p (s .still .is ∙ sym (l .is)))
-        (λ p. cases (ℕ-discrete f value)
+        (λ v. cases (ℕ-discrete f value)
         (λ p. rw p (sym (rw z at (s .value))))
-        (λ o. let p : f ≡ height = omega arith in rw p (sym (rw z at (s .height))))))
+        (λ r. cases (ℕ-discrete f height)
+        (λ p. rw p (sym (rw z at (s .height))))
+        (λ j. cases (ℕ-discrete f sum)
+        (λ p. rw p (same-sum m wt wu (slot y) (lives-slot t y l) (lives-slot u y (later y l)) (s .still .is ∙ sym (l .is)) (kid y l) (λ a v. sym (x a v .value))))
+        (λ k. cases (ℕ-discrete f spare)
+        (λ p. rw p (wu .spared (slot y) (later y l .low) ∙ sym (wt .spared (slot y) (l .low))))
+        (λ o.
+        let p : f ≡ hash = omega arith in
+        rw p (same-hash m wt wu (slot y) (lives-slot t y l) (lives-slot u y (later y l)) (s .still .is ∙ sym (l .is)) (kid y l) (sym (rw z at (s .value))))))))))
 
 -- ## No hold is taken
 
@@ -121,11 +154,11 @@ module _ {n tallest : ℕ} (m : n ≤ kidWords) {t u : Tables} (wt : WellFormed 
       let z : tally kidWords (cap u) (W u) y ≡ tally kidWords (cap t) (W u) y = ap (λ (c : ℕ). tally kidWords c (W u) y) (g .size) in
       a ∙ z ∙ tally-same kidWords (cap t) (W t) (W u) y (λ s i h j. row s h .1 i j) ∙ sym c
 
-  same-count : u .arena .live ≡ t .arena .live
+  same-count : liveIn (u .arena) ≡ liveIn (t .arena)
   unfolding liveCount
   same-count =
       let z : liveCount (cap u) (W u) ≡ liveCount (cap t) (W u) = ap (λ (c : ℕ). liveCount c (W u)) (g .size) in
-      wu .lives ∙ z ∙ sumTo-ext (cap t) (λ s. liveBit (W u s own)) (λ s. liveBit (W t s own)) (λ s l. row s l .0) ∙ sym (wt .lives)
+      live-counted wu ∙ z ∙ sumTo-ext (cap t) (λ s. liveBit (W u s own)) (λ s. liveBit (W t s own)) (λ s l. row s l .0) ∙ sym (live-counted wt)
 
   same-words : ((y : ℕ) → holdsOn u y ≡ holdsOn t y) → (y : ℕ) → Lives t y → (f : ℕ) → f ≤ places → W u (slot y) f ≡ W t (slot y) f
   same-words same y l f k = cases (decLt f holds)

@@ -1,7 +1,7 @@
 -- Where one node alone is held, what lives is that node and what stands below it, and the arena's number of live nodes is theirs.
 use mathlib.Core.Path.{_≡_, refl, sym, ap, _∙_, subst}
 use mathlib.Core.Logic.{_≢_, inr, ⊎-elim, _↔_}
-use mathlib.Core.Bool.{true, true≢false}
+use mathlib.Core.Bool.{true≢false}
 use mathlib.Core.List.{List, [], _∷_, List·Memᴰ, List·Memᴰ·head, List·Memᴰ·tail, List·Memᴰ·cases-cons, List·Memᴰ·not-nil}
 use Prim.Native.Nat.{ℕ, zero, suc, _≤_, _<_}
 use native.Mathlib.Decide.{ℕ-discrete, decLt}
@@ -23,7 +23,7 @@ use Rattle.tree.specs.Lacks.{Once}
 use Rattle.tree.proofs.Canon.{live}
 use Rattle.tree.proofs.Grow.{below-live}
 use Rattle.arena.specs.Calls.{Out, releaseOf}
-use Rattle.arena.specs.Tables.{Tables, cap, W, WellFormed}
+use Rattle.arena.specs.Tables.{liveIn, Tables, cap, W, WellFormed}
 use Rattle.arena.proofs.Fits.{sized-fits}
 use Rattle.ledger.specs.Ledger.{holdsOn}
 use Rattle.ledger.specs.Fates.{Lives}
@@ -31,6 +31,7 @@ use Rattle.ledger.proofs.Effects.{live-true, holds-live, on-same, on-diff}
 use Rattle.ledger.proofs.Found.{lives-slot, slot-own, slot-lives}
 use Rattle.ledger.proofs.Going.{lives-exactly}
 use Rattle.ledger.proofs.Ladders.{release-ways}
+use Rattle.ledger.proofs.Stack.{live-counted}
 use Rattle.read_cell.proofs.Meaning.{wf-made, branch-below, generation-small}
 use Rattle.calls.specs.Does.{Held}
 use Rattle.calls.specs.Living.{HeldAlone, NodeOf, NodesOf}
@@ -154,10 +155,10 @@ module _ {n tallest : ℕ} (m : n ≤ kidWords) {t : Tables} (w : WellFormed n t
     )
 
     -- .. and the arena's number of live nodes is their number.
-    pub alone-counted : NodesOf n t a (t .arena .live)
+    pub alone-counted : NodesOf n t a (liveIn (t .arena))
     alone-counted = record {
       nodes = idsTo (W t) (cap t);
-      many = ids-many (W t) (cap t) ∙ sym (w .lives);
+      many = ids-many (W t) (cap t) ∙ sym (live-counted w);
       these = λ y. (
         (λ q. let (s, low, high, e) = ids-from (W t) (cap t) y q in alone-lives y .0 (subst (λ (x : ℕ). Lives t x) (sym e) (slot-lives m w s (low, high)))),
         (λ q. let l = alone-lives y .1 q in let s = lives-slot t y l in ids-have (W t) (cap t) y (slot y, s .0, s .1, sym (l .is))),

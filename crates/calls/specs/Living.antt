@@ -7,7 +7,7 @@ use lib.ListN.{length}
 use Rattle.nodes.specs.Words.{places, slot}
 use Rattle.tree.specs.Tree.{EMPTY, Below}
 use Rattle.tree.specs.Lacks.{Once}
-use Rattle.arena.specs.Tables.{Tables, cap, W}
+use Rattle.arena.specs.Tables.{liveIn, Tables, cap, W}
 use Rattle.ledger.specs.Ledger.{on, holdsOn}
 use Rattle.ledger.specs.Fates.{Lives}
 
@@ -26,10 +26,10 @@ pub record NodesOf (n : ℕ) (t : Tables) (a k : ℕ) : Type 0 where
   pub these : (y : ℕ) → List·Memᴰ y nodes ↔ NodeOf n t a y
   pub once : Once nodes
 
--- Live nodes and counts in u are as in t. The same ids live, as many, each with the eight children, the stored value, the height, the holds and the places that
--- it had. What else the tables have may differ: generations of dead slots, the freed slots and their order, the highest slot given out, the finding table.
+-- Live nodes and counts in u are as in t. The same ids live, as many, each with the eight children, the stored value, the height, the sum, the hash, the holds and
+-- the places that it had. What else the tables have may differ: generations of dead slots, the freed slots and their order, the highest slot given out, the finding table.
 pub record SameLife (t u : Tables) : Type 0 where
   pub size : cap u ≡ cap t
   pub lives : (y : ℕ) → Lives t y ↔ Lives u y
   pub words : (y : ℕ) → Lives t y → (f : ℕ) → f ≤ places → W u (slot y) f ≡ W t (slot y) f
-  pub count : u .arena .live ≡ t .arena .live
+  pub count : liveIn (u .arena) ≡ liveIn (t .arena)

@@ -11,7 +11,7 @@ use ids::BlockId;
 pub extern "C" fn fenpiling_compare(
     arena: Arena,
     kids: &[u64],
-    facts: &[u64],
+    facts: &[u32],
     find: &[u16],
     left: u64,
     right: u64,

@@ -19,7 +19,7 @@ use read_cell::Looked;
 pub extern "C" fn fenpiling_check(
     arena: Arena,
     kids: &[u64],
-    facts: &mut [u64],
+    facts: &mut [u32],
     find: &[u16],
 ) -> bool
     ensures { λ r. ⌜ ((r ≡ true) ↔ WellFormed cubeKids deepest (before arena kids facts find)) × (now (facts .exit) ≡ now (facts .entry)) ⌝ }
@@ -31,7 +31,7 @@ pub extern "C" fn fenpiling_check(
 pub extern "C" fn fenpiling_get_at_depth(
     arena: Arena,
     kids: &[u64],
-    facts: &[u64],
+    facts: &[u32],
     find: &[u16],
     id: u64,
     depth: u32,
@@ -46,7 +46,7 @@ pub extern "C" fn fenpiling_get_at_depth(
 pub extern "C" fn fenpiling_to_vec(
     arena: Arena,
     kids: &[u64],
-    facts: &[u64],
+    facts: &[u32],
     find: &[u16],
     id: u64,
     depth: u32,
@@ -61,14 +61,14 @@ pub extern "C" fn fenpiling_to_vec(
 pub extern "C" fn fenpiling_set_voxel(
     arena: Arena,
     kids: &mut [u64],
-    facts: &mut [u64],
+    facts: &mut [u32],
     find: &mut [u16],
     root: u64,
     depth: u32,
     position: IVec3,
     value: u16,
 ) -> Made
-    ensures { λ r. ⌜ (Fair cubeKids deepest (before arena kids facts find) → made r kids facts find ≡ editOf (before arena kids facts find) root depth position value) ⌝ }
+    ensures { λ r. ⌜ (Fair cubeKids deepest (before arena kids facts find) → made arena r kids facts find ≡ editOf (before arena kids facts find) root depth position value) ⌝ }
 {
     edit::set_voxel(
         arena,

@@ -23,7 +23,7 @@ pub extern "C" fn fenpiling_parse_reading(bytes: &[u8]) -> ReadingFields
 pub extern "C" fn fenpiling_enter_reading(
     arena: Arena,
     kids: &mut [u64],
-    facts: &mut [u64],
+    facts: &mut [u32],
     find: &mut [u16],
     root: u64,
     depth: u32,
@@ -31,7 +31,7 @@ pub extern "C" fn fenpiling_enter_reading(
     bytes: &[u8],
 ) -> Made
     ensures { λ r. ⌜ (Fair cubeKids deepest (before arena kids facts find)
-        → made r kids facts find ≡ enterOf (before arena kids facts find) root depth k (now (bytes .entry))) ⌝ }
+        → made arena r kids facts find ≡ enterOf (before arena kids facts find) root depth k (now (bytes .entry))) ⌝ }
 {
     readings::enter_reading(arena, kids, facts, find, BlockId(root), depth, k, bytes)
 }

@@ -8,13 +8,12 @@ use native.Mathlib.Decide.{decLt}
 use native.Mathlib.Omega.{arith}
 use borrow.Author.Tests.{not-false}
 use Rattle.basics.specs.Limits.{deepest, cubeKids}
-use Rattle.nodes.specs.Words.{Words, own, link, nodes, kidOf, wordOf, slot, floor}
+use Rattle.nodes.specs.Words.{Words, own, mark, nodes, kidOf, wordOf, slot, floor}
 use Rattle.nodes.specs.Tally.{occ, kidsOf, Live}
 use Rattle.nodes.proofs.Access.{word-kid}
 use Rattle.nodes.proofs.Counts.{occ-kid}
 use Rattle.nodes.proofs.Sums.{cases}
-use Rattle.arena.specs.declared.Arena.{Arena}
-use Rattle.arena.specs.Tables.{Tables, tables, WellFormed}
+use Rattle.arena.specs.Tables.{State, Tables, tables, WellFormed}
 use Rattle.arena.proofs.Fits.{fits-sized, sized-fits}
 use Rattle.arena.proofs.Ids.{node-slot, node-child}
 use Rattle.check_freed.specs.Models.{allIn}
@@ -27,7 +26,7 @@ use Rattle.check_arena.specs.Models.{rangedBy, soundBy, checkBy}
 use Rattle.check_arena.proofs.Slots.{slots-tell}
 use Rattle.check_arena.proofs.Checking.{Sound, Tallied, well-sound, sound-well}
 
-module _ (a : Arena) (k f e : List ℕ) where
+module _ (a : State) (k f e : List ℕ) where
   abbrev t : Tables
   t = tables a k f e
 
@@ -46,16 +45,15 @@ module _ (a : Arena) (k f e : List ℕ) where
         some = r .1 .0 .0;
         fits = r .1 .0 .1;
         slots = r .1 .1 .0;
-        lives = r .1 .1 .1 .0 .0;
-        room = r .1 .1 .1 .0 .1 .0;
-        walk = r .1 .1 .1 .0 .1 .1;
+        count = r .1 .1 .1 .0 .0;
+        entries = r .1 .1 .1 .0 .1;
         seated = r .1 .1 .1 .1 .0;
         found = r .1 .1 .1 .1 .1;
       })
-      (λ w. (w .sized, ((w .some, w .fits), (w .slots, ((w .lives, (w .room, w .walk)), (w .seated, w .found))))))
+      (λ w. (w .sized, ((w .some, w .fits), (w .slots, ((w .count, w .entries), (w .seated, w .found))))))
       (tells-and (fits-sized t, sized-fits)
       (λ z. tells-and (tells-and (tells-le 1 (a .next)) (λ l. tells-le (a .next) c))
-      (λ l. tells-and (slots-tell k f c (a .next) (z .most)) (λ g. tells-and (state-tells a k f) (λ s. find-tells a k f e)))))
+      (λ l. tells-and (slots-tell k f c (a .next) (z .most)) (λ g. tells-and (state-tells a k f) (λ s. find-tells c k f e)))))
 
   -- ---- what the tally wants
 
@@ -71,7 +69,7 @@ module _ (a : Arena) (k f e : List ℕ) where
         let q : X b (r .0) ≡ y = word-kid (nodes k f) b (r .0) (r .1) ∙ r .2 in
         subst (λ (z : ℕ). Live c X z) q (good-kid b (r .0) l (r .1) (λ z. d (sym q ∙ z)))
 
-    plain : (s : ℕ) → s < c → floor ≤ X s own → (X s link ≡ 0) × (slot (X s own) ≡ s)
+    plain : (s : ℕ) → s < c → floor ≤ X s own → (X s mark ≡ 0) × (slot (X s own) ≡ s)
     plain s l h = let g = w .slots s l in (g .plain h, node-slot (omega arith) l (w .sized .most) (g .node h))
 
     sound-kept : clearTo (countTo k f c) c ≡ f
@@ -85,7 +83,7 @@ module _ (a : Arena) (k f e : List ℕ) where
   pub check-tells : Tells (checkBy a k f e) (WellFormed cubeKids deepest t)
   unfolding checkBy
   check-tells =
-      tells-map (λ r. sound-well (r .0) (r .1)) (λ v. (well-sound v, (λ s l h. v .tallied s (l, h)))) (tells-and sound-tells tally-tells)
+      tells-map (λ r. sound-well (omega arith) (r .0) (r .1)) (λ v. (well-sound (omega arith) v, (λ s l h. v .tallied s (l, h)))) (tells-and sound-tells tally-tells)
 
   -- ---- as the code meets it
 

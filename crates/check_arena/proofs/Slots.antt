@@ -1,7 +1,6 @@
 -- One slot: what the code tests is what the rules say.
 use mathlib.Core.Path.{_≡_, sym, ap, _∙_}
 use mathlib.Core.Logic.{_≢_, _⊎_, inl, inr, ⊎-elim}
-use mathlib.Core.Bool.{true}
 use mathlib.Core.List.{List}
 use Prim.Native.Nat.{ℕ, suc, _+_, _-_, _/_, _%_, _^_, _≤_, _<_}
 use native.Mathlib.Decide.{ℕ-discrete, decLt}
@@ -10,27 +9,27 @@ use lib.Dec.{eqb, leb}
 use lib.ListN.{getD}
 use Rattle.basics.specs.Limits.{deepest, cubeKids}
 use Rattle.basics.specs.Pick.{pick}
-use Rattle.basics.specs.Sums.{average}
+use Rattle.basics.specs.Sums.{sumTo, average}
 use Rattle.ids.specs.Ids.{generationOf}
-use Rattle.nodes.specs.Words.{Words, own, value, height, holds, places, link, spare, nodes, kidOf, factOf, wordOf, slot, floor}
+use Rattle.nodes.specs.Words.{Words, own, value, height, sum, spare, hash, holds, places, mark, nodes, kidOf, factOf, wordOf, slot, floor}
 use Rattle.nodes.specs.Tally.{kidsOf, Live}
 use Rattle.nodes.specs.Values.{valueAt, heightAt, maxTo}
 use Rattle.nodes.proofs.Access.{word-fact, kids-word}
 use Rattle.nodes.proofs.Sums.{cases, split, sumTo-ext}
+use Rattle.find_hash.specs.Hash.{leafHash, kidsHash}
 use Rattle.arena.specs.Calls.{noneOf, liveOf, liveOrEmpty, allLive}
-use Rattle.arena.specs.Models.{valueBy, topFor}
-use Rattle.arena.specs.Node.{leafId, branchId, LeafNode, BranchNode, Node}
+use Rattle.arena.specs.Models.{topFor}
+use Rattle.arena.specs.Node.{leafId, branchId, sumFor, valueFor, LeafNode, BranchNode, Node}
 use Rattle.arena.specs.Tables.{Cleared}
 use Rattle.arena.proofs.Branches.{some-kid}
-use Rattle.arena.proofs.Fresh.{sum-wraps}
-use Rattle.arena.proofs.Ids.{new-leaf, new-branch, value-node, value-zero, max-ext}
-use Rattle.new_value.proofs.Facts.{sum-facts, top-facts}
+use Rattle.arena.proofs.Ids.{new-leaf, new-branch, max-ext}
+use Rattle.new_value.proofs.Facts.{sum-facts, value-facts, top-facts}
 use Rattle.check_freed.specs.Models.{allIn}
 use Rattle.check_freed.proofs.Ladders.{Tells, tells-eq, tells-le, tells-lt, tells-map, tells-and, tells-if, tells-else, tells-not}
 use Rattle.check_freed.proofs.Passes.{tells-tab, tells-all}
 use Rattle.find.proofs.Searched.{kids-at, kids-length}
 use Rattle.check_freed.proofs.Freed.{given-tells}
-use Rattle.check_arena.specs.Models.{factZero, blankAt, restsAt, deadFine, countsFine, leafNamed, leafFine, branchNamed, tallAt, branchFine, kindFine, liveFine, plainAt, slotFine}
+use Rattle.check_arena.specs.Models.{factZero, blankAt, restsAt, deadFine, countsFine, leafNamed, keptAt, leafFine, branchNamed, tallAt, branchFine, kindFine, liveFine, plainAt, slotFine}
 
 -- ---- the children
 
@@ -60,20 +59,16 @@ module _ (c : ℕ) (W : Words) (s : ℕ) where
       tells-map (λ q i l. q i (omega arith) (omega arith)) (λ q i a l. q i (omega arith))
       (tells-tab (liveOrEmpty c W) (λ i. W s i ≢ 0 → Live c W (W s i)) (W s) 8 0 (λ i a l. tells-else (tells-eq (W s i) 0) (λ n. live-tells (W s i))))
 
-  -- the sum that the code works out, of children whose values are in range
-  value-kids : ((i : ℕ) → i < 8 → W s i ≢ 0 → W (slot (W s i)) value ≤ 65535)
-      → valueBy cubeKids W (kidsOf 8 W s) ≡ average cubeKids (λ i. valueAt W (W s i))
-  unfolding valueBy
-  value-kids h =
-      ap (λ (x : ℕ). x / cubeKids)
-      (sum-wraps W (kidsOf 8 W s) cubeKids (λ i l. rw (sym (kids-at W s i (omega arith))) (small i (omega arith)))
-      ∙ sumTo-ext cubeKids (λ i. valueAt W (getD (kidsOf 8 W s) i 0)) (λ i. valueAt W (W s i))
-      (λ i l. ap (valueAt W) (sym (kids-at W s i (omega arith)))))
-    where
-      small : (i : ℕ) → i < 8 → valueAt W (W s i) ≤ 65535
-      small i l = cases (ℕ-discrete (W s i) 0)
-          (λ (z : W s i ≡ 0). rw z (omega (arith, value-zero W)))
-          (λ z. let q = h i l z in omega (arith, value-node W (W s i) z))
+  -- what the code works out of the list of the children
+  sum-kids : sumFor cubeKids W (kidsOf 8 W s) ≡ sumTo cubeKids (λ i. valueAt W (W s i))
+  unfolding sumFor
+  sum-kids =
+      sumTo-ext cubeKids (λ i. valueAt W (getD (kidsOf 8 W s) i 0)) (λ i. valueAt W (W s i))
+      (λ i l. ap (valueAt W) (sym (kids-at W s i (omega arith))))
+
+  value-kids : valueFor cubeKids W (kidsOf 8 W s) ≡ average cubeKids (λ i. valueAt W (W s i))
+  unfolding valueFor sumFor
+  value-kids = ap (λ (x : ℕ). x / cubeKids) sum-kids
 
   top-kids : topFor W (kidsOf 8 W s) cubeKids ≡ maxTo cubeKids (λ i. heightAt W (W s i))
   unfolding topFor
@@ -104,9 +99,15 @@ module _ (k f : List ℕ) (s : ℕ) where
     unfolding branchNamed wordOf
     branch-named ks = let e : s % 2 ^ 32 ≡ s = omega arith in rw (e, new-branch ks s gen (omega arith)) (tells-eq (U s own) (branchId ks s gen))
 
-    leaf-tells : Tells (leafFine f s) ((U s own ≡ leafId s gen) × ((U s value ≢ 0) × (U s height ≡ 0)))
+    kept-tells : (total h : ℕ) → Tells (keptAt f total h s) ((U s sum ≡ total) × (U s hash ≡ h))
+    unfolding keptAt wordOf
+    kept-tells total h = tells-and (tells-eq (U s sum) total) (λ e. tells-eq (U s hash) h)
+
+    leaf-tells : Tells (leafFine f s)
+        ((U s own ≡ leafId s gen) × ((U s value ≢ 0) × ((U s height ≡ 0) × ((U s sum ≡ 0) × (U s hash ≡ leafHash (U s value))))))
     unfolding leafFine wordOf
-    leaf-tells = tells-and leaf-named (λ e. tells-not (tells-eq (U s value) 0) (tells-eq (U s height) 0))
+    leaf-tells =
+        tells-and leaf-named (λ e. tells-not (tells-eq (U s value) 0) (tells-and (tells-eq (U s height) 0) (λ h. kept-tells 0 (leafHash (U s value)))))
 
     tall-tells : (top : ℕ) → Tells (tallAt f top s) ((U s height ≡ suc top) × (U s height ≤ deepest))
     unfolding tallAt wordOf
@@ -114,28 +115,36 @@ module _ (k f : List ℕ) (s : ℕ) where
         tells-map (λ r. let d = r .0 in cases (ℕ-discrete (U s height) 0) (λ z. absurd (d z)) (λ z. omega arith)) (λ r. ((λ z. omega arith), (r .1, omega arith)))
         (tells-not (tells-eq (U s height) 0) (tells-and (tells-le (U s height) deepest) (λ l. tells-eq (U s height - 1) top)))
 
-    module _ (c : ℕ) (values : (i : ℕ) → i < 8 → Live c U (U s i) → U (slot (U s i)) value ≤ 65535) where
+    module _ (c : ℕ) where
       abbrev Parts : Type 0
       Parts =
           (U s own ≡ branchId (kidsOf 8 U s) s gen)
           × (((i : ℕ) → i < 8 → U s i ≢ 0 → Live c U (U s i))
-          × ((U s value ≡ average cubeKids (λ i. valueAt U (U s i))) × ((U s height ≡ suc (maxTo cubeKids (λ i. heightAt U (U s i)))) × (U s height ≤ deepest))))
+          × ((U s value ≡ average cubeKids (λ i. valueAt U (U s i)))
+          × (((U s sum ≡ sumTo cubeKids (λ i. valueAt U (U s i))) × (U s hash ≡ kidsHash (kidsOf 8 U s)))
+          × ((U s height ≡ suc (maxTo cubeKids (λ i. heightAt U (U s i)))) × (U s height ≤ deepest)))))
 
       each-tells : Tells (allLive c (factOf f) (kidsOf 8 U s)) ((i : ℕ) → i < 8 → U s i ≢ 0 → Live c U (U s i))
       unfolding liveOrEmpty liveOf wordOf
       each-tells = kids-tell c U s
 
-      value-tells : ((i : ℕ) → i < 8 → U s i ≢ 0 → Live c U (U s i)) → Tells (eqb (factOf f s value) (valueBy cubeKids (factOf f) (kidsOf 8 U s))) (U s value ≡ average cubeKids (λ i. valueAt U (U s i)))
-      value-tells l =
-          rw (sum-facts k f (kidsOf 8 U s), value-kids c U s (λ i m d. values i m (l i m d)), sym (word-fact (nodes k f) s value (omega arith)))
+      value-tells : Tells (eqb (factOf f s value) (valueFor cubeKids (factOf f) (kidsOf 8 U s))) (U s value ≡ average cubeKids (λ i. valueAt U (U s i)))
+      value-tells =
+          rw (value-facts k f (kidsOf 8 U s), value-kids c U s, sym (word-fact (nodes k f) s value (omega arith)))
           (tells-eq (U s value) (average cubeKids (λ i. valueAt U (U s i))))
+
+      kids-kept : Tells (keptAt f (sumFor cubeKids (factOf f) (kidsOf 8 U s)) (kidsHash (kidsOf 8 U s)) s)
+          ((U s sum ≡ sumTo cubeKids (λ i. valueAt U (U s i))) × (U s hash ≡ kidsHash (kidsOf 8 U s)))
+      kids-kept = rw (sum-facts k f (kidsOf 8 U s), sum-kids c U s) (kept-tells (sumTo cubeKids (λ i. valueAt U (U s i))) (kidsHash (kidsOf 8 U s)))
 
       branch-tells : Tells (branchFine f c (kidsOf 8 U s) s) Parts
       unfolding branchFine
       branch-tells =
           tells-and (branch-named (kidsOf 8 U s))
           (λ e. tells-and each-tells
-          (λ l. tells-and (value-tells l) (λ v. rw (top-facts k f (kidsOf 8 U s), top-kids c U s) (tall-tells (maxTo cubeKids (λ i. heightAt U (U s i)))))))
+          (λ l. tells-and value-tells
+          (λ v. tells-and kids-kept
+          (λ h. rw (top-facts k f (kidsOf 8 U s), top-kids c U s) (tall-tells (maxTo cubeKids (λ i. heightAt U (U s i))))))))
 
       -- without children it is a leaf, else a branch
       kind-tells : Tells (kindFine f c (kidsOf 8 U s) s) (LeafNode U s ⊎ BranchNode cubeKids deepest c U s)
@@ -143,8 +152,16 @@ module _ (k f : List ℕ) (s : ℕ) where
       kind-tells =
           tells-if (none-tells c U s)
           (λ e. tells-map
-          (λ r. inl (record { id = r .0; some = (let d = r .1 .0 in cases (ℕ-discrete (U s value) 0) (λ z. absurd (d z)) (λ z. omega arith)); bare = e; flat = r .1 .1 }))
-          (⊎-elim (λ l. (l .id, ((λ z. let q = l .some in omega arith), l .flat))) (λ b. absurd (b .some .2 (e (b .some .0) (b .some .1)))))
+          (λ r. inl (record {
+            id = r .0;
+            some = (let d = r .1 .0 in cases (ℕ-discrete (U s value) 0) (λ z. absurd (d z)) (λ z. omega arith));
+            bare = e;
+            flat = r .1 .1 .0;
+            summed = r .1 .1 .1 .0;
+            hashed = r .1 .1 .1 .1;
+          }))
+          (⊎-elim (λ l. (l .id, ((λ z. let q = l .some in omega arith), (l .flat, (l .summed, l .hashed)))))
+          (λ b. absurd (b .some .2 (e (b .some .0) (b .some .1)))))
           leaf-tells)
           (λ n. tells-map
           (λ r. inr (record {
@@ -153,29 +170,31 @@ module _ (k f : List ℕ) (s : ℕ) where
             some = some-child c U s n;
             beyond = λ i a l. absurd (omega arith);
             averaged = r .1 .1 .0;
-            tall = r .1 .1 .1 .0;
-            low = r .1 .1 .1 .1;
+            tall = r .1 .1 .1 .1 .0;
+            low = r .1 .1 .1 .1 .1;
+            summed = r .1 .1 .1 .0 .0;
+            hashed = r .1 .1 .1 .0 .1;
           }))
-          (⊎-elim (λ l. absurd (n (l .bare))) (λ b. (b .id, (b .children, (b .averaged, (b .tall, b .low))))))
+          (⊎-elim (λ l. absurd (n (l .bare))) (λ b. (b .id, (b .children, (b .averaged, ((b .summed, b .hashed), (b .tall, b .low)))))))
           branch-tells)
 
       live-fine : Tells (liveFine k f c s)
-          (((U s holds ≤ 1000000) × ((1 ≤ U s holds + U s places) × (U s link ≡ 0))) × (LeafNode U s ⊎ BranchNode cubeKids deepest c U s))
+          (((U s holds ≤ 1000000) × ((1 ≤ U s holds + U s places) × (U s mark ≡ 0))) × (LeafNode U s ⊎ BranchNode cubeKids deepest c U s))
       unfolding liveFine countsFine wordOf
       live-fine =
           tells-and
-          (tells-and (tells-le (U s holds) 1000000) (λ a. tells-and (tells-le 1 (U s holds + U s places)) (λ b. tells-eq (U s link) 0)))
+          (tells-and (tells-le (U s holds) 1000000) (λ a. tells-and (tells-le 1 (U s holds + U s places)) (λ b. tells-eq (U s mark) 0)))
           (λ e. rw kids-same kind-tells)
 
   -- ---- a slot that is not live
 
-  dead-tells : U s spare ≡ 0 → Tells (deadFine k f s) (Cleared U s)
+  dead-tells : Tells (deadFine k f s) (Cleared U s)
   unfolding deadFine blankAt factZero
-  dead-tells z =
+  dead-tells =
       tells-map
       (λ r. record {
         words = λ g l d h. cases (decLt g 8) (λ m. r .1 .0 g m)
-            (λ m. cases (ℕ-discrete g spare) (λ (w : g ≡ spare). rw w z) (λ w. word-fact (nodes k f) s g (omega arith) ∙ r .1 .1 g (omega arith) (omega arith)));
+            (λ m. word-fact (nodes k f) s g (omega arith) ∙ r .1 .1 g (omega arith) (omega arith));
         seal = seal ∙ r .0;
       })
       (λ v. (
@@ -186,7 +205,7 @@ module _ (k f : List ℕ) (s : ℕ) where
         ),
       ))
       (tells-and (tells-eq (factOf f s own % 2 ^ 32) 0)
-      (λ e. tells-and kids (λ n. tells-all (factZero f s) (λ g. factOf f s g ≡ 0) value link (λ g a l. tells-eq (factOf f s g) 0))))
+      (λ e. tells-and kids (λ n. tells-all (factZero f s) (λ g. factOf f s g ≡ 0) value mark (λ g a l. tells-eq (factOf f s g) 0))))
     where
       seal : U s own % 2 ^ 32 ≡ factOf f s own % 2 ^ 32
       seal = ap (λ (x : ℕ). x % 2 ^ 32) (word-fact (nodes k f) s own (omega arith))
@@ -196,9 +215,9 @@ module _ (k f : List ℕ) (s : ℕ) where
 
   -- ---- given out, or not; and the words that every slot has
 
-  rest-tells : (next : ℕ) → Tells (restsAt f next s) (((s ≢ 0) × (s < next) → ⊥) → (U s own ≡ 0) × (U s link ≡ 0))
+  rest-tells : (next : ℕ) → Tells (restsAt f next s) (((s ≢ 0) × (s < next) → ⊥) → (U s own ≡ 0) × (U s mark ≡ 0))
   unfolding restsAt wordOf
-  rest-tells next = tells-else (given-tells next s) (λ n. tells-and (tells-eq (U s own) 0) (λ e. tells-eq (U s link) 0))
+  rest-tells next = tells-else (given-tells next s) (λ n. tells-and (tells-eq (U s own) 0) (λ e. tells-eq (U s mark) 0))
 
   plain-tells : Tells (plainAt f s) ((U s spare ≡ 0) × ((U s value ≤ 65535) × (gen ≤ 0x7FFD)))
   unfolding plainAt wordOf
@@ -209,9 +228,9 @@ module _ (k f : List ℕ) (s : ℕ) where
 pub record GoodSlot (n tallest c next : ℕ) (W : Words) (s : ℕ) : Type 0 where
   pub node : floor ≤ W s own → Node n tallest c W s
   pub used : floor ≤ W s own → 1 ≤ W s holds + W s places
-  pub plain : floor ≤ W s own → W s link ≡ 0
+  pub plain : floor ≤ W s own → W s mark ≡ 0
   pub cleared : W s own < floor → Cleared W s
-  pub blank : (s ≡ 0) ⊎ (next ≤ s) → (W s own ≡ 0) × (W s link ≡ 0)
+  pub blank : (s ≡ 0) ⊎ (next ≤ s) → (W s own ≡ 0) × (W s mark ≡ 0)
   pub spared : W s spare ≡ 0
   pub gens : generationOf (W s own) ≤ 0x7FFD
 
@@ -222,19 +241,15 @@ module _ (k f : List ℕ) (c next : ℕ) where
   abbrev Good : ℕ → Type 0
   Good s = GoodSlot cubeKids deepest c next X s
 
-  -- a slot that the code calls fine has a small value, and so has a good one
-  fine-small : (s : ℕ) → slotFine k f c next s ≡ true → X s value ≤ 65535
-  unfolding slotFine
-  fine-small s e = tells-and (plain-tells k f s) (λ p. ((λ q. q), (λ q. q))) .0 e .0 .1 .0
-
+  -- a good slot has a small value
   good-small : (s : ℕ) → Good s → X s value ≤ 65535
   good-small s g = cases (decLt (X s own) floor)
       (λ h. let w = g .cleared h .words value (omega arith) (omega arith) (omega arith) in omega arith)
       (λ h. g .node (omega arith) .small)
 
-  slot-tells : (s : ℕ) → s < 65536 → ((i : ℕ) → i < 8 → Live c X (X s i) → X (slot (X s i)) value ≤ 65535) → Tells (slotFine k f c next s) (Good s)
+  slot-tells : (s : ℕ) → s < 65536 → Tells (slotFine k f c next s) (Good s)
   unfolding slotFine
-  slot-tells s low values =
+  slot-tells s low =
       tells-map
       (λ r. record {
         node = λ h. let v = r .1 .1 .0 h in record { kind = v .1; small = r .0 .1 .0; few = v .0 .0 };
@@ -252,20 +267,16 @@ module _ (k f : List ℕ) (c next : ℕ) where
           ((λ h. let m = g .node h in ((m .few, (g .used h, g .plain h)), m .kind)), g .cleared),
         ),
       ))
-      (tells-and (plain-tells k f s) (λ p. tells-and (rest-tells k f s next) (λ q. either p)))
+      (tells-and (plain-tells k f s) (λ p. tells-and (rest-tells k f s next) (λ q. either (p .1 .1))))
     where
-      either : (X s spare ≡ 0) × ((X s value ≤ 65535) × (generationOf (X s own) ≤ 0x7FFD))
-          → Tells (pick (leb floor (factOf f s own)) (liveFine k f c s) (deadFine k f s))
-          ((floor ≤ X s own → ((X s holds ≤ 1000000) × ((1 ≤ X s holds + X s places) × (X s link ≡ 0))) × (LeafNode X s ⊎ BranchNode cubeKids deepest c X s)) × (X s own < floor → Cleared X s))
-      either p =
+      either : generationOf (X s own) ≤ 0x7FFD → Tells (pick (leb floor (factOf f s own)) (liveFine k f c s) (deadFine k f s))
+          ((floor ≤ X s own → ((X s holds ≤ 1000000) × ((1 ≤ X s holds + X s places) × (X s mark ≡ 0))) × (LeafNode X s ⊎ BranchNode cubeKids deepest c X s)) × (X s own < floor → Cleared X s))
+      either young =
           let e : X s own ≡ factOf f s own = word-fact (nodes k f) s own (omega arith) in
           tells-if (tells-le floor (factOf f s own))
-          (λ h. tells-map (λ r. ((λ a. r), (λ a. absurd (omega arith)))) (λ r. r .0 (omega arith)) (live-fine k f s low (p .1 .1) c values))
-          (λ h. tells-map (λ r. ((λ a. absurd (h (omega arith))), (λ a. r))) (λ r. r .1 (cases (decLt (X s own) floor) (λ l. l) (λ l. absurd (h (omega arith))))) (dead-tells k f s (p .0)))
+          (λ h. tells-map (λ r. ((λ a. r), (λ a. absurd (omega arith)))) (λ r. r .0 (omega arith)) (live-fine k f s low young c))
+          (λ h. tells-map (λ r. ((λ a. absurd (h (omega arith))), (λ a. r))) (λ r. r .1 (cases (decLt (X s own) floor) (λ l. l) (λ l. absurd (h (omega arith))))) (dead-tells k f s))
 
   pub slots-tell : c ≤ 65536 → Tells (allIn 0 c (slotFine k f c next)) ((s : ℕ) → s < c → Good s)
   slots-tell most =
-      tells-map
-      (λ q s l. slot-tells s (omega arith) (λ i a y. fine-small (slot (X s i)) (q (slot (X s i)) (omega arith) (y .low))) .0 (q s (omega arith) l))
-      (λ q s a l. slot-tells s (omega arith) (λ i b y. good-small (slot (X s i)) (q (slot (X s i)) (y .low))) .1 (q s l))
-      (tells-all (slotFine k f c next) (λ s. slotFine k f c next s ≡ true) 0 c (λ s a l. ((λ q. q), (λ q. q))))
+      tells-map (λ q s l. q s (omega arith) l) (λ q s a l. q s l) (tells-all (slotFine k f c next) Good 0 c (λ s a l. slot-tells s (omega arith)))

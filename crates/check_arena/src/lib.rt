@@ -4,6 +4,7 @@ use arena::Arena;
 use arena::all_empty;
 use arena::fit;
 use arena::is_live_or_empty;
+use arena::next_in;
 use basics::KID_WORDS;
 use basics::Kids;
 use basics::LARGEST_VALUE;
@@ -14,20 +15,24 @@ use check_find::find_fine;
 use check_freed::is_given;
 use check_freed::state_fine;
 use check_places::tallies;
+use find_hash::kids_hash;
+use find_hash::leaf_hash;
 use ids::BlockId;
 use new_id::branch_id;
 use new_node::leaf_id;
 use new_value::sums_of;
 use nodes::FLOOR;
+use nodes::HASH;
 use nodes::HEIGHT;
 use nodes::HOLDS;
-use nodes::LINK;
-use nodes::OWN;
+use nodes::MARK;
 use nodes::PLACES;
 use nodes::SPARE;
+use nodes::SUM;
 use nodes::VALUE;
 use nodes::children;
 use nodes::fact;
+use nodes::own;
 ghost use mathlib.Core.Path.{_≡_};
 ghost use mathlib.Core.Logic.{_↔_};
 ghost use mathlib.Core.Bool.{true};
@@ -37,19 +42,19 @@ ghost use Rattle.basics.specs.Limits.{deepest, cubeKids, kidWords};
 ghost use Rattle.nodes.specs.Words.{kidOf, factOf, holds, places};
 ghost use Rattle.nodes.specs.Tally.{kidsOf};
 ghost use Rattle.arena.specs.Calls.{noneOf, allLive};
-ghost use Rattle.arena.specs.Tables.{WellFormed};
+ghost use Rattle.arena.specs.Tables.{WellFormed, stateOf};
 ghost use Rattle.arena.specs.Lent.{before};
 ghost use Rattle.check_freed.specs.Models.{allIn};
-ghost use Rattle.check_arena.specs.Models.{blankAt, deadFine, countsFine, leafNamed, leafFine, branchNamed, tallAt, branchFine, kindFine, liveFine, restsAt, plainAt, slotFine, rangedBy, soundBy};
+ghost use Rattle.check_arena.specs.Models.{blankAt, deadFine, countsFine, leafNamed, keptAt, leafFine, branchNamed, tallAt, branchFine, kindFine, liveFine, restsAt, plainAt, slotFine, rangedBy, soundBy};
 
 // ---- a slot that is not live
 
-// Are the value, the height and both counts of slot s 0?
-fn blank(facts: &[u64], s: usize) -> bool
+// Are the words of slot s from the value to the places 0?
+fn blank(facts: &[u32], s: usize) -> bool
     ensures { λ r. ⌜ r ≡ blankAt (now (facts .entry)) s ⌝ }
 {
     let mut f: usize = VALUE;
-    while f < LINK {
+    while f < MARK {
         if fact(facts, s, f) != 0 {
             return false;
         }
@@ -66,11 +71,11 @@ fn bare(kids: &[u64], s: usize) -> bool
 }
 
 // Is slot s cleared: value 0, children EMPTY, both counts 0? Its own word is a generation alone.
-fn dead_fine(kids: &[u64], facts: &[u64], s: usize) -> bool
+fn dead_fine(kids: &[u64], facts: &[u32], s: usize) -> bool
     ensures { λ r. ⌜ r ≡ deadFine (now (kids .entry)) (now (facts .entry)) s ⌝ }
 {
-    let own = fact(facts, s, OWN);
-    if own % 0x1_0000_0000 != 0 {
+    let o = own(facts, s);
+    if o % 0x1_0000_0000 != 0 {
         return false;
     }
     if !bare(kids, s) {
@@ -82,7 +87,7 @@ fn dead_fine(kids: &[u64], facts: &[u64], s: usize) -> bool
 // ---- a live slot
 
 // Holds plus places is at least 1.
-fn is_used(facts: &[u64], s: usize) -> bool
+fn is_used(facts: &[u32], s: usize) -> bool
     ensures { λ r. ⌜ r ≡ leb 1 (factOf (now (facts .entry)) s holds + factOf (now (facts .entry)) s places) ⌝ }
 {
     if 1 <= fact(facts, s, HOLDS) {
@@ -91,8 +96,8 @@ fn is_used(facts: &[u64], s: usize) -> bool
     1 <= fact(facts, s, PLACES)
 }
 
-// At most 1,000,000 holds, holds plus places at least 1, and no link.
-fn counts_fine(facts: &[u64], s: usize) -> bool
+// At most 1,000,000 holds, holds plus places at least 1, and the mark 0.
+fn counts_fine(facts: &[u32], s: usize) -> bool
     ensures { λ r. ⌜ r ≡ countsFine (now (facts .entry)) s ⌝ }
 {
     if fact(facts, s, HOLDS) > MOST_HOLDS {
@@ -101,40 +106,54 @@ fn counts_fine(facts: &[u64], s: usize) -> bool
     if !is_used(facts, s) {
         return false;
     }
-    fact(facts, s, LINK) == 0
+    fact(facts, s, MARK) == 0
 }
 
 // Is the own word of slot s the id of a leaf there?
-fn leaf_named(facts: &[u64], s: usize) -> bool
+fn leaf_named(facts: &[u32], s: usize) -> bool
     ensures { λ r. ⌜ r ≡ leafNamed (now (facts .entry)) s ⌝ }
 {
-    let own = fact(facts, s, OWN);
-    own == leaf_id(s, own)
+    let o = own(facts, s);
+    o == leaf_id(s, o)
 }
 
-// A leaf has a value other than 0; its height is 0.
-fn leaf_fine(facts: &[u64], s: usize) -> bool
+// Slot s keeps this sum and this hash.
+fn keeps(facts: &[u32], sum: u64, hash: u32, s: usize) -> bool
+    ensures { λ r. ⌜ r ≡ keptAt (now (facts .entry)) sum hash s ⌝ }
+{
+    if fact(facts, s, SUM) as u64 != sum {
+        return false;
+    }
+    fact(facts, s, HASH) == hash
+}
+
+// A leaf has a value other than 0; its height is 0. It keeps the sum 0 and the hash of its value.
+fn leaf_fine(facts: &[u32], s: usize) -> bool
     ensures { λ r. ⌜ r ≡ leafFine (now (facts .entry)) s ⌝ }
 {
     if !leaf_named(facts, s) {
         return false;
     }
-    if fact(facts, s, VALUE) == 0 {
+    let value = fact(facts, s, VALUE);
+    if value == 0 {
         return false;
     }
-    fact(facts, s, HEIGHT) == 0
+    if fact(facts, s, HEIGHT) != 0 {
+        return false;
+    }
+    keeps(facts, 0, leaf_hash(value), s)
 }
 
 // Is the own word of slot s the id of a branch there with the children ks?
-fn branch_named(facts: &[u64], ks: Kids, s: usize) -> bool
+fn branch_named(facts: &[u32], ks: Kids, s: usize) -> bool
     ensures { λ r. ⌜ r ≡ branchNamed (now (facts .entry)) ks s ⌝ }
 {
-    let own = fact(facts, s, OWN);
-    own == branch_id(ks, s, own)
+    let o = own(facts, s);
+    o == branch_id(ks, s, o)
 }
 
 // Is each of the eight ids EMPTY or live?
-fn each_live(capacity: usize, facts: &[u64], ks: Kids) -> bool
+fn each_live(capacity: usize, facts: &[u32], ks: Kids) -> bool
     ensures { λ r. ⌜ r ≡ allLive capacity (factOf (now (facts .entry))) ks ⌝ }
 {
     let mut i: usize = 0;
@@ -148,7 +167,7 @@ fn each_live(capacity: usize, facts: &[u64], ks: Kids) -> bool
 }
 
 // The height of slot s is one more than `top`, at most the tallest allowed.
-fn is_tall(facts: &[u64], top: u64, s: usize) -> bool
+fn is_tall(facts: &[u32], top: u32, s: usize) -> bool
     ensures { λ r. ⌜ r ≡ tallAt (now (facts .entry)) top s ⌝ }
 {
     let height = fact(facts, s, HEIGHT);
@@ -161,8 +180,9 @@ fn is_tall(facts: &[u64], top: u64, s: usize) -> bool
     height - 1 == top
 }
 
-// A branch with the children ks: they are live or EMPTY, and its id, its stored value and its height follow from them.
-fn branch_fine(facts: &[u64], capacity: usize, ks: Kids, s: usize) -> bool
+// A branch with the children ks: they are live or EMPTY, and its id, its stored value and its height follow from them, and so do the sum and the hash that it
+// keeps.
+fn branch_fine(facts: &[u32], capacity: usize, ks: Kids, s: usize) -> bool
     ensures { λ r. ⌜ r ≡ branchFine (now (facts .entry)) capacity ks s ⌝ }
 {
     if !branch_named(facts, ks, s) {
@@ -175,11 +195,14 @@ fn branch_fine(facts: &[u64], capacity: usize, ks: Kids, s: usize) -> bool
     if fact(facts, s, VALUE) != sums.value {
         return false;
     }
+    if !keeps(facts, sums.sum, kids_hash(ks), s) {
+        return false;
+    }
     is_tall(facts, sums.top, s)
 }
 
 // Without children the node in slot s is a leaf, else a branch.
-fn kind_fine(facts: &[u64], capacity: usize, ks: Kids, s: usize) -> bool
+fn kind_fine(facts: &[u32], capacity: usize, ks: Kids, s: usize) -> bool
     ensures { λ r. ⌜ r ≡ kindFine (now (facts .entry)) capacity ks s ⌝ }
 {
     if all_empty(ks) {
@@ -189,7 +212,7 @@ fn kind_fine(facts: &[u64], capacity: usize, ks: Kids, s: usize) -> bool
 }
 
 // A live node meets the rules on content, stored value, height and id, with at most 1,000,000 holds.
-fn live_fine(kids: &[u64], facts: &[u64], capacity: usize, s: usize) -> bool
+fn live_fine(kids: &[u64], facts: &[u32], capacity: usize, s: usize) -> bool
     ensures { λ r. ⌜ r ≡ liveFine (now (kids .entry)) (now (facts .entry)) capacity s ⌝ }
 {
     if !counts_fine(facts, s) {
@@ -200,21 +223,21 @@ fn live_fine(kids: &[u64], facts: &[u64], capacity: usize, s: usize) -> bool
 
 // ---- every slot
 
-// Slot s was given out, or has generation 0, no node and no link.
-fn rests(facts: &[u64], next: usize, s: usize) -> bool
+// Slot s was given out, or has generation 0, no node and the mark 0.
+fn rests(facts: &[u32], next: usize, s: usize) -> bool
     ensures { λ r. ⌜ r ≡ restsAt (now (facts .entry)) next s ⌝ }
 {
     if is_given(next, s) {
         return true;
     }
-    if fact(facts, s, OWN) != 0 {
+    if own(facts, s) != 0 {
         return false;
     }
-    fact(facts, s, LINK) == 0
+    fact(facts, s, MARK) == 0
 }
 
 // The spare word of slot s is 0, its value at most 65,535, and its generation not above 0x7FFD.
-fn is_plain(facts: &[u64], s: usize) -> bool
+fn is_plain(facts: &[u32], s: usize) -> bool
     ensures { λ r. ⌜ r ≡ plainAt (now (facts .entry)) s ⌝ }
 {
     if fact(facts, s, SPARE) != 0 {
@@ -223,32 +246,32 @@ fn is_plain(facts: &[u64], s: usize) -> bool
     if fact(facts, s, VALUE) > LARGEST_VALUE {
         return false;
     }
-    BlockId(fact(facts, s, OWN)).generation() <= LAST_GENERATION
+    BlockId(own(facts, s)).generation() <= LAST_GENERATION
 }
 
 // Slot s has a live node that meets the rules, or is cleared.
-fn slot_fine(kids: &[u64], facts: &[u64], arena: Arena, s: usize) -> bool
-    ensures { λ r. ⌜ r ≡ slotFine (now (kids .entry)) (now (facts .entry)) (arena .capacity) (arena .next) s ⌝ }
+fn slot_fine(kids: &[u64], facts: &[u32], capacity: usize, next: usize, s: usize) -> bool
+    ensures { λ r. ⌜ r ≡ slotFine (now (kids .entry)) (now (facts .entry)) capacity next s ⌝ }
 {
     if !is_plain(facts, s) {
         return false;
     }
-    if !rests(facts, arena.next, s) {
+    if !rests(facts, next, s) {
         return false;
     }
-    if FLOOR <= fact(facts, s, OWN) {
-        return live_fine(kids, facts, arena.capacity, s);
+    if FLOOR <= own(facts, s) {
+        return live_fine(kids, facts, capacity, s);
     }
     dead_fine(kids, facts, s)
 }
 
 // Every slot is as it must be by itself and by its children.
-fn slots_fine(kids: &[u64], facts: &[u64], arena: Arena) -> bool
-    ensures { λ r. ⌜ r ≡ allIn 0 (arena .capacity) (slotFine (now (kids .entry)) (now (facts .entry)) (arena .capacity) (arena .next)) ⌝ }
+fn slots_fine(kids: &[u64], facts: &[u32], capacity: usize, next: usize) -> bool
+    ensures { λ r. ⌜ r ≡ allIn 0 capacity (slotFine (now (kids .entry)) (now (facts .entry)) capacity next) ⌝ }
 {
     let mut s: usize = 0;
-    while s < arena.capacity {
-        if !slot_fine(kids, facts, arena, s) {
+    while s < capacity {
+        if !slot_fine(kids, facts, capacity, next, s) {
             return false;
         }
         s += 1;
@@ -269,16 +292,17 @@ fn is_ranged(next: usize, capacity: usize) -> bool
 }
 
 // All of it but the tally, which wants these to be right.
-fn is_sound(kids: &[u64], facts: &[u64], find: &[u16], arena: Arena) -> bool
-    ensures { λ r. ⌜ r ≡ soundBy arena (now (kids .entry)) (now (facts .entry)) (now (find .entry)) ⌝ }
+fn is_sound(kids: &[u64], facts: &[u32], find: &[u16], arena: Arena) -> bool
+    ensures { λ r. ⌜ r ≡ soundBy (stateOf arena) (now (kids .entry)) (now (facts .entry)) (now (find .entry)) ⌝ }
 {
     if !fit(arena.capacity, kids.len(), facts.len(), find.len()) {
         return false;
     }
-    if !is_ranged(arena.next, arena.capacity) {
+    let next = next_in(arena.slots) as usize;
+    if !is_ranged(next, arena.capacity) {
         return false;
     }
-    if !slots_fine(kids, facts, arena) {
+    if !slots_fine(kids, facts, arena.capacity, next) {
         return false;
     }
     if !state_fine(facts, arena) {
@@ -288,7 +312,7 @@ fn is_sound(kids: &[u64], facts: &[u64], find: &[u16], arena: Arena) -> bool
 }
 
 // The arena check: yes exactly if the tables are well formed, on any tables; with refusal 1 it says no. The tables are as before.
-pub fn check_arena(arena: Arena, kids: &[u64], facts: &mut [u64], find: &[u16]) -> bool
+pub fn check_arena(arena: Arena, kids: &[u64], facts: &mut [u32], find: &[u16]) -> bool
     ensures { λ r. ⌜ ((r ≡ true) ↔ WellFormed cubeKids deepest (before arena kids facts find)) × (now (facts .exit) ≡ now (facts .entry)) ⌝ }
 {
     if !is_sound(kids, facts, find, arena) {

@@ -1,17 +1,19 @@
 -- The finding table: what the passes over it tell.
-use mathlib.Core.Path.{_≡_, refl, sym, ap, ap₂, _∙_}
-use mathlib.Core.Bool.{Bool, true}
+use mathlib.Core.Path.{_≡_, sym, ap, _∙_}
+use mathlib.Core.Bool.{Bool, true, false}
 use mathlib.Core.List.{List}
-use Prim.Native.Nat.{ℕ, _+_, _≤_, _<_}
-use native.Mathlib.Decide.{ℕ-discrete, decLt}
+use Prim.Native.Nat.{ℕ, _≤_, _<_}
+use native.Mathlib.Decide.{decLt}
 use native.Mathlib.Omega.{arith}
-use lib.ListN.{length, getD, List·getD-eq-default}
+use lib.ListN.{length, List·getD-eq-default}
+use Rattle.ids.specs.Ids.{isLeaf}
 use Rattle.nodes.specs.Words.{Words, own, value, nodes, kidOf, factOf, wordOf, floor}
 use Rattle.nodes.specs.Tally.{kidsOf}
 use Rattle.nodes.proofs.Access.{word-fact, kids-word}
 use Rattle.nodes.proofs.Sums.{cases}
-use Rattle.find.specs.Cells.{cell, cellOf, seat}
-use Rattle.arena.specs.declared.Arena.{Arena}
+use Rattle.find_hash.specs.Hash.{leafHash, kidsHash}
+use Rattle.find.specs.Cells.{cell, leafCell, kidsCell, seat}
+use Rattle.find.proofs.Contents.{leaf-facts}
 use Rattle.check_freed.specs.Models.{allIn}
 use Rattle.check_freed.proofs.Ladders.{Tells, tells-eq, tells-le, tells-lt, tells-map, tells-and, tells-then, tells-else}
 use Rattle.check_freed.proofs.Passes.{tells-all}
@@ -28,10 +30,19 @@ module _ (k f e : List ℕ) (c : ℕ) where
   abbrev U : Words
   U = wordOf (nodes k f)
 
-  -- as the code has the children and the value of slot s
-  pub seat-at : (s : ℕ) (ks : List ℕ) (v p : ℕ) → ks ≡ kidsOf 8 (kidOf k) s → v ≡ factOf f s value → p ≡ cellOf e c U ks v → p ≡ seat e c U s
-  seat-at s ks v p q d h =
-      h ∙ ap₂ (λ (x : List ℕ) (y : ℕ). cellOf e c U x y) (q ∙ kids-word 8 (nodes k f) s (omega arith)) (d ∙ sym (word-fact (nodes k f) s value (omega arith)))
+  -- as the code has the kind, and the value or the children, of slot s
+  pub seat-leaf : (s o v h p : ℕ) (b : Bool) → o ≡ factOf f s own → b ≡ isLeaf o → b ≡ true → v ≡ factOf f s value → h ≡ leafHash v → p ≡ leafCell e c (factOf f) h v → p ≡ seat e c U s
+  unfolding seat wordOf
+  seat-leaf s o v h p b q d t w g r =
+      let l : isLeaf (factOf f s own) ≡ true = ap isLeaf (sym q) ∙ sym d ∙ t in
+      rw l (r ∙ leaf-facts e c k f h v ∙ rw (g, w))
+
+  pub seat-kids : (s o h p : ℕ) (ks : List ℕ) (b : Bool) → o ≡ factOf f s own → b ≡ isLeaf o → b ≡ false → ks ≡ kidsOf 8 (kidOf k) s → h ≡ kidsHash ks → p ≡ kidsCell e c U h ks → p ≡ seat e c U s
+  unfolding seat
+  seat-kids s o h p ks b q d t w g r =
+      let l : isLeaf (U s own) ≡ false = ap isLeaf (word-fact (nodes k f) s own (omega arith) ∙ sym q) ∙ sym d ∙ t in
+      let y : ks ≡ kidsOf 8 U s = w ∙ kids-word 8 (nodes k f) s (omega arith) in
+      rw l (r ∙ rw (g, y))
 
   live-tells : (s : ℕ) → Tells (liveAt f c s) ((s < c) × (floor ≤ U s own))
   unfolding liveAt wordOf
@@ -64,8 +75,7 @@ module _ (k f e : List ℕ) (c : ℕ) where
       tells-map (λ q s l. q s (omega arith) l) (λ q s h l. q s l)
       (tells-all (foundAt k f e c) (λ s. floor ≤ U s own → cell e (seat e c U s) ≡ s) 0 c (λ s h l. found-tells s l))
 
-pub find-tells : (a : Arena) (k f e : List ℕ) → Tells (findFine a k f e)
-    (Seated e (a .capacity) (wordOf (nodes k f))
-    × ((s : ℕ) → s < a .capacity → floor ≤ wordOf (nodes k f) s own → cell e (seat e (a .capacity) (wordOf (nodes k f)) s) ≡ s))
+pub find-tells : (c : ℕ) (k f e : List ℕ) → Tells (findFine c k f e)
+    (Seated e c (wordOf (nodes k f)) × ((s : ℕ) → s < c → floor ≤ wordOf (nodes k f) s own → cell e (seat e c (wordOf (nodes k f)) s) ≡ s))
 unfolding findFine
-find-tells a k f e = tells-and (cells-tell k f e (a .capacity)) (λ v. all-found k f e (a .capacity))
+find-tells c k f e = tells-and (cells-tell k f e c) (λ v. all-found k f e c)

@@ -8,7 +8,6 @@ use lib.ListN.{length}
 use Rattle.basics.specs.Pick.{pick}
 use Rattle.nodes.specs.Words.{own, nodes, factOf, wordOf, floor}
 use Rattle.find.specs.Cells.{cell, seat}
-use Rattle.arena.specs.declared.Arena.{Arena}
 use Rattle.check_freed.specs.Models.{allIn}
 
 unfoldable pub liveAt : List ℕ → ℕ → ℕ → Bool
@@ -26,5 +25,5 @@ cellFine k f e c p = pick (eqb (cell e p) 0) true (namedAt k f e c (cell e p) p)
 unfoldable pub foundAt : List ℕ → List ℕ → List ℕ → ℕ → ℕ → Bool
 foundAt k f e c s = pick (liveAt f c s) (eqb (cell e (seat e c (wordOf (nodes k f)) s)) s) true
 
-unfoldable pub findFine : Arena → List ℕ → List ℕ → List ℕ → Bool
-findFine a k f e = pick (allIn 0 (length e) (cellFine k f e (a .capacity))) (allIn 0 (a .capacity) (foundAt k f e (a .capacity))) false
+unfoldable pub findFine : ℕ → List ℕ → List ℕ → List ℕ → Bool
+findFine c k f e = pick (allIn 0 (length e) (cellFine k f e c)) (allIn 0 c (foundAt k f e c)) false

@@ -1,19 +1,19 @@
--- The freed slots: what the walk through them tells.
-use mathlib.Core.Path.{_≡_, sym, _∙_}
+-- The freed slots: what the pass over their stack tells.
+use mathlib.Core.Path.{_≡_}
 use mathlib.Core.Logic.{_≢_}
 use mathlib.Core.List.{List}
-use Prim.Native.Nat.{ℕ, zero, suc, _-_, _<_}
+use Prim.Native.Nat.{ℕ, _+_, _-_, _<_}
 use native.Mathlib.Decide.{ℕ-discrete}
 use native.Mathlib.Omega.{arith}
-use Rattle.nodes.specs.Words.{own, link, nodes, factOf, wordOf, floor}
+use Rattle.nodes.specs.Words.{own, mark, entry, nodes, factOf, wordOf, floor}
 use Rattle.nodes.specs.Tally.{Free, liveCount}
 use Rattle.nodes.proofs.Access.{word-fact}
 use Rattle.nodes.proofs.Freeing.{live-keep}
 use Rattle.nodes.proofs.Sums.{cases}
-use Rattle.nodes.proofs.Walking.{Walk}
-use Rattle.arena.specs.declared.Arena.{Arena}
-use Rattle.check_freed.specs.Models.{isGiven, isFree, walkBy, stateFine}
+use Rattle.arena.specs.Tables.{State}
+use Rattle.check_freed.specs.Models.{allIn, isGiven, isFree, numberedBy, entryFine, stateFine}
 use Rattle.check_freed.proofs.Ladders.{Tells, tells-eq, tells-lt, tells-map, tells-and, tells-not}
+use Rattle.check_freed.proofs.Passes.{tells-all}
 
 pub given-tells : (next s : ℕ) → Tells (isGiven next s) ((s ≢ 0) × (s < next))
 unfolding isGiven
@@ -27,17 +27,24 @@ module _ (k f : List ℕ) (next : ℕ) where
       (λ r. (((λ z. let g = r .given in omega arith), r .below), r .dead))
       (tells-and (given-tells next s) (λ g. tells-lt (factOf f s own) floor))
 
-  walk-tells : (m at : ℕ) → Tells (walkBy f next m at) (Walk (wordOf (nodes k f)) next m at)
-  unfolding walkBy wordOf
-  walk-tells zero at = tells-eq at 0
-  walk-tells (suc m) at = tells-and (free-tells at) (λ r. walk-tells m (factOf f at link))
+  -- entry i is a slot given out and not live, with the number i
+  abbrev Entered : ℕ → Type 0
+  Entered i = Free (wordOf (nodes k f)) next (wordOf (nodes k f) i entry) × (wordOf (nodes k f) (wordOf (nodes k f) i entry) mark ≡ i)
 
--- the live slots are counted right, and the chain of the freed is as long as it must be, and ends
-pub state-tells : (a : Arena) (k f : List ℕ) → Tells (stateFine a f)
-    ((a .live ≡ liveCount (a .capacity) (wordOf (nodes k f)))
-    × ((a .live < a .next) × Walk (wordOf (nodes k f)) (a .next) (a .next - 1 - a .live) (a .top)))
+  entry-tells : (i : ℕ) → Tells (entryFine f next i) (Entered i)
+  unfolding entryFine numberedBy wordOf
+  entry-tells i = tells-and (free-tells (factOf f i entry)) (λ r. tells-eq (factOf f (factOf f i entry) mark) i)
+
+  entries-tell : (freed : ℕ) → Tells (allIn 0 freed (entryFine f next)) ((i : ℕ) → i < freed → Entered i)
+  entries-tell freed = tells-map (λ q i l. q i (omega arith) l) (λ q i h l. q i l) (tells-all (entryFine f next) Entered 0 freed (λ i h l. entry-tells i))
+
+-- the live slots are as many as they must be, and each entry of the stack is right
+pub state-tells : (a : State) (k f : List ℕ) → Tells (stateFine a f)
+    ((a .freed + liveCount (a .capacity) (wordOf (nodes k f)) + 1 ≡ a .next)
+    × ((i : ℕ) → i < a .freed → Free (wordOf (nodes k f)) (a .next) (wordOf (nodes k f) i entry) × (wordOf (nodes k f) (wordOf (nodes k f) i entry) mark ≡ i)))
 unfolding stateFine
 state-tells a k f =
     let e : liveCount (a .capacity) (wordOf (nodes k f)) ≡ liveCount (a .capacity) (factOf f) = live-keep (a .capacity) (factOf f) (wordOf (nodes k f)) (λ b. word-fact (nodes k f) b own (omega arith)) in
-    tells-and (tells-map (λ q. sym (e ∙ q)) (λ q. sym e ∙ sym q) (tells-eq (liveCount (a .capacity) (factOf f)) (a .live)))
-    (λ l. tells-and (tells-lt (a .live) (a .next)) (λ r. walk-tells k f (a .next) (a .next - 1 - a .live) (a .top)))
+    tells-map (λ r. (let l = r .0 in let q = r .1 .0 in omega arith, r .1 .1)) (λ r. (let q = r .0 in omega arith, (let q = r .0 in omega arith, r .1)))
+    (tells-and (tells-lt (a .freed) (a .next))
+    (λ l. tells-and (tells-eq (liveCount (a .capacity) (factOf f)) (a .next - 1 - a .freed)) (λ q. entries-tell k f (a .next) (a .freed))))

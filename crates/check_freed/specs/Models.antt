@@ -5,10 +5,10 @@ use mathlib.Core.List.{List}
 use Prim.Native.Nat.{ℕ, zero, suc, _-_}
 use lib.Dec.{eqb, ltb}
 use Rattle.basics.specs.Pick.{pick}
-use Rattle.nodes.specs.Words.{own, link, factOf, floor}
+use Rattle.nodes.specs.Words.{own, mark, entry, factOf, floor}
 use Rattle.nodes.specs.Tally.{tabFrom, liveCount}
 use Rattle.arena.specs.Calls.{allOf}
-use Rattle.arena.specs.declared.Arena.{Arena}
+use Rattle.arena.specs.Tables.{State}
 
 -- ## Passes
 
@@ -30,13 +30,16 @@ isGiven next s = pick (eqb s 0) false (ltb s next)
 unfoldable pub isFree : List ℕ → ℕ → ℕ → Bool
 isFree f next s = pick (isGiven next s) (ltb (factOf f s own) floor) false
 
--- m steps from `at`, each at a freed slot, end
-unfoldable pub walkBy : List ℕ → ℕ → ℕ → ℕ → Bool
-walkBy f next zero at = eqb at 0
-walkBy f next (suc m) at = let rest = walkBy f next m (factOf f at link) in pick (isFree f next at) rest false
+-- slot s is free, and its number on the stack is i
+unfoldable pub numberedBy : List ℕ → ℕ → ℕ → ℕ → Bool
+numberedBy f next i s = pick (isFree f next s) (eqb (factOf f s mark) i) false
 
--- the number of live slots is right, and the chain of the freed has as many steps as there are slots given out and not live
-unfoldable pub stateFine : Arena → List ℕ → Bool
+-- entry i of the stack is such a slot
+unfoldable pub entryFine : List ℕ → ℕ → ℕ → Bool
+entryFine f next i = numberedBy f next i (factOf f i entry)
+
+-- the slots given out are as many as are freed and as live, slot 0 aside, and each entry of the stack is right
+unfoldable pub stateFine : State → List ℕ → Bool
 stateFine a f =
-    pick (eqb (liveCount (a .capacity) (factOf f)) (a .live))
-    (pick (ltb (a .live) (a .next)) (walkBy f (a .next) (a .next - 1 - a .live) (a .top)) false) false
+    pick (ltb (a .freed) (a .next))
+    (pick (eqb (liveCount (a .capacity) (factOf f)) (a .next - 1 - a .freed)) (allIn 0 (a .freed) (entryFine f (a .next))) false) false

@@ -6,30 +6,30 @@ use Prim.Native.Nat.{ℕ}
 use lib.Dec.{eqb, leb}
 use Rattle.basics.specs.Limits.{kidWords}
 use Rattle.basics.specs.Pick.{pick}
-use Rattle.nodes.specs.Words.{own, places, link, kidOf, factOf, factPut, floor}
+use Rattle.nodes.specs.Words.{own, places, mark, kidOf, factOf, factPut, floor}
 use Rattle.nodes.specs.Tally.{kidsOf}
 use Rattle.arena.specs.Calls.{each}
 use Rattle.arena.specs.Models.{bumped}
 use Rattle.check_freed.specs.Models.{upTo}
 
--- ## The tally of all nodes in one pass: a counter in the link word of live slots
+-- ## The tally of all nodes in one pass: a counter in the mark word of live slots
 
 -- the children of slot b counted
 unfoldable pub kidsBumped : List ℕ → List ℕ → ℕ → List ℕ
-kidsBumped k f b = each (bumped link) f (kidsOf kidWords (kidOf k) b)
+kidsBumped k f b = each (bumped mark) f (kidsOf kidWords (kidOf k) b)
 
 -- those of the slots below b
 abbrev pub countTo : List ℕ → List ℕ → ℕ → List ℕ
 countTo k f b = upTo (kidsBumped k) f b
 
 -- the counter of slot s set to 0 again, if it is live
-unfoldable pub unlinked : List ℕ → ℕ → List ℕ
-unlinked f s = pick (leb floor (factOf f s own)) (factPut f s link 0) f
+unfoldable pub unmarked : List ℕ → ℕ → List ℕ
+unmarked f s = pick (leb floor (factOf f s own)) (factPut f s mark 0) f
 
 -- those of the slots below b
 abbrev pub clearTo : List ℕ → ℕ → List ℕ
-clearTo f b = upTo unlinked f b
+clearTo f b = upTo unmarked f b
 
 -- slot s is not live, or its counter equals its places
 unfoldable pub agreeAt : List ℕ → ℕ → Bool
-agreeAt f s = pick (leb floor (factOf f s own)) (eqb (factOf f s places) (factOf f s link)) true
+agreeAt f s = pick (leb floor (factOf f s own)) (eqb (factOf f s places) (factOf f s mark)) true

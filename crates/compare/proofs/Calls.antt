@@ -12,8 +12,7 @@ use Rattle.basics.specs.Pick.{pick}
 use Rattle.basics.proofs.Rungs.{rung-yes, rung-no, via-yes, via-no, past-yes}
 use Rattle.nodes.specs.Words.{Words, nodes, factOf, wordOf}
 use Rattle.nodes.specs.Values.{heightAt}
-use Rattle.arena.specs.declared.Arena.{Arena}
-use Rattle.arena.specs.Tables.{Tables, tables, cap, W}
+use Rattle.arena.specs.Tables.{State, Tables, tables, cap, W}
 use Rattle.arena.specs.Calls.{fits, liveOf, liveOrEmpty}
 use Rattle.compare_pairs.specs.Differing.{differing}
 use Rattle.compare_pairs.proofs.Pairs.{count-le}
@@ -109,7 +108,7 @@ module _ (T : Tables) (a b d c l r k : ℕ) (e : k ≡ firstNo T a b d c l r) wh
   pub deep-enough : k ≡ 0 → d ≤ deepest
   deep-enough h = lent h .2
 
-module _ (A : Arena) (ks fs es : List ℕ) (a b d k : ℕ) (c l r : List ℕ) (e : k ≡ firstNo (tables A ks fs es) a b d (length c) (length l) (length r)) where
+module _ (A : State) (ks fs es : List ℕ) (a b d k : ℕ) (c l r : List ℕ) (e : k ≡ firstNo (tables A ks fs es) a b d (length c) (length l) (length r)) where
   refuses : (n : ℕ) (x : Compared) → x ≡ refusedWith n → compareNo (tables A ks fs es) a b d (length c) (length l) (length r) ≡ n → (n ≡ 0 → ⊥)
       → compared x c l r ≡ compareOf (tables A ks fs es) a b d c l r
   unfolding compareOf

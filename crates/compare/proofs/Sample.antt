@@ -8,7 +8,7 @@ use lib.ListN.{getD, replicate}
 use Rattle.basics.specs.Puts.{putsFrom}
 use Rattle.basics.specs.Sums.{sumTo}
 use Rattle.ids.specs.Ids.{indexOf}
-use Rattle.nodes.specs.Words.{Words, slot, floor, wordOf, kidOf, factOf}
+use Rattle.nodes.specs.Words.{Words, slot, floor, rowIn, rowAt, wordOf, kidOf, factOf}
 use Rattle.nodes.specs.Values.{valueAt, heightAt}
 use Rattle.tree.specs.Tree.{kind, look}
 use Rattle.tree.specs.Anew.{part}
@@ -96,37 +96,38 @@ root = 0x0282800000000002
 abbrev kids : List ℕ
 kids = replicate 16 0 ++ (one ∷ 0 ∷ one ∷ 0 ∷ 0 ∷ 0 ∷ 0 ∷ 0 ∷ [])
 
--- own, value, height, holds, places, link, spare of the slots 0, 1 and 2
+-- own in two halves, value, height, sum, spare, hash, holds, places, mark and the stack's entry of the slots 0, 1 and 2
 abbrev facts : List ℕ
-facts = replicate 7 0 ++ (one ∷ 1 ∷ 0 ∷ 0 ∷ 2 ∷ 0 ∷ 0 ∷ []) ++ (root ∷ 0 ∷ 1 ∷ 1 ∷ 0 ∷ 0 ∷ 0 ∷ [])
+facts =
+    replicate 11 0 ++ (1 ∷ 0x80000000 ∷ 1 ∷ 0 ∷ 0 ∷ 0 ∷ 0x9E3779B1 ∷ 0 ∷ 2 ∷ 0 ∷ 0 ∷ []) ++ (2 ∷ 0x02828000 ∷ 0 ∷ 1 ∷ 2 ∷ 0 ∷ 0x60EA27EE ∷ 1 ∷ 0 ∷ 0 ∷ 0 ∷ [])
 
 abbrev sample : Tables
-sample = tables (record { capacity = 3; next = 3; top = 0; live = 2 }) kids facts (replicate 9 0)
+sample = tables (record { capacity = 3; next = 3; freed = 0 }) kids facts (replicate 15 0)
 
 -- the root against EMPTY at depth 1: the cells of codes 0 and 2, one pair opened; the third place stays as it was
 pub root-against-nothing : compareOf sample root 0 1 (91 ∷ 92 ∷ 93 ∷ []) (81 ∷ 82 ∷ 83 ∷ []) (71 ∷ 72 ∷ 73 ∷ [])
     ≡ outcome 0 2 1 (0 ∷ 2 ∷ 93 ∷ []) (1 ∷ 1 ∷ 83 ∷ []) (0 ∷ 0 ∷ 73 ∷ [])
-unfolding compareOf compareNo rootsNo listed putsFrom fitOf liveOrEmpty liveOf floor heightAt differing joined ifDiffers cellOf opened opens branches sumTo part look kind decLe valueAt slot indexOf wordOf kidOf factOf
+unfolding compareOf compareNo rootsNo listed putsFrom fitOf liveOrEmpty liveOf floor heightAt differing joined ifDiffers cellOf opened opens branches sumTo part look kind decLe valueAt slot indexOf wordOf kidOf factOf rowAt rowIn
 root-against-nothing = refl
 
 -- the leaf against EMPTY: a block, listed cell by cell, and nothing opened
 pub leaf-against-nothing : compareOf sample one 0 1 (replicate 8 9) (replicate 8 9) (replicate 8 9)
     ≡ outcome 0 8 0 (0 ∷ 1 ∷ 2 ∷ 3 ∷ 4 ∷ 5 ∷ 6 ∷ 7 ∷ []) (replicate 8 1) (replicate 8 0)
-unfolding compareOf compareNo rootsNo listed putsFrom fitOf liveOrEmpty liveOf floor heightAt differing joined ifDiffers cellOf opened opens branches sumTo part look kind decLe valueAt slot indexOf wordOf kidOf factOf
+unfolding compareOf compareNo rootsNo listed putsFrom fitOf liveOrEmpty liveOf floor heightAt differing joined ifDiffers cellOf opened opens branches sumTo part look kind decLe valueAt slot indexOf wordOf kidOf factOf rowAt rowIn
 leaf-against-nothing = refl
 
 -- no room for the second cell: nothing is counted, and nothing changes
 pub no-room : compareOf sample root 0 1 (91 ∷ []) (81 ∷ []) (71 ∷ []) ≡ outcome 15 0 0 (91 ∷ []) (81 ∷ []) (71 ∷ [])
-unfolding compareOf compareNo rootsNo fitOf liveOrEmpty liveOf floor heightAt differing joined ifDiffers cellOf look kind decLe valueAt slot indexOf wordOf kidOf factOf
+unfolding compareOf compareNo rootsNo fitOf liveOrEmpty liveOf floor heightAt differing joined ifDiffers cellOf look kind decLe valueAt slot indexOf wordOf kidOf factOf rowAt rowIn
 no-room = refl
 
 -- a root taller than the depth is refused before that, an id that is not live before that, and parts of different lengths before all
 pub too-tall : compareOf sample root 0 0 [] [] [] ≡ outcome 8 0 0 [] [] []
-unfolding compareOf compareNo rootsNo fitOf liveOrEmpty liveOf floor heightAt slot indexOf wordOf kidOf factOf
+unfolding compareOf compareNo rootsNo fitOf liveOrEmpty liveOf floor heightAt slot indexOf wordOf kidOf factOf rowAt rowIn
 too-tall = refl
 
 pub not-live : compareOf sample root 5 0 [] [] [] ≡ outcome 4 0 0 [] [] []
-unfolding compareOf compareNo rootsNo fitOf liveOrEmpty liveOf floor slot indexOf wordOf kidOf factOf
+unfolding compareOf compareNo rootsNo fitOf liveOrEmpty liveOf floor slot indexOf wordOf kidOf factOf rowAt rowIn
 not-live = refl
 
 pub parts-differ : compareOf sample root 5 7 (91 ∷ []) (81 ∷ []) [] ≡ outcome 1 0 0 (91 ∷ []) (81 ∷ []) []

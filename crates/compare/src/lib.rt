@@ -28,13 +28,13 @@ pub struct Compared {
 }
 
 // Refusals 4 and 8: each root is EMPTY or live, and neither is taller than the depth.
-fn roots_no(capacity: usize, facts: &[u64], a: u64, b: u64, depth: u32) -> u32
+fn roots_no(capacity: usize, facts: &[u32], a: u64, b: u64, depth: u32) -> u32
     ensures { λ k. ⌜ k ≡ rootsBy capacity (factOf (now (facts .entry))) a b depth ⌝ }
 {
     if is_live_or_empty(capacity, facts, a) {
         if is_live_or_empty(capacity, facts, b) {
-            if height_at(facts, a) <= depth as u64 {
-                if height_at(facts, b) <= depth as u64 {
+            if height_at(facts, a) <= depth {
+                if height_at(facts, b) <= depth {
                     return 0;
                 }
             }
@@ -48,7 +48,7 @@ fn roots_no(capacity: usize, facts: &[u64], a: u64, b: u64, depth: u32) -> u32
 fn first_no(
     arena: Arena,
     kids: &[u64],
-    facts: &[u64],
+    facts: &[u32],
     find: &[u16],
     a: u64,
     b: u64,
@@ -73,7 +73,7 @@ fn first_no(
 }
 
 // Is there room for every cell that differs? Where there is room for the whole cube they need not be counted.
-fn has_room(kids: &[u64], facts: &[u64], a: u64, b: u64, depth: u32, room: usize) -> bool
+fn has_room(kids: &[u64], facts: &[u32], a: u64, b: u64, depth: u32, room: usize) -> bool
     requires { ⌜ depth ≤ deepest ⌝ }
     ensures { λ r. ⌜ r ≡ leb (length (differing cubeKids (wordsIn kids facts) depth a b)) room ⌝ }
 {
@@ -98,7 +98,7 @@ fn refused(no: u32) -> Compared
 pub fn compare(
     arena: Arena,
     kids: &[u64],
-    facts: &[u64],
+    facts: &[u32],
     find: &[u16],
     left: BlockId,
     right: BlockId,

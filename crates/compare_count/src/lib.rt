@@ -38,7 +38,7 @@ fn count_cell(u: u16, v: u16) -> u32
 }
 
 // The cells of the eight children of a branch, against one value on the other side.
-fn count_against(kids: &[u64], facts: &[u64], id: u64, v: u16) -> u32
+fn count_against(kids: &[u64], facts: &[u32], id: u64, v: u16) -> u32
     ensures { λ r. ⌜ r ≡ againstTo (wordsIn kids facts) id v cubeKids ⌝ }
 {
     let row = children(kids, slot_of(id));
@@ -52,7 +52,7 @@ fn count_against(kids: &[u64], facts: &[u64], id: u64, v: u16) -> u32
 }
 
 // The cells of the eight children of two branches.
-fn count_both(kids: &[u64], facts: &[u64], a: u64, b: u64) -> u32
+fn count_both(kids: &[u64], facts: &[u32], a: u64, b: u64) -> u32
     ensures { λ r. ⌜ r ≡ bothTo (wordsIn kids facts) a b cubeKids ⌝ }
 {
     let lefts = children(kids, slot_of(a));
@@ -67,7 +67,7 @@ fn count_both(kids: &[u64], facts: &[u64], a: u64, b: u64) -> u32
 }
 
 // The eight cells of an opened pair, one level above them.
-fn count_cells(kids: &[u64], facts: &[u64], a: u64, b: u64) -> u32
+fn count_cells(kids: &[u64], facts: &[u32], a: u64, b: u64) -> u32
     requires { ⌜ goesOn 1 a b ≡ true ⌝ }
     ensures { λ r. ⌜ r ≡ placesCount (wordsIn kids facts) 0 a b cubeKids ⌝ }
 {
@@ -83,7 +83,7 @@ fn count_cells(kids: &[u64], facts: &[u64], a: u64, b: u64) -> u32
 // ---- pairs and places
 
 // A pair, `left` levels above the cells.
-fn count_pair(kids: &[u64], facts: &[u64], a: u64, b: u64, left: u32) -> u32
+fn count_pair(kids: &[u64], facts: &[u32], a: u64, b: u64, left: u32) -> u32
     requires { ⌜ left ≤ deepest ⌝ }
     ensures { λ r. ⌜ r ≡ countIn cubeKids (wordsIn kids facts) left a b ⌝ }
 {
@@ -100,7 +100,7 @@ fn count_pair(kids: &[u64], facts: &[u64], a: u64, b: u64, left: u32) -> u32
 }
 
 // The eight places of an opened pair in turn, each `left` levels above the cells.
-fn count_places(kids: &[u64], facts: &[u64], a: u64, b: u64, left: u32) -> u32
+fn count_places(kids: &[u64], facts: &[u32], a: u64, b: u64, left: u32) -> u32
     requires { ⌜ left < deepest ⌝ }
     ensures { λ r. ⌜ r ≡ placesCount (wordsIn kids facts) left a b cubeKids ⌝ }
 {
@@ -116,7 +116,7 @@ fn count_places(kids: &[u64], facts: &[u64], a: u64, b: u64, left: u32) -> u32
 }
 
 // In how many cells of a cube of the depth two ids differ; of a depth above 6 in none.
-pub fn count_differing(kids: &[u64], facts: &[u64], a: u64, b: u64, depth: u32) -> u32
+pub fn count_differing(kids: &[u64], facts: &[u32], a: u64, b: u64, depth: u32) -> u32
     ensures { λ r. ⌜ r ≡ countOf (wordsIn kids facts) a b depth ⌝ }
 {
     if depth <= DEEPEST {

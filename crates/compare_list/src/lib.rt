@@ -106,7 +106,7 @@ fn one_cell(
 // The eight cells of a branch on the left, against one value on the right. The place after the last.
 fn left_cells(
     kids: &[u64],
-    facts: &[u64],
+    facts: &[u32],
     codes: &mut [u32],
     lefts: &mut [u16],
     rights: &mut [u16],
@@ -135,7 +135,7 @@ fn left_cells(
 // The eight cells of a branch on the right, against one value on the left. The place after the last.
 fn right_cells(
     kids: &[u64],
-    facts: &[u64],
+    facts: &[u32],
     codes: &mut [u32],
     lefts: &mut [u16],
     rights: &mut [u16],
@@ -164,7 +164,7 @@ fn right_cells(
 // The eight cells of two branches. The place after the last.
 fn both_cells(
     kids: &[u64],
-    facts: &[u64],
+    facts: &[u32],
     codes: &mut [u32],
     lefts: &mut [u16],
     rights: &mut [u16],
@@ -201,7 +201,7 @@ fn both_cells(
 // The eight cells of an opened pair, one level above them. The place after the last.
 fn eight_cells(
     kids: &[u64],
-    facts: &[u64],
+    facts: &[u32],
     codes: &mut [u32],
     lefts: &mut [u16],
     rights: &mut [u16],
@@ -228,7 +228,7 @@ fn eight_cells(
 // The differing cells of a pair, `left` levels above the cells, whose codes start at `base`: from place `at` of the list on.
 fn pair(
     kids: &[u64],
-    facts: &[u64],
+    facts: &[u32],
     codes: &mut [u32],
     lefts: &mut [u16],
     rights: &mut [u16],
@@ -283,7 +283,7 @@ fn pair(
 // The eight places of an opened pair in turn, each of `size` cells, `left` levels above them.
 fn places(
     kids: &[u64],
-    facts: &[u64],
+    facts: &[u32],
     codes: &mut [u32],
     lefts: &mut [u16],
     rights: &mut [u16],
@@ -344,7 +344,7 @@ fn size_of(d: u32) -> u32
 // All differing cells of a cube of the depth, from the start of the list.
 fn write_cells(
     kids: &[u64],
-    facts: &[u64],
+    facts: &[u32],
     a: u64,
     b: u64,
     depth: u32,
@@ -379,7 +379,7 @@ fn write_cells(
 // opened. Writes nothing, and answers none, where the parts of the list differ in length or the depth is above 6.
 pub fn write_differing(
     kids: &[u64],
-    facts: &[u64],
+    facts: &[u32],
     a: u64,
     b: u64,
     depth: u32,

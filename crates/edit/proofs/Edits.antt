@@ -22,9 +22,8 @@ use Rattle.tree.proofs.CellLaws.{cube-cell}
 use Rattle.tree.proofs.Making.{edited, renewed, anew-later}
 use Rattle.tree.proofs.Plan.{plan-have, plan-lack}
 use Rattle.tree.proofs.Room.{plan-some}
-use Rattle.arena.specs.Tables.{Tables, cap, W, WellFormed}
+use Rattle.arena.specs.Tables.{State, liveIn, Tables, cap, W, WellFormed}
 use Rattle.arena.specs.Calls.{Out, refused, Fair, fits, fullOf, heldAt, freshNode, leafAnew, branchAnew}
-use Rattle.arena.specs.declared.Arena.{Arena}
 use Rattle.arena.proofs.Inv.{inv-wf, sized-within}
 use Rattle.arena.proofs.Leaves.{held-kept}
 use Rattle.ledger.proofs.Writes.{held-word, held-here, held-there}
@@ -69,10 +68,10 @@ unfolding heldAt
 granted-arena t r = cases (ℕ-discrete r 0) (λ z. rw (granted-empty t r z)) (λ z. ap (λ (u : Tables). u .arena) (granted-node t r z))
 
 pub granted-cap : (t : Tables) (r : ℕ) → cap (granted t r) ≡ cap t
-granted-cap t r = ap (λ (a : Arena). a .capacity) (granted-arena t r)
+granted-cap t r = ap (λ (a : State). a .capacity) (granted-arena t r)
 
-pub granted-live : (t : Tables) (r : ℕ) → granted t r .arena .live ≡ t .arena .live
-granted-live t r = ap (λ (a : Arena). a .live) (granted-arena t r)
+pub granted-live : (t : Tables) (r : ℕ) → liveIn (granted t r .arena) ≡ liveIn (t .arena)
+granted-live t r = ap liveIn (granted-arena t r)
 
 granted-effect : {n tallest : ℕ} {t : Tables} (r : ℕ) → WellFormed n tallest t → LiveOr0 (cap t) (W t) r → Effect n t (granted t r) r
 granted-effect {t} r w there = record {
@@ -110,10 +109,10 @@ not-full t r d e = split (fullOf (W t) (slot r))
     (λ f. f)
 
 -- refusal 11 was not given: there is room for k nodes
-pub grant-room : (t : Tables) (k : ℕ) → grantNo t (lack k) ≡ 0 → k ≤ cap t - 1 - t .arena .live
+pub grant-room : (t : Tables) (k : ℕ) → grantNo t (lack k) ≡ 0 → k ≤ cap t - 1 - liveIn (t .arena)
 unfolding grantNo
-grant-room t k e = cases (decLe k (cap t - 1 - t .arena .live)) (λ l. l)
-    (λ l. absurd (let z : _≡_ {A = ℕ} 11 0 = (rw (lt-leb k (cap t - 1 - t .arena .live) (omega arith)) at e) in omega arith))
+grant-room t k e = cases (decLe k (cap t - 1 - liveIn (t .arena))) (λ l. l)
+    (λ l. absurd (let z : _≡_ {A = ℕ} 11 0 = (rw (lt-leb k (cap t - 1 - liveIn (t .arena)) (omega arith)) at e) in omega arith))
 
 granted-well : {n tallest : ℕ} → n ≤ kidWords → {t : Tables} (r : ℕ) → WellFormed n tallest t → LiveOr0 (cap t) (W t) r → grantNo t (have r) ≡ 0
     → WellFormed n tallest (granted t r)

@@ -15,7 +15,7 @@ use Rattle.tree.specs.Tree.{LiveOr0, Cell}
 use Rattle.tree.specs.Lacks.{Need, have, lack}
 use Rattle.tree.proofs.Room.{plan-some}
 use Rattle.arena.specs.Calls.{Out}
-use Rattle.arena.specs.Tables.{Tables, cap, W, WellFormed}
+use Rattle.arena.specs.Tables.{liveIn, Tables, cap, W, WellFormed}
 use Rattle.arena.proofs.Fresh.{fresh-gens}
 use Rattle.edit.specs.Edit.{planOf, resultOf, makeOf, grantNo, granted, answerOf, cellNo, editCell, editOf}
 use Rattle.edit.specs.Promises.{Posed}
@@ -32,10 +32,10 @@ Gens-kept t u = (b : ℕ) → generationOf (W u b own) ≡ generationOf (W t b o
 
 make-gens : {n tallest : ℕ} {t : Tables} → n ≤ kidWords → 1 < n → WellFormed n tallest t → (x : ℕ) → x ≤ largestValue → {d : ℕ} {p : List ℕ} (a k h q : ℕ)
     → LiveOr0 (cap t) (W t) a → heightAt (W t) a ≤ d → d ≤ tallest → Cell n d p
-    → planOf n t x p a ≡ lack k → t .arena .live + k < cap t → h ≤ mostHolds → 1 ≤ h + q → Gens-kept t (makeOf n t x p a h q .after)
+    → planOf n t x p a ≡ lack k → liveIn (t .arena) + k < cap t → h ≤ mostHolds → 1 ≤ h + q → Gens-kept t (makeOf n t x p a h q .after)
 make-gens {t = t} m two w x fits-16 =
     make-brings m two w x fits-16 (λ k u. Gens-kept t u) (λ k o. Gens-kept t (o .after)) (λ b. refl)
-    (λ j u s z b. ap generationOf (owed-word u s b own (omega arith)) ∙ z b) (λ j v o ks y h q z e c room f b. fresh-gens f b ∙ z b) (λ j o z. z)
+    (λ j u s z b. ap generationOf (owed-word u s b own (omega arith)) ∙ z b) (λ j v o ks y h q z e room f b. fresh-gens f b ∙ z b) (λ j o z. z)
 
 -- ## The edit
 

@@ -14,8 +14,7 @@ use Rattle.nodes.proofs.Counts.{live-nonzero}
 use Rattle.nodes.proofs.Sums.{cases, occ-cons, occ-here, occ-append}
 use Rattle.tree.specs.Tree.{LiveOr0, Extends}
 use Rattle.arena.specs.Calls.{each, placedKid}
-use Rattle.arena.specs.Tables.{Tables, cap, W}
-use Rattle.arena.specs.declared.Arena.{Arena}
+use Rattle.arena.specs.Tables.{State, Tables, cap, W}
 use Rattle.arena.proofs.Fresh.{Grown}
 use Rattle.arena.proofs.Inv.{Inv, Content, inv-debt, content-recount}
 use Rattle.arena.proofs.Places.{placed-inv, placed-word}
@@ -99,7 +98,7 @@ each-arena [] t = ap (λ (u : Tables). u .arena) (each-nil t)
 each-arena (k ∷ ks) t = ap (λ (u : Tables). u .arena) (each-cons t k ks) ∙ each-arena ks (owed t k) ∙ owed-arena t k
 
 pub each-cap : (ks : List ℕ) (t : Tables) → cap (each owed t ks) ≡ cap t
-each-cap ks t = ap (λ (a : Arena). a .capacity) (each-arena ks t)
+each-cap ks t = ap (λ (a : State). a .capacity) (each-arena ks t)
 
 module _ (n tallest : ℕ) (t : Tables) (k : ℕ) (ks d : List ℕ) where
   each-step : Grown n tallest t (owed t k) (k ∷ d) 0 → Grown n tallest (owed t k) (each owed (owed t k) ks) (ks ++ (k ∷ d)) 0

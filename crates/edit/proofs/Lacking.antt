@@ -16,7 +16,7 @@ use Rattle.tree.specs.Room.{Bare}
 use Rattle.tree.proofs.Making.{renewed, anew-later, anew-one}
 use Rattle.tree.proofs.Plan.{plan-have}
 use Rattle.tree.proofs.Room.{tables-bare, there-more, made-more, anew-more, plan-few, room, lacks-newly, newly-one, newly-old}
-use Rattle.arena.specs.Tables.{Tables, cap, W}
+use Rattle.arena.specs.Tables.{liveIn, Tables, cap, W}
 use Rattle.read_cell.proofs.Meaning.{wf-made}
 use Rattle.edit.specs.Edit.{planOf, resultOf, cellNo}
 use Rattle.edit.specs.Promises.{Posed, Imagined, Missing}
@@ -123,10 +123,10 @@ module _ {n tallest : ℕ} {t : Tables} {root d : ℕ} {cell : List ℕ} (q : Po
 
   -- with the refusals before it past, 11 is given exactly if that number is above the number of free slots
   pub eleven-right : (k : ℕ) → Missing n t root cell v k
-      → (cellNo n t root d cell v ≡ 11 → cap t - 1 - t .arena .live < k) × (cap t - 1 - t .arena .live < k → cellNo n t root d cell v ≡ 11)
+      → (cellNo n t root d cell v ≡ 11 → cap t - 1 - liveIn (t .arena) < k) × (cap t - 1 - liveIn (t .arena) < k → cellNo n t root d cell v ≡ 11)
   eleven-right k m = (short, given)
     where
-      short : cellNo n t root d cell v ≡ 11 → cap t - 1 - t .arena .live < k
+      short : cellNo n t root d cell v ≡ 11 → cap t - 1 - liveIn (t .arena) < k
       short e =
           let r = eleven q v low e in
           let s = r .1 in
@@ -134,11 +134,11 @@ module _ {n tallest : ℕ} {t : Tables} {root d : ℕ} {cell : List ℕ} (q : Po
           let f = s .2 in
           omega arith
 
-      go : look (W t) cell root ≢ v → (r : Need) → planOf n t v cell root ≡ r → cap t - 1 - t .arena .live < k → cellNo n t root d cell v ≡ 11
+      go : look (W t) cell root ≢ v → (r : Need) → planOf n t v cell root ≡ r → cap t - 1 - liveIn (t .arena) < k → cellNo n t root d cell v ≡ 11
       go z (have r) e h = absurd (let p = had-none k m r z e in omega arith)
       go z (lack j) e h = let p = lacked k m j z e in eleven-given q v low j z e (omega arith)
 
-      given : cap t - 1 - t .arena .live < k → cellNo n t root d cell v ≡ 11
+      given : cap t - 1 - liveIn (t .arena) < k → cellNo n t root d cell v ≡ 11
       given h = cases (ℕ-discrete (look (W t) cell root) v)
           (λ z. absurd (let p = asked-none k m z in omega arith))
           (λ z. go z (planOf n t v cell root) refl h)

@@ -19,7 +19,7 @@ use Rattle.paths.specs.Paths.{inside, whole, cellFrom, toCell}
 use Rattle.tree.specs.Tree.{LiveOr0, look}
 use Rattle.tree.specs.Lacks.{Need, have, lack}
 use Rattle.tree.proofs.CellLaws.{cube-cell}
-use Rattle.arena.specs.Tables.{Tables, tables, tablesOf, cap, W, WellFormed}
+use Rattle.arena.specs.Tables.{liveIn, Tables, tables, tablesOf, cap, W, WellFormed}
 use Rattle.arena.specs.Models.{bumped}
 use Rattle.arena.specs.Calls.{liveOrEmpty, Out, said, refused, fits, Fair, fullOf, heldAt}
 use Rattle.arena.proofs.Branching.{full-few}
@@ -111,12 +111,12 @@ have-end t v c r root new = cases (ℕ-discrete (grantNo t (have r)) 0)
     (λ e. ap (λ (u : Tables). pick (eqb (grantNo t (have r)) 0) (said 0 r u) (refused (grantNo t (have r)) t)) (grant-same t r (grant-few t r e)))
     (λ e. rw (ne-eqb (grantNo t (have r)) 0 e))
 
-lack-end : (t : Tables) (v : ℕ) (c : Cell) (k s root : ℕ) (new : Out) → 1 ≤ k → (k ≤ cap t - 1 - t .arena .live → makeAt t v c root (planned k s) 1 0 ≡ new)
+lack-end : (t : Tables) (v : ℕ) (c : Cell) (k s root : ℕ) (new : Out) → 1 ≤ k → (k ≤ cap t - 1 - liveIn (t .arena) → makeAt t v c root (planned k s) 1 0 ≡ new)
     → editPast t v c root (planned k s) ≡ ended t (lack k) new
 unfolding editPast grantBy grantNo answerBy answerOf
-lack-end t v c k s root new one h = cases (decLe k (cap t - 1 - t .arena .live))
-    (λ l. rw (ne-eqb k 0 (omega arith), le-leb k (cap t - 1 - t .arena .live) l) (h l))
-    (λ l. rw (ne-eqb k 0 (omega arith), lt-leb k (cap t - 1 - t .arena .live) (omega arith)))
+lack-end t v c k s root new one h = cases (decLe k (cap t - 1 - liveIn (t .arena)))
+    (λ l. rw (ne-eqb k 0 (omega arith), le-leb k (cap t - 1 - liveIn (t .arena)) l) (h l))
+    (λ l. rw (ne-eqb k 0 (omega arith), lt-leb k (cap t - 1 - liveIn (t .arena)) (omega arith)))
 
 -- ---- the whole
 

@@ -1,7 +1,7 @@
 -- The code's way is the definition's, on well-formed tables.
 use mathlib.Core.Path.{_≡_, refl, sym, ap, ap₂, _∙_, subst}
 use mathlib.Core.Logic.{_≢_, _⊎_, inl, inr, ⊎-elim}
-use mathlib.Core.Bool.{false, true≢false}
+use mathlib.Core.Bool.{Bool, false, true≢false}
 use mathlib.Core.List.{List, [], _∷_, _++_}
 use Prim.Native.Nat.{ℕ, zero, suc, _+_, _-_, _/_, _≤_, _<_}
 use native.Mathlib.Decide.{ℕ-discrete}
@@ -12,36 +12,40 @@ use borrow.Author.Tests.{eq-eqb, ne-eqb, lt-ltb}
 use Rattle.basics.specs.Limits.{cubeKids, kidWords, largestValue, mostHolds}
 use Rattle.basics.specs.Pick.{pick}
 use Rattle.ids.specs.Ids.{isLeaf}
-use Rattle.nodes.specs.Words.{Nodes, Words, own, value, slot}
+use Rattle.nodes.specs.Words.{Nodes, Words, own, hash}
 use Rattle.nodes.specs.Tally.{tabFrom, occ, Live}
 use Rattle.nodes.proofs.Counts.{total-append}
-use Rattle.nodes.proofs.Sums.{cases, split, sumTo-ext, tabFrom-ext, tabFrom-length, tab-list, occ-nil, occ-there}
-use Rattle.find.specs.Content.{contentIs}
-use Rattle.find.proofs.Contents.{content-true, content-words}
+use Rattle.nodes.proofs.Sums.{cases, split, tabFrom-ext, tabFrom-length, tab-list, occ-nil, occ-there}
+use Rattle.find_hash.specs.Hash.{leafHash, kidsHash, rekidsHash}
+use Rattle.find.specs.Cells.{leafCell, kidsCell}
+use Rattle.find.specs.Content.{leafIs, kidsAre}
+use Rattle.find.proofs.Contents.{leaf-words, kids-true, kids-words, kids-are}
 use Rattle.tree.specs.Tree.{LiveOr0, WellMade, Cell, here, down}
 use Rattle.tree.specs.Anew.{part, replace}
 use Rattle.tree.specs.Lacks.{Need, have, lack, Plan}
+use Rattle.tree.proofs.Grow.{extends-keeps, value-later, height-later}
 use Rattle.tree.proofs.Making.{part-there, part-low, replace-same, replace-other}
-use Rattle.arena.specs.Node.{valueFor, heightFor}
+use Rattle.arena.specs.Node.{sumFor, valueFor, heightFor}
 use Rattle.nodes.specs.Values.{heightAt, valueAt}
-use Rattle.arena.specs.Tables.{Tables, tablesOf, cap, W, LiveSlot, WellFormed}
-use Rattle.arena.specs.Calls.{Out, said, allOf, each, placedKid, empties, leafAnew, branchAnew, leafSlot, branchSlot}
-use Rattle.arena.specs.Models.{moreOf, cellFor, topFor, valueBy}
+use Rattle.arena.specs.Tables.{liveIn, Tables, tablesOf, cap, W, LiveSlot, WellFormed}
+use Rattle.arena.specs.Calls.{Out, said, allOf, each, placedKid, leafAnew, branchAnew, leafSlot, branchSlot}
+use Rattle.arena.specs.Models.{moreOf, kidsFor, sumBy}
 use Rattle.arena.proofs.Branches.{branch-words, slot-lone}
-use Rattle.arena.proofs.Fresh.{sum-wraps, value-by as kids-value, number-ends, leaf-fresh, branch-fresh}
+use Rattle.arena.proofs.Fresh.{sum-by, number-ends, leaf-fresh, branch-fresh}
+use Rattle.arena.proofs.Ids.{node-leaf}
 use Rattle.arena.proofs.Inv.{Inv, wf-inv}
 use Rattle.arena.proofs.Places.{more-few, owing}
-use Rattle.arena.proofs.Leaves.{search-hit, search-miss, no-leaf, leaf-in, leaf-slot, leaf-content}
-use Rattle.arena.proofs.Branching.{found-slot, height-top}
-use Rattle.arena.proofs.Rows.{empties-length}
+use Rattle.arena.proofs.Leaves.{no-leaf, leaf-in, leaf-is, leaf-slot}
+use Rattle.arena.proofs.Searched.{kids-hash, leaf-one, kids-one, search-hit, search-miss}
+use Rattle.arena.proofs.Branching.{found-slot}
 use Rattle.read_cell.proofs.Meaning.{wf-made}
-use Rattle.read_cell.proofs.Laws.{well-small}
 use Rattle.edit.specs.Edit.{wordsOf, oneLeaf, needOf, cellNeed, upNeed, planOf, owed, lowOf, makeOf}
-use Rattle.edit_plan.specs.Models.{planned, eightParts, foundBy, leafKids, slotPlan, cellPlan, needPlan, upPlan, planBy}
+use Rattle.edit_plan.specs.Models.{planned, eightParts, leafFound, kidsFound, leafKids, slotPlan, cellPlan, needPlan, upPlan, planBy}
 use Rattle.edit_plan.specs.declared.Plan as planning
 use Rattle.edit_plan.proofs.Plans.{tab-get}
-use Rattle.edit_make.specs.Models.{owedBy, leafAnewBy, branchAnewBy, upBy, makeBy}
-use Rattle.edit.proofs.Growing.{each-nil, each-cons}
+use Rattle.edit_make.specs.Models.{owedBy, hashOver, sumOver, heightOver, resum, leafAnewBy, branchAnewBy, upBy, makeBy}
+use Rattle.edit.proofs.Growing.{each-nil, each-cons, grown-trans, grown-extends}
+use Rattle.edit.proofs.Kept.{small-value, hash-over, sum-over, sum-fits, hash-set, resum-set, height-set}
 use Rattle.edit.proofs.Planning.{all-yes, words-length, words-at, Cell-came, cell-none, cell-leaf, cell-lack, cell-came, plan-is, parts-there}
 use Rattle.edit.proofs.Upward.{Low, Done, low-have, low-lack, placed, lowers, eight, others-live, set-at, set-other, lack-inj, have-lack, over, make-done}
 
@@ -90,53 +94,52 @@ module _ {tallest : ℕ} {t : Tables} (w : WellFormed cubeKids tallest t) where
   abbrev pos : 1 ≤ cubeKids
   pos = omega arith
 
-  value-low : (y : ℕ) → valueAt (W t) y ≤ largestValue
-  unfolding valueAt
-  value-low y = split (eqb y 0) (λ e. rw e (omega arith)) (λ e. rw e (let z = well-small w (slot y) in omega arith))
-
-  value-by : (ks : List ℕ) → valueBy cubeKids (W t) ks ≡ valueFor cubeKids (W t) ks
-  unfolding valueBy valueFor
-  value-by ks = ap (λ (z : ℕ). z / cubeKids) (sum-wraps (W t) ks cubeKids (λ i l. value-low (getD ks i 0)))
-
   -- the search finds what the scan finds
-  find-leaf : (x : ℕ) → x ≢ 0 → foundBy t empties x ≡ leafSlot t x
-  unfolding foundBy
+  find-leaf : (x : ℕ) → x ≢ 0 → leafFound t x ≡ leafSlot t x
+  unfolding leafFound leafCell
   find-leaf x d = cases (ℕ-discrete (leafSlot t x) 0)
-      (λ z. search-miss w empties x empties-length (no-leaf m w x d z) ∙ sym z)
+      (λ z. search-miss m w (leafIs (W t) (leafHash x) x) (leafHash x) (no-leaf m w x d z) ∙ sym z)
       (λ z.
       let q = leaf-slot m w x d z in
-      search-hit w empties x empties-length (leafSlot t x) (leaf-in m w x d (leafSlot t x) (q .0) (q .1) .0) (leaf-content m w x d (leafSlot t x) (q .0) (q .1)))
+      let p = leaf-in m w x d (leafSlot t x) (q .0) (q .1) in
+      let i = leaf-is m w x d (leafSlot t x) (q .0) (q .1) in
+      let e = leaf-words (W t) (leafHash x) x (leafSlot t x) i in
+      search-hit m w (leafIs (W t) (leafHash x) x) (leafHash x) (leafSlot t x) (p .0) (p .1 .hashed ∙ ap leafHash (p .2)) i
+      (λ y l h. let c = leaf-words (W t) (leafHash x) x y h in leaf-one m w y (leafSlot t x) l (p .0) (c .1) (e .1) (c .2 ∙ sym (e .2))))
 
   module _ (f : ℕ → ℕ) (e : allOf (eqb 0) (tabFrom cubeKids 0 f) ≡ false) where
-    -- a live slot with those children has their value
-    slot-value : (s : ℕ) → LiveSlot t s → ((j : ℕ) → j < cubeKids → W t s j ≡ getD (wordsOf cubeKids f) j 0) → W t s value ≡ valueFor cubeKids (W t) (wordsOf cubeKids f)
-    unfolding valueFor
-    slot-value s l h = ⊎-elim
-        (λ b. absurd (true≢false (sym (all-yes 0 cubeKids 0 f (λ j p q. sym (words-at cubeKids f j (omega arith) (omega arith)) ∙ sym (h j (omega arith)) ∙ b .bare j (omega arith))) ∙ e)))
-        (λ b. b .averaged ∙ ap (λ (z : ℕ). z / cubeKids) (sumTo-ext cubeKids (λ i. valueAt (W t) (W t s i)) (λ i. valueAt (W t) (getD (wordsOf cubeKids f) i 0)) (λ i k. ap (valueAt (W t)) (h i k))))
-        (w .nodes s l .kind)
+    abbrev ks : List ℕ
+    ks = wordsOf cubeKids f
 
-    find-branch : foundBy t (wordsOf cubeKids f) (valueBy cubeKids (W t) (wordsOf cubeKids f)) ≡ branchSlot t (wordsOf cubeKids f)
-    unfolding foundBy
-    find-branch = rw (value-by (wordsOf cubeKids f)) (cases (ℕ-discrete (branchSlot t (wordsOf cubeKids f)) 0)
-        (λ z. search-miss w (wordsOf cubeKids f) (valueFor cubeKids (W t) (wordsOf cubeKids f)) (words-length cubeKids f) (none z) ∙ sym z)
-        (λ z. hit z))
+    abbrev same : ℕ → Bool
+    same = kidsAre (W t) (kidsHash ks) ks
+
+    -- a live slot with those children has a branch, with their hash
+    slot-branch : (s : ℕ) → LiveSlot t s → ((j : ℕ) → j < kidWords → W t s j ≡ getD ks j 0) → (isLeaf (W t s own) ≡ false) × (W t s hash ≡ kidsHash ks)
+    slot-branch s l h = split (isLeaf (W t s own))
+        (λ b. absurd (true≢false (sym (all-yes 0 cubeKids 0 f
+        (λ j p q. sym (words-at cubeKids f j (omega arith) (omega arith)) ∙ sym (h j (omega arith)) ∙ node-leaf m (l .0) (w .sized .most) (w .nodes s l) b .bare j (omega arith))) ∙ e)))
+        (λ b. (b, kids-hash m w s l b ∙ ap kidsHash (kids-are (W t) s ks (words-length cubeKids f) h)))
+
+    find-branch : kidsFound t ks ≡ branchSlot t ks
+    unfolding kidsFound kidsCell
+    find-branch = cases (ℕ-discrete (branchSlot t ks) 0) (λ z. search-miss m w same (kidsHash ks) (none z) ∙ sym z) (λ z. hit z)
       where
-        none : branchSlot t (wordsOf cubeKids f) ≡ 0 → (s : ℕ) → 0 < s → LiveSlot t s → contentIs (W t) (wordsOf cubeKids f) (valueFor cubeKids (W t) (wordsOf cubeKids f)) s ≡ false
-        none z s p l = split (contentIs (W t) (wordsOf cubeKids f) (valueFor cubeKids (W t) (wordsOf cubeKids f)) s)
-            (λ q. absurd (slot-lone t (wordsOf cubeKids f) (words-length cubeKids f) z s l (omega arith) (content-words (W t) (wordsOf cubeKids f) (valueFor cubeKids (W t) (wordsOf cubeKids f)) s (words-length cubeKids f) q .0)))
+        none : branchSlot t ks ≡ 0 → (s : ℕ) → 0 < s → LiveSlot t s → same s ≡ false
+        none z s p l = split (same s)
+            (λ q. absurd (slot-lone t ks (words-length cubeKids f) z s l (omega arith) (kids-words (W t) (kidsHash ks) ks s (words-length cubeKids f) q .1)))
             (λ q. q)
 
-        hit : branchSlot t (wordsOf cubeKids f) ≢ 0 → getD (t .find) (cellFor t (wordsOf cubeKids f) (valueFor cubeKids (W t) (wordsOf cubeKids f))) 0 ≡ branchSlot t (wordsOf cubeKids f)
+        hit : branchSlot t ks ≢ 0 → getD (t .find) (kidsFor t ks) 0 ≡ branchSlot t ks
         hit z =
-            let r = found-slot t (wordsOf cubeKids f) z in
+            let r = found-slot t ks z in
             let n = words-length cubeKids f in
-            let b = branch-words t (wordsOf cubeKids f) (branchSlot t (wordsOf cubeKids f)) (r .0) in
-            let l : LiveSlot t (branchSlot t (wordsOf cubeKids f)) = (r .1, b .0) in
-            let k : (j : ℕ) → j < kidWords → W t (branchSlot t (wordsOf cubeKids f)) j ≡ getD (wordsOf cubeKids f) j 0 =
-            (λ j h. let q : 0 + j ≡ j = omega arith in rw q at (b .1 j (omega arith))) in
-            search-hit w (wordsOf cubeKids f) (valueFor cubeKids (W t) (wordsOf cubeKids f)) n (branchSlot t (wordsOf cubeKids f)) l
-            (content-true (W t) (wordsOf cubeKids f) (valueFor cubeKids (W t) (wordsOf cubeKids f)) (branchSlot t (wordsOf cubeKids f)) n k (slot-value (branchSlot t (wordsOf cubeKids f)) l (λ j h. k j (omega arith))))
+            let b = branch-words t ks (branchSlot t ks) (r .0) in
+            let l : LiveSlot t (branchSlot t ks) = (r .1, b .0) in
+            let k : (j : ℕ) → j < kidWords → W t (branchSlot t ks) j ≡ getD ks j 0 = (λ j h. let q : 0 + j ≡ j = omega arith in rw q at (b .1 j (omega arith))) in
+            let o = slot-branch (branchSlot t ks) l k in
+            search-hit m w same (kidsHash ks) (branchSlot t ks) l (o .1) (kids-true (W t) (kidsHash ks) ks (branchSlot t ks) n (o .1) k)
+            (λ x lx h. kids-one m w x (branchSlot t ks) lx l (o .0) (λ i j. kids-words (W t) (kidsHash ks) ks x n h .1 i j ∙ sym (k i j)))
 
   -- what eight parts come to, by the code
   need-by : (f : ℕ → ℕ) (s : ℕ) → ((r : ℕ) × (needOf cubeKids t f ≡ have r) × (needPlan t (wordsOf cubeKids f) s ≡ planned 0 r))
@@ -202,17 +205,25 @@ each-same ks {t} d n i h = ap (λ (x : Nodes). tablesOf (t .arena) x (t .find)) 
 
 -- ---- a fresh node
 
-leaf-same : {t : Tables} (d : List ℕ) (x h q : ℕ) → Inv t d → t .arena .live + 1 < cap t → leafAnewBy t x h q ≡ leafAnew t x h q
+leaf-same : {t : Tables} (d : List ℕ) (x h q : ℕ) → Inv t d → liveIn (t .arena) + 1 < cap t → leafAnewBy t x h q ≡ leafAnew t x h q
 unfolding leafAnewBy
-leaf-same d x h q i room = leaf-fresh d i room x h q _ (number-ends d i room empties x)
+leaf-same d x h q i room = leaf-fresh d i room x h q _ (number-ends d i room (leafHash x))
 
-branch-same : {t : Tables} (d ks : List ℕ) (h q : ℕ) → Inv t d → t .arena .live + 1 < cap t
-    → valueBy cubeKids (W t) ks ≡ valueFor cubeKids (W t) ks → heightFor cubeKids (W t) ks ≤ 1000
-    → branchAnewBy t ks h q ≡ branchAnew cubeKids t ks h q
+-- the branch over a part, by what the tables and the parts are
+up-is : (low : Out) (ks : List ℕ) (c k s x g h q : ℕ) (v : Tables) (all : List ℕ) → owedBy (low .after) (set ks c 0) ≡ v → set ks c (low .id) ≡ all
+    → upBy low ks c k s x g h q ≡ branchAnewBy v all (heightOver (W v) all (low .id) g) (resum s x (valueAt (W v) (low .id))) (rekidsHash k c (getD ks c 0) (low .id)) h q
+unfolding upBy
+up-is low ks c k s x g h q v all =
+    ap₂ (λ (u : Tables) (l : List ℕ). branchAnewBy u l (heightOver (W u) l (low .id) g) (resum s x (valueAt (W u) (low .id))) (rekidsHash k c (getD ks c 0) (low .id)) h q)
+
+value-sum : (U : Words) (ks : List ℕ) (s : ℕ) → s ≡ sumFor cubeKids U ks → s / 8 ≡ valueFor cubeKids U ks
+unfolding sumFor valueFor
+value-sum U ks s e = ap (λ (z : ℕ). z / 8) e
+
+branch-same : {t : Tables} (d ks : List ℕ) (up s k h q : ℕ) → Inv t d → liveIn (t .arena) + 1 < cap t
+    → up ≡ heightFor cubeKids (W t) ks → s ≡ sumFor cubeKids (W t) ks → k ≡ kidsHash ks → branchAnewBy t ks up s k h q ≡ branchAnew cubeKids t ks h q
 unfolding branchAnewBy
-branch-same {t} d ks h q i room ev low =
-    branch-fresh d i room cubeKids ks (valueBy cubeKids (W t) ks) (moreOf (topFor (W t) ks cubeKids)) h q _ ev
-    (let g = height-top cubeKids t ks in let b = more-few (topFor (W t) ks cubeKids) (omega arith) in omega arith) (number-ends d i room ks (valueBy cubeKids (W t) ks))
+branch-same {t} d ks up s k h q i room eu es ek = branch-fresh d i room cubeKids ks (s / 8) up s k h q _ (value-sum (W t) ks s es) eu es ek (number-ends d i room k)
 
 kids-fit : cubeKids ≤ kidWords
 kids-fit = omega arith
@@ -232,7 +243,7 @@ unfolding makeBy
 make-zero t x [] a s h q = refl
 make-zero t x (c ∷ p) a s h q = refl
 
-make-more : (t : Tables) (x c : ℕ) (p : List ℕ) (a k s h q : ℕ) → makeBy t x (c ∷ p) a (planned (suc k) s) h q ≡ upBy (makeBy t x p (part (W t) a c) (planned k s) 0 1) (eightParts (W t) a) c h q
+make-more : (t : Tables) (x c : ℕ) (p : List ℕ) (a k s h q : ℕ) → makeBy t x (c ∷ p) a (planned (suc k) s) h q ≡ upBy (makeBy t x p (part (W t) a c) (planned k s) 0 1) (eightParts (W t) a) c (hashOver (W t) a) (sumOver (W t) a) (valueAt (W t) (part (W t) a c)) (heightAt (W t) a) h q
 unfolding makeBy
 make-more t x c p a k s h q = let e : suc k - 1 ≡ k = omega arith in rw (e, ne-eqb (suc k) 0 (omega arith))
 
@@ -252,9 +263,8 @@ module _ {tallest : ℕ} (high : tallest ≤ 900) {t : Tables} (w : WellFormed c
 
   -- the branch over a part
   over-same : (d c a j h q : ℕ) (p : List ℕ) (o : Out) → LiveOr0 (cap t) (W t) a → heightAt (W t) a ≤ suc d → c < cubeKids → Cell cubeKids d p → suc d ≤ tallest
-      → t .arena .live + suc j < cap t → h ≤ mostHolds → 1 ≤ h + q → Low cubeKids tallest t x p a c j o
-      → upBy o (eightParts (W t) a) c h q ≡ over kids-fit two w x small c a h q o
-  unfolding upBy
+      → liveIn (t .arena) + suc j < cap t → h ≤ mostHolds → 1 ≤ h + q → Low cubeKids tallest t x p a c j o
+      → upBy o (eightParts (W t) a) c (hashOver (W t) a) (sumOver (W t) a) (valueAt (W t) (part (W t) a c)) (heightAt (W t) a) h q ≡ over kids-fit two w x small c a h q o
   over-same d c a j h q p o l low b cell tall room few held r =
       let ks = wordsOf cubeKids (replace (part (W t) a) c (o .id)) in
       let e : set (eightParts (W t) a) c (o .id) ≡ ks = words-set (W t) a c (o .id) b in
@@ -265,16 +275,30 @@ module _ {tallest : ℕ} (high : tallest ≤ 900) {t : Tables} (w : WellFormed c
       let same : owedBy (o .after) (set ks c 0) ≡ each owed (o .after) (set ks c 0) =
       each-same (set ks c 0) (o .id ∷ []) (omega (arith, length-set ks c 0)) (r .grown .inv) live in
       let v = each owed (o .after) (set ks c 0) in
-      let ev : valueBy cubeKids (W v) ks ≡ valueFor cubeKids (W v) ks =
-      kids-value cubeKids tallest kids-fit kids-some v ks n (g .content) (λ y a b. g .inv .counts .named y a (omega (arith, total-append kidWords (cap v) (W v) y ks []))) in
+      let es : sumBy cubeKids (W v) ks ≡ sumFor cubeKids (W v) ks =
+      sum-by cubeKids tallest kids-fit kids-some v ks n (g .content) (λ y a b. g .inv .counts .named y a (omega (arith, total-append kidWords (cap v) (W v) y ks []))) in
       let hl = lowers kids-fit two w x small d c a j h q p o l low b cell tall room few held r in
-      rw (e, z, same)
-      (branch-same (ks ++ []) ks h q (g .inv) (let y = g .lives in let k = r .grown .lives in let u = g .caps in let f = r .grown .caps in omega arith) ev
-      (omega arith))
+      let ext = grown-extends (grown-trans (r .grown) g) kids-fit in
+      let there : (i : ℕ) → i < cubeKids → LiveOr0 (cap t) (W t) (part (W t) a i) = (λ i k. part-there cubeKids (cap t) (W t) made a i l k) in
+      let worth : (i : ℕ) → i < cubeKids → valueAt (W v) (part (W t) a i) ≡ valueAt (W t) (part (W t) a i) =
+      (λ i k. sym (value-later cubeKids (cap t) (W t) (W v) made (part (W t) a i) (there i k) (extends-keeps ext (part (W t) a i)))) in
+      let under : (i : ℕ) → i < cubeKids → heightAt (W v) (part (W t) a i) ≤ heightAt (W t) a - 1 =
+      (λ i k.
+      let z = height-later cubeKids (cap t) (W t) (W v) made (part (W t) a i) (there i k) (extends-keeps ext (part (W t) a i)) in
+      let y = part-low cubeKids (cap t) (W t) made a i l k (heightAt (W t) a - 1) (omega arith) in
+      omega arith) in
+      let at : (f : List ℕ → ℕ) → f (set (eightParts (W t) a) c (o .id)) ≡ f ks = (λ f. ap f e) in
+      let eu = height-set (W t) (W v) a c (o .id) b under (omega (arith, at (heightFor cubeKids (W v)))) in
+      let et = resum-set (W t) (W v) a c (o .id) b (sumOver (W t) a) (sum-over w a l) worth (omega (arith, at (sumFor cubeKids (W v)), sum-fits cubeKids (W v) ks es))
+      (small-value w (part (W t) a c) (there c b)) in
+      let ek = hash-set (W t) (W v) a c (o .id) b (hashOver (W t) a) (hash-over w a l) in
+      up-is o (eightParts (W t) a) c (hashOver (W t) a) (sumOver (W t) a) (valueAt (W t) (part (W t) a c)) (heightAt (W t) a) h q v ks (ap (λ (m : List ℕ). owedBy (o .after) m) z ∙ same) e
+      ∙ (branch-same (ks ++ []) ks _ _ _ h q (g .inv) (let y = g .lives in let k = r .grown .lives in let u = g .caps in let f = r .grown .caps in omega arith)
+      (rw e at eu) (rw e at et) (rw e at ek))
 
   -- the code's making is the definition's
   module _ (d c a k h q : ℕ) (p : List ℕ) (l : LiveOr0 (cap t) (W t) a) (low : heightAt (W t) a ≤ suc d) (b : c < cubeKids) (cell : Cell cubeKids d p) (tall : suc d ≤ tallest)
-      (room : t .arena .live + k < cap t) (few : h ≤ mostHolds) (held : 1 ≤ h + q) (new : Out) where
+      (room : liveIn (t .arena) + k < cap t) (few : h ≤ mostHolds) (held : 1 ≤ h + q) (new : Out) where
     part-s : (s : ℕ) → Plan cubeKids (cap t) (W t) x p (part (W t) a c) (have s) → LiveOr0 (cap t) (W t) s
     part-s s u =
         subst (λ (y : ℕ). LiveOr0 (cap t) (W t) y) (replace-same (part (W t) a) c s c refl) (parts-there kids-fit kids-some w x d c a s p l low b cell u c b)
@@ -294,19 +318,19 @@ module _ {tallest : ℕ} (high : tallest ≤ 900) {t : Tables} (w : WellFormed c
         let o : makeBy t x p (part (W t) a c) (planned 0 s) 0 1 ≡ said 0 s (owed t s) =
         make-zero t x p (part (W t) a c) s 0 1
         ∙ ap (said 0 s) (each-same (s ∷ []) [] (omega arith) inv (owed-live s (part-s s u)) ∙ each-cons t s [] ∙ each-nil (owed t s)) in
-        rw z (make-more t x c p a 0 s h q ∙ ap (λ (y : Out). upBy y (eightParts (W t) a) c h q) o
+        rw z (make-more t x c p a 0 s h q ∙ ap (λ (y : Out). upBy y (eightParts (W t) a) c (hashOver (W t) a) (sumOver (W t) a) (valueAt (W t) (part (W t) a c)) (heightAt (W t) a) h q) o
         ∙ over-same d c a 0 h q p (said 0 s (owed t s)) l low b cell tall (omega arith) few held (r .0))
 
     step-lack : (j s : ℕ) → 1 ≤ j → j ≤ 1000 → suc j ≡ k → Done cubeKids tallest t x p (part (W t) a c) j 0 1 new → makeBy t x p (part (W t) a c) (planned j s) 0 1 ≡ new
         → makeBy t x (c ∷ p) a (upPlan t (eightParts (W t) a) c (planned j s)) h q
         ≡ over kids-fit two w x small c a h q new
     step-lack j s one top e done ih =
-        rw (up-lack w x small a c j s one top) (make-more t x c p a j s h q ∙ ap (λ (y : Out). upBy y (eightParts (W t) a) c h q) ih
+        rw (up-lack w x small a c j s one top) (make-more t x c p a j s h q ∙ ap (λ (y : Out). upBy y (eightParts (W t) a) c (hashOver (W t) a) (sumOver (W t) a) (valueAt (W t) (part (W t) a c)) (heightAt (W t) a) h q) ih
         ∙ over-same d c a j h q p new l low b cell tall (omega arith) few held (low-lack kids-fit two w x small d c a j p new l b done))
 
     step-same : (B : ℕ) (bp : planning.Plan) (r : Need) → B ≤ 1000 → Agree B bp r → Plan cubeKids (cap t) (W t) x p (part (W t) a c) r
-        → ((j : ℕ) → r ≡ lack j → t .arena .live + j < cap t → Done cubeKids tallest t x p (part (W t) a c) j 0 1 new)
-        → ((j : ℕ) → r ≡ lack j → t .arena .live + j < cap t → makeBy t x p (part (W t) a c) bp 0 1 ≡ new)
+        → ((j : ℕ) → r ≡ lack j → liveIn (t .arena) + j < cap t → Done cubeKids tallest t x p (part (W t) a c) j 0 1 new)
+        → ((j : ℕ) → r ≡ lack j → liveIn (t .arena) + j < cap t → makeBy t x p (part (W t) a c) bp 0 1 ≡ new)
         → upNeed (λ s. needOf cubeKids t (replace (part (W t) a) c s)) r ≡ lack k
         → makeBy t x (c ∷ p) a (upPlan t (eightParts (W t) a) c bp) h q ≡ over kids-fit two w x small c a h q (lowOf t r new)
     unfolding upNeed lowOf
@@ -315,7 +339,7 @@ module _ {tallest : ℕ} (high : tallest ≤ 900) {t : Tables} (w : WellFormed c
         let z : suc j ≡ k = lack-inj e in
         step-lack j s one (omega arith) z (done j refl (omega arith)) (ih j refl (omega arith))
 
-  leaf-case : (a k h q : ℕ) → cellNeed t x ≡ lack k → t .arena .live + k < cap t → makeBy t x [] a (cellPlan t x) h q ≡ leafAnew t x h q
+  leaf-case : (a k h q : ℕ) → cellNeed t x ≡ lack k → liveIn (t .arena) + k < cap t → makeBy t x [] a (cellPlan t x) h q ≡ leafAnew t x h q
   leaf-case a k h q e room = go (cell-came kids-fit kids-some w x) (cell-agree w x small)
     where
       go : Cell-came cubeKids t x → Agree 1 (cellPlan t x) (cellNeed t x) → makeBy t x [] a (cellPlan t x) h q ≡ leafAnew t x h q
@@ -326,7 +350,7 @@ module _ {tallest : ℕ} (high : tallest ≤ 900) {t : Tables} (w : WellFormed c
           rw (lack-plan w x d z) (make-leaf t x a 0 0 h q ∙ leaf-same [] x h q inv (omega arith))
 
   pub make-same : {d : ℕ} {p : List ℕ} (a k h q : ℕ) → LiveOr0 (cap t) (W t) a → heightAt (W t) a ≤ d → d ≤ tallest → Cell cubeKids d p
-      → planOf cubeKids t x p a ≡ lack k → t .arena .live + k < cap t → h ≤ mostHolds → 1 ≤ h + q
+      → planOf cubeKids t x p a ≡ lack k → liveIn (t .arena) + k < cap t → h ≤ mostHolds → 1 ≤ h + q
       → makeBy t x p a (planBy t x p a) h q ≡ makeOf cubeKids t x p a h q
   unfolding planBy planOf makeOf
   make-same a k h q l low tall here e room few held = leaf-case a k h q e room

@@ -148,7 +148,7 @@ module _ {n tallest : ℕ} {t : Tables} (m : n ≤ kidWords) (pos : 1 ≤ n) (w 
         let v = branch-node n tallest (cap t) (W t) m (w .sized .most) (wf-content w) r (h .live) (h .isBranch) in
         let o = h .live .is in
         let g = h .live .high in
-        let ground = w .chain .ground in
+        let ground = w .stack .ground in
         slot-lone t (wordsOf n f) (words-length n f) z (slot r) (h .live .low, omega arith)
         (λ (q : slot r ≡ 0). let y : W t (slot r) own ≡ 0 = ap (λ (b : ℕ). W t b own) q ∙ ground in let p = floor-pos in omega arith)
         (λ j l. cases (decLt j n) (λ b. h .kids j b ∙ sym (words-at n f j l b)) (λ b. v .beyond j (omega arith) l ∙ sym (words-past n f j (omega arith) l)))
@@ -206,7 +206,7 @@ module _ {n tallest : ℕ} {t : Tables} (m : n ≤ kidWords) (pos : 1 ≤ n) (w 
   value-lack z r h =
       let o = h .live .is in
       let g = h .live .high in
-      let ground = w .chain .ground in
+      let ground = w .stack .ground in
       true≢false (sym (value-in r h) ∙ find-miss (leafIn t x) (cap t) z (slot r) (h .live .low)
       (λ (q : slot r ≡ 0). let y : W t (slot r) own ≡ 0 = ap (λ (b : ℕ). W t b own) q ∙ ground in let p = floor-pos in omega arith))
     where

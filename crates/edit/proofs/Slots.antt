@@ -7,14 +7,14 @@ use native.Mathlib.Omega.{arith}
 use lib.ListN.{drop}
 use Rattle.basics.specs.Limits.{deepest, cubeKids, kidWords, largestValue, mostHolds}
 use Rattle.nodes.specs.Values.{heightAt}
-use Rattle.nodes.specs.Words.{own, link, slot}
+use Rattle.nodes.specs.Words.{own, mark, entry, slot}
 use Rattle.nodes.proofs.Sums.{cases}
 use Rattle.paths.specs.declared.IVec3.{IVec3}
 use Rattle.tree.specs.Tree.{LiveOr0, Cell}
 use Rattle.tree.specs.Lacks.{Need, have, lack}
 use Rattle.tree.proofs.Room.{plan-some}
 use Rattle.arena.specs.Calls.{Out, said, refused}
-use Rattle.arena.specs.Tables.{Tables, cap, W, WellFormed}
+use Rattle.arena.specs.Tables.{liveIn, Tables, cap, W, WellFormed}
 use Rattle.ledger.specs.Stack.{Stack, lastFreed, slotAfter, Draws}
 use Rattle.ledger.proofs.Stack.{same-stack, fresh-takes, popped-drop, next-after, draws-none, draws-more}
 use Rattle.edit.specs.Edit.{planOf, resultOf, owed, makeOf, grantNo, granted, answerOf, cellNo, editCell, editOf}
@@ -33,14 +33,14 @@ Drawn t fs k o = (slot (o .id) ≡ slotAfter (k - 1) fs (t .arena .next)) × Sta
 -- Each node that is made, leaf first and upward, takes the last slot freed that is left, else the lowest never used by then.
 pub make-draws : {n tallest : ℕ} {t : Tables} → n ≤ kidWords → 1 < n → WellFormed n tallest t → (x : ℕ) → x ≤ largestValue → (fs : List ℕ) → Stack t fs
     → {d : ℕ} {p : List ℕ} (a k h q : ℕ) → LiveOr0 (cap t) (W t) a → heightAt (W t) a ≤ d → d ≤ tallest → Cell n d p
-    → planOf n t x p a ≡ lack k → t .arena .live + k < cap t → h ≤ mostHolds → 1 ≤ h + q
+    → planOf n t x p a ≡ lack k → liveIn (t .arena) + k < cap t → h ≤ mostHolds → 1 ≤ h + q
     → (slot (makeOf n t x p a h q .id) ≡ slotAfter (k - 1) fs (t .arena .next)) × Stack (makeOf n t x p a h q .after) (drop k fs)
 make-draws {t = t} m two w x fits-16 fs s =
     make-brings m two w x fits-16 (λ k u. Stack u (drop k fs)) (Drawn t fs) s
-    (λ j u y. same-stack u (owed u y) (drop j fs) (owed-arena u y) (λ b. owed-word u y b own (omega arith)) (λ b. owed-word u y b link (omega arith)))
-    (λ j v o ks y h q z e c room f.
-    let r = fresh-takes c room f (drop j fs) z in
-    let next = next-after t v fs j (w .lives) c e s z in
+    (λ j u y. same-stack u (owed u y) (drop j fs) (owed-arena u y) (λ b. owed-word u y b own (omega arith)) (λ b. owed-word u y b mark (omega arith)) (λ i. owed-word u y i entry (omega arith)))
+    (λ j v o ks y h q z e room f.
+    let r = fresh-takes room f (drop j fs) z in
+    let next = next-after t v fs j e s z in
     let one : j ≡ suc j - 1 = omega arith in (
       r .0 ∙ ap (lastFreed (drop j fs)) next ∙ ap (λ (i : ℕ). slotAfter i fs (t .arena .next)) one,
       subst (λ (i : List ℕ). Stack (o .after) i) (popped-drop j fs) (r .1),
@@ -58,7 +58,7 @@ module _ {n tallest : ℕ} {t : Tables} {root d : ℕ} {cell : List ℕ} {v : �
   unfolding answerOf
   answer-draws (have r) h =
       draws-none t fs (said 0 r (granted t r)) (granted-live t r)
-      (same-stack t (granted t r) fs (granted-arena t r) (λ b. granted-word t r b own (omega arith)) (λ b. granted-word t r b link (omega arith)) s)
+      (same-stack t (granted t r) fs (granted-arena t r) (λ b. granted-word t r b own (omega arith)) (λ b. granted-word t r b mark (omega arith)) (λ i. granted-word t r i entry (omega arith)) s)
   answer-draws (lack k) h = h k refl
 
   made-draws : heightAt (W t) root ≤ d → (k : ℕ) → planOf n t v cell root ≡ lack k → grantNo t (lack k) ≡ 0 → Draws t fs new

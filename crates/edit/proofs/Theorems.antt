@@ -22,7 +22,7 @@ use Rattle.tree.proofs.CellLaws.{cube-cell, cube-one, cube-onto}
 use Rattle.tree.proofs.Grow.{extends-keeps}
 use Rattle.tree.proofs.Plan.{plan-lack}
 use Rattle.tree.proofs.Room.{tables-bare, there-more, made-more, plan-wider}
-use Rattle.arena.specs.Tables.{Tables, cap, W, WellFormed}
+use Rattle.arena.specs.Tables.{liveIn, Tables, cap, W, WellFormed}
 use Rattle.arena.specs.Calls.{fullOf}
 use Rattle.read_cell.specs.Calls.{lookOf, expandOf}
 use Rattle.read_cell.proofs.Meaning.{wf-made}
@@ -45,14 +45,14 @@ have-not-eleven t r g = cases (ℕ-discrete r 0)
     (λ f. let y : _≡_ {A = ℕ} 10 11 = (rw (ne-eqb r 0 z, f) at g) in omega arith)
     (λ f. let y : _≡_ {A = ℕ} 0 11 = (rw (ne-eqb r 0 z, f) at g) in omega arith))
 
-lack-eleven : (t : Tables) (k : ℕ) → grantNo t (lack k) ≡ 11 → cap t - 1 - t .arena .live < k
+lack-eleven : (t : Tables) (k : ℕ) → grantNo t (lack k) ≡ 11 → cap t - 1 - liveIn (t .arena) < k
 unfolding grantNo
-lack-eleven t k g = cases (decLe k (cap t - 1 - t .arena .live))
-    (λ l. absurd (let y : _≡_ {A = ℕ} 0 11 = (rw (le-leb k (cap t - 1 - t .arena .live) l) at g) in omega arith)) (λ l. omega arith)
+lack-eleven t k g = cases (decLe k (cap t - 1 - liveIn (t .arena)))
+    (λ l. absurd (let y : _≡_ {A = ℕ} 0 11 = (rw (le-leb k (cap t - 1 - liveIn (t .arena)) l) at g) in omega arith)) (λ l. omega arith)
 
-short-eleven : (t : Tables) (k : ℕ) → cap t - 1 - t .arena .live < k → grantNo t (lack k) ≡ 11
+short-eleven : (t : Tables) (k : ℕ) → cap t - 1 - liveIn (t .arena) < k → grantNo t (lack k) ≡ 11
 unfolding grantNo
-short-eleven t k h = rw (lt-leb k (cap t - 1 - t .arena .live) h)
+short-eleven t k h = rw (lt-leb k (cap t - 1 - liveIn (t .arena)) h)
 
 module _ {n tallest : ℕ} {t : Tables} {root d : ℕ} {cell : List ℕ} (q : Posed n tallest t root d cell) (v : ℕ) (low : heightAt (W t) root ≤ d) where
   -- if the dry run lacks k nodes, then wherever the result r is made, in tables of that size or of any larger one, exactly k of its nodes are not live now
@@ -76,16 +76,16 @@ module _ {n tallest : ℕ} {t : Tables} {root d : ℕ} {cell : List ℕ} (q : Po
   result-old z = rw (eq-eqb (look (W t) cell root) v z)
 
   -- refusal 11 is given exactly if the cell has another value and the result lacks more nodes than there are free slots
-  pub eleven : cellNo n t root d cell v ≡ 11 → (look (W t) cell root ≢ v) × ((k : ℕ) × (planOf n t v cell root ≡ lack k) × (cap t - 1 - t .arena .live < k))
+  pub eleven : cellNo n t root d cell v ≡ 11 → (look (W t) cell root ≢ v) × ((k : ℕ) × (planOf n t v cell root ≡ lack k) × (cap t - 1 - liveIn (t .arena) < k))
   eleven e = cases (ℕ-discrete (look (W t) cell root) v)
       (λ z. absurd (have-not-eleven t root (ap (grantNo t) (sym (result-old z)) ∙ sym past-no ∙ e)))
       (λ z. (z, go (planOf n t v cell root) refl (ap (grantNo t) (sym (result-new z)) ∙ sym past-no ∙ e)))
     where
-      go : (r : Need) → planOf n t v cell root ≡ r → grantNo t r ≡ 11 → (k : ℕ) × (planOf n t v cell root ≡ lack k) × (cap t - 1 - t .arena .live < k)
+      go : (r : Need) → planOf n t v cell root ≡ r → grantNo t r ≡ 11 → (k : ℕ) × (planOf n t v cell root ≡ lack k) × (cap t - 1 - liveIn (t .arena) < k)
       go (have r) p g = absurd (have-not-eleven t r g)
       go (lack k) p g = (k, p, lack-eleven t k g)
 
-  pub eleven-given : (k : ℕ) → look (W t) cell root ≢ v → planOf n t v cell root ≡ lack k → cap t - 1 - t .arena .live < k → cellNo n t root d cell v ≡ 11
+  pub eleven-given : (k : ℕ) → look (W t) cell root ≢ v → planOf n t v cell root ≡ lack k → cap t - 1 - liveIn (t .arena) < k → cellNo n t root d cell v ≡ 11
   eleven-given k z p h = past-no ∙ ap (grantNo t) (result-new z ∙ p) ∙ short-eleven t k h
 
 -- ## Canonicity: what shows the same cube is the same id

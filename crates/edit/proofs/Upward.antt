@@ -12,7 +12,7 @@ use Rattle.basics.specs.Pick.{pick}
 use lib.ListN.{length, getD, set, replicate, length-set}
 use borrow.Author.Tests.{eqb-true, ne-eqb}
 use Rattle.nodes.specs.Words.{own, value, height, holds, places, slot, floor, Words}
-use Rattle.nodes.specs.Tally.{kidsOf, occ, Live, liveCount}
+use Rattle.nodes.specs.Tally.{kidsOf, occ, Live}
 use Rattle.nodes.proofs.Counts.{live-inj, live-same, live-own, live-nonzero, total, kid-occ, occ-le-tally}
 use Rattle.nodes.proofs.Sums.{cases, split, occ-nil, occ-cons, occ-here, occ-append, same-diff}
 use Rattle.tree.specs.Tree.{LiveOr0, Branch, WellMade, Cell, here, down, Extends, Below, self, under}
@@ -23,14 +23,15 @@ use Rattle.tree.proofs.Making.{part-there, part-low, replace-same, replace-othe
 use Rattle.tree.proofs.Plan.{plan-have}
 use Rattle.arena.specs.Node.{heightFor, valueFor}
 use Rattle.nodes.specs.Values.{heightAt, maxTo, valueAt}
-use Rattle.arena.specs.Tables.{Tables, cap, W, LiveSlot, WellFormed}
+use Rattle.arena.specs.Tables.{liveIn, Tables, cap, W, LiveSlot, WellFormed}
 use Rattle.arena.specs.Calls.{Out, said, noneOf, each, empties, leafAnew, branchAnew, branchSlot}
 use Rattle.arena.proofs.Branches.{some-kid, occ-at, occ-in, slot-lone}
 use Rattle.arena.proofs.Eight.{all-at}
 use Rattle.arena.proofs.Fresh.{Grown, Fresh, Makes-one, leaf-new, leaf-makes, branch-makes}
 use Rattle.arena.proofs.Inv.{Inv, Content, wf-inv, wf-content}
-use Rattle.arena.proofs.Leaves.{leaf-alone, not-ground}
-use Rattle.arena.proofs.Rows.{empties-length, empties-at}
+use Rattle.arena.proofs.Leaves.{leaf-alone}
+use Rattle.arena.proofs.Searched.{not-ground}
+use Rattle.arena.proofs.Rows.{empties-at}
 use Rattle.read_cell.proofs.Meaning.{wf-made}
 use Rattle.edit.specs.Edit.{wordsOf, needOf, upNeed, planOf, owed, lowOf, makeOf}
 use Rattle.edit.proofs.Growing.{grown-live, grown-debt, grown-trans, grown-extends, owed-grown, owed-word, each-grown, each-nil, each-cons, each-word, each-cap}
@@ -67,7 +68,7 @@ set-other (k ∷ ks) zero v (suc j) d = refl
 set-other (k ∷ ks) (suc c) v zero d = refl
 set-other (k ∷ ks) (suc c) v (suc j) d = set-other ks c v j (λ e. d (ap suc e))
 
-max-under : (n : ℕ) (f : ℕ → ℕ) (d : ℕ) → ((i : ℕ) → i < n → f i ≤ d) → maxTo n f ≤ d
+pub max-under : (n : ℕ) (f : ℕ → ℕ) (d : ℕ) → ((i : ℕ) → i < n → f i ≤ d) → maxTo n f ≤ d
 unfolding maxTo
 max-under zero f d h = omega arith
 max-under (suc n) f d h = let a = max-under n f d (λ i k. h i (omega arith)) in let b = h n (omega arith) in omega arith
@@ -123,7 +124,7 @@ module _ {n tallest : ℕ} {t : Tables} (m : n ≤ kidWords) (two : 1 < n) (w : 
   grown-made {u} g = subst (λ (c : ℕ). WellMade n c (W u)) (g .caps) (content-made n tallest (cap u) (W u) m (g .inv .sized .most) (g .content))
 
   -- ---- the leaf
-  leaf-done : (a k h q : ℕ) → planOf n t x [] a ≡ lack k → t .arena .live + k < cap t → h ≤ mostHolds → 1 ≤ h + q → Done n tallest t x [] a k h q (makeOf n t x [] a h q)
+  leaf-done : (a k h q : ℕ) → planOf n t x [] a ≡ lack k → liveIn (t .arena) + k < cap t → h ≤ mostHolds → 1 ≤ h + q → Done n tallest t x [] a k h q (makeOf n t x [] a h q)
   unfolding planOf makeOf
   leaf-done a k h q e room few held = go (cell-came m pos w x)
     where
@@ -193,7 +194,7 @@ module _ {n tallest : ℕ} {t : Tables} (m : n ≤ kidWords) (two : 1 < n) (w : 
               let a = lv .0 in
               let b = lv .1 in
               let lt : LiveSlot t i = (omega arith, omega arith) in
-              let ground = not-ground w empties x empties-length i lt in
+              let ground = not-ground w i lt in
               slot-lone t (wordsOf n f) (words-length n f) z i lt (omega arith) (λ j k. sym (owed-word t s i j (omega arith)) ∙ same j k)
 
   -- ---- the part below was made
@@ -234,7 +235,7 @@ module _ {n tallest : ℕ} {t : Tables} (m : n ≤ kidWords) (two : 1 < n) (w : 
   -- ---- the branch over it
 
   module _ (d c a j h q : ℕ) (p : List ℕ) (o : Out) (l : LiveOr0 (cap t) (W t) a) (low : heightAt (W t) a ≤ suc d) (b : c < n) (cell : Cell n d p)
-      (tall : suc d ≤ tallest) (room : t .arena .live + suc j < cap t) (few : h ≤ mostHolds) (held : 1 ≤ h + q) (r : Low n tallest t x p a c j o) where
+      (tall : suc d ≤ tallest) (room : liveIn (t .arena) + suc j < cap t) (few : h ≤ mostHolds) (held : 1 ≤ h + q) (r : Low n tallest t x p a c j o) where
     abbrev f : ℕ → ℕ
     f = replace (part (W t) a) c (o .id)
 
@@ -403,8 +404,8 @@ module _ {n tallest : ℕ} {t : Tables} (m : n ≤ kidWords) (two : 1 < n) (w : 
 
   up-step : (d c a k h q : ℕ) (p : List ℕ) → LiveOr0 (cap t) (W t) a → heightAt (W t) a ≤ suc d → c < n → Cell n d p → suc d ≤ tallest
       → (pl : Need) (new : Out) → Plan n (cap t) (W t) x p (part (W t) a c) pl
-      → ((j : ℕ) → pl ≡ lack j → t .arena .live + j < cap t → Done n tallest t x p (part (W t) a c) j 0 1 new)
-      → upNeed (λ s. needOf n t (replace (part (W t) a) c s)) pl ≡ lack k → t .arena .live + k < cap t → h ≤ mostHolds → 1 ≤ h + q
+      → ((j : ℕ) → pl ≡ lack j → liveIn (t .arena) + j < cap t → Done n tallest t x p (part (W t) a c) j 0 1 new)
+      → upNeed (λ s. needOf n t (replace (part (W t) a) c s)) pl ≡ lack k → liveIn (t .arena) + k < cap t → h ≤ mostHolds → 1 ≤ h + q
       → Done n tallest t x (c ∷ p) a k h q (over c a h q (lowOf t pl new))
   unfolding upNeed lowOf
   up-step d c a k h q p l low b cell tall (have s) new u ih e room few held =
@@ -419,7 +420,7 @@ module _ {n tallest : ℕ} {t : Tables} (m : n ≤ kidWords) (two : 1 < n) (w : 
 
   -- what the making leaves
   pub make-done : {d : ℕ} {p : List ℕ} (a k h q : ℕ) → LiveOr0 (cap t) (W t) a → heightAt (W t) a ≤ d → d ≤ tallest → Cell n d p
-      → planOf n t x p a ≡ lack k → t .arena .live + k < cap t → h ≤ mostHolds → 1 ≤ h + q → Done n tallest t x p a k h q (makeOf n t x p a h q)
+      → planOf n t x p a ≡ lack k → liveIn (t .arena) + k < cap t → h ≤ mostHolds → 1 ≤ h + q → Done n tallest t x p a k h q (makeOf n t x p a h q)
   unfolding makeOf planOf
   make-done a k h q l low tall here e room few held = leaf-done a k h q e room few held
   make-done a k h q l low tall (down {d = d} {c = c} {p = p} b cell) e room few held =
@@ -433,15 +434,15 @@ module _ {n tallest : ℕ} {t : Tables} (m : n ≤ kidWords) (two : 1 < n) (w : 
   -- Q is of tables in which so many nodes were made, P of an answer. Q holds of t, and stays where a place is owed; a fresh node brings P of one node more, and P
   -- is Q of what it leaves. Then P holds of what is made.
   module _ (Q : ℕ → Tables → Type 0) (P : ℕ → Out → Type 0) (first : Q 0 t) (owing : (j : ℕ) (u : Tables) (s : ℕ) → Q j u → Q j (owed u s))
-      (brings : (j : ℕ) (v : Tables) (o : Out) (ks : List ℕ) (y h q : ℕ) → Q j v → v .arena .live ≡ t .arena .live + j → v .arena .live ≡ liveCount (cap v) (W v)
-      → v .arena .live + 1 < cap v → Fresh v (o .after) (o .id) ks y h q → P (suc j) o)
+      (brings : (j : ℕ) (v : Tables) (o : Out) (ks : List ℕ) (y h q : ℕ) → Q j v → liveIn (v .arena) ≡ liveIn (t .arena) + j
+      → liveIn (v .arena) + 1 < cap v → Fresh v (o .after) (o .id) ks y h q → P (suc j) o)
       (leaves : (j : ℕ) (o : Out) → P j o → Q j (o .after)) where
     all-owing : (j : ℕ) (ks : List ℕ) (u : Tables) → Q j u → Q j (each owed u ks)
     all-owing j [] u z = subst (Q j) (sym (each-nil u)) z
     all-owing j (k ∷ ks) u z = subst (Q j) (sym (each-cons u k ks)) (all-owing j ks (owed u k) (owing j u k z))
 
     over-brings : (d c a j h q : ℕ) (p : List ℕ) (o : Out) → LiveOr0 (cap t) (W t) a → heightAt (W t) a ≤ suc d → c < n → Cell n d p → suc d ≤ tallest
-        → t .arena .live + suc j < cap t → h ≤ mostHolds → 1 ≤ h + q → Low n tallest t x p a c j o → Q j (o .after) → P (suc j) (over c a h q o)
+        → liveIn (t .arena) + suc j < cap t → h ≤ mostHolds → 1 ≤ h + q → Low n tallest t x p a c j o → Q j (o .after) → P (suc j) (over c a h q o)
     over-brings d c a j h q p o l low b cell tall room few held r z =
         let ks = wordsOf n (replace (part (W t) a) c (o .id)) in
         let v = each owed (o .after) (set ks c 0) in
@@ -451,12 +452,12 @@ module _ {n tallest : ℕ} {t : Tables} (m : n ≤ kidWords) (two : 1 < n) (w : 
         let k = r .grown .lives in
         let u = g .caps in
         let e = r .grown .caps in
-        brings j v (over c a h q o) ks (valueFor n (W v) ks) h q (all-owing j (set ks c 0) (o .after) z) (omega arith) (g .inv .lives) (omega arith) f
+        brings j v (over c a h q o) ks (valueFor n (W v) ks) h q (all-owing j (set ks c 0) (o .after) z) (omega arith) (omega arith) f
 
     step-brings : (d c a k h q : ℕ) (p : List ℕ) → LiveOr0 (cap t) (W t) a → heightAt (W t) a ≤ suc d → c < n → Cell n d p → suc d ≤ tallest
         → (pl : Need) (new : Out) → Plan n (cap t) (W t) x p (part (W t) a c) pl
-        → ((j : ℕ) → pl ≡ lack j → t .arena .live + j < cap t → Done n tallest t x p (part (W t) a c) j 0 1 new × P j new)
-        → upNeed (λ s. needOf n t (replace (part (W t) a) c s)) pl ≡ lack k → t .arena .live + k < cap t → h ≤ mostHolds → 1 ≤ h + q
+        → ((j : ℕ) → pl ≡ lack j → liveIn (t .arena) + j < cap t → Done n tallest t x p (part (W t) a c) j 0 1 new × P j new)
+        → upNeed (λ s. needOf n t (replace (part (W t) a) c s)) pl ≡ lack k → liveIn (t .arena) + k < cap t → h ≤ mostHolds → 1 ≤ h + q
         → P k (over c a h q (lowOf t pl new))
     unfolding upNeed lowOf
     step-brings d c a k h q p l low b cell tall (have s) new u ih e room few held =
@@ -471,11 +472,11 @@ module _ {n tallest : ℕ} {t : Tables} (m : n ≤ kidWords) (two : 1 < n) (w : 
         (over-brings d c a j h q p new l low b cell tall (omega arith) few held (low-lack d c a j p new l b (r .0)) (leaves j new (r .1)))
 
     pub make-brings : {d : ℕ} {p : List ℕ} (a k h q : ℕ) → LiveOr0 (cap t) (W t) a → heightAt (W t) a ≤ d → d ≤ tallest → Cell n d p
-        → planOf n t x p a ≡ lack k → t .arena .live + k < cap t → h ≤ mostHolds → 1 ≤ h + q → P k (makeOf n t x p a h q)
+        → planOf n t x p a ≡ lack k → liveIn (t .arena) + k < cap t → h ≤ mostHolds → 1 ≤ h + q → P k (makeOf n t x p a h q)
     unfolding makeOf planOf
     make-brings a k h q l low tall here e room few held =
         let one = leaf-lacks (rw e at (plan-is m pos w x a l low here)) in
-        subst (λ (i : ℕ). P i (leafAnew t x h q)) one (brings 0 t (leafAnew t x h q) empties x h q first (omega arith) (inv .lives) (omega arith) (leaf-new inv (omega arith) x h q))
+        subst (λ (i : ℕ). P i (leafAnew t x h q)) one (brings 0 t (leafAnew t x h q) empties x h q first (omega arith) (omega arith) (leaf-new inv (omega arith) x h q))
     make-brings a k h q l low tall (down {d = d} {c = c} {p = p} b cell) e room few held =
         let lb = part-there n (cap t) (W t) made a c l b in
         let hb = part-low n (cap t) (W t) made a c l b d low in

@@ -13,7 +13,7 @@ use Rattle.tree.specs.Anew.{Answer}
 use Rattle.tree.specs.Edits.{Edited}
 use Rattle.tree.specs.Lacks.{Lacks, Newly}
 use Rattle.tree.specs.Cells.{At, Apart}
-use Rattle.arena.specs.Tables.{Tables, cap, W, WellFormed}
+use Rattle.arena.specs.Tables.{liveIn, Tables, cap, W, WellFormed}
 use Rattle.calls.specs.Cells.{spot, standsAt, Answers, Alike}
 use Rattle.read_cell.specs.Calls.{expandOf}
 use Rattle.edit.specs.Edit.{editOf}
@@ -37,7 +37,7 @@ pub record Effect (n : ℕ) (t u : Tables) (r : ℕ) : Type 0 where
   pub no-other : (s : ℕ) → s < cap t → (r ≡ 0) ⊎ (s ≢ slot r) → W u s holds ≡ W t s holds
   pub only : (y : ℕ) → Live (cap t) (W u) y → Live (cap t) (W t) y ⊎ Below n (W u) r y
   pub new : ℕ
-  pub count : u .arena .live ≡ t .arena .live + new
+  pub count : liveIn (u .arena) ≡ liveIn (t .arena) + new
   pub lacked : (new ≡ 0) ⊎ Lacks n (cap t) (W t) (W u) r new
 
 -- From t to u with the answer r: it is the old root if the cell has the value already, else the root with the nodes on the path made anew; the root's

@@ -25,7 +25,7 @@ ghost use Rattle.edit.specs.Edit.{editOf};
 ghost use Rattle.edit.specs.Models.{grantBy, editNoAt, answerBy, editPast, editBy};
 
 // Refusals 10 and 11.
-fn grant_no(a: Arena, kids: &[u64], facts: &[u64], find: &[u16], p: Plan) -> u32
+fn grant_no(a: Arena, kids: &[u64], facts: &[u32], find: &[u16], p: Plan) -> u32
     ensures { λ r. ⌜ r ≡ grantBy (before a kids facts find) p ⌝ }
 {
     if p.new == 0 {
@@ -37,21 +37,21 @@ fn grant_no(a: Arena, kids: &[u64], facts: &[u64], find: &[u16], p: Plan) -> u32
         }
         return 0;
     }
-    if p.new <= free_slots(a) {
+    if p.new as u64 <= free_slots(a) {
         return 0;
     }
     11
 }
 
 // Refusals 1, 2, 3, 4 and 8, which are told before the dry run.
-fn early_no(a: Arena, kids: &[u64], facts: &[u64], find: &[u16], root: u64, cell: Cell) -> u32
+fn early_no(a: Arena, kids: &[u64], facts: &[u32], find: &[u16], root: u64, cell: Cell) -> u32
     ensures { λ r. ⌜ r ≡ editNoAt (before a kids facts find) root cell ⌝ }
 {
     let no = look_no(a, kids, facts, find, root, cell);
     if no != 0 {
         return no;
     }
-    if height_at(facts, root) <= cell.depth as u64 {
+    if height_at(facts, root) <= cell.depth {
         return 0;
     }
     8
@@ -61,21 +61,21 @@ fn early_no(a: Arena, kids: &[u64], facts: &[u64], find: &[u16], root: u64, cell
 fn hold_or_make(
     a: Arena,
     kids: &mut [u64],
-    facts: &mut [u64],
+    facts: &mut [u32],
     find: &mut [u16],
     root: u64,
     cell: Cell,
-    v: u64,
+    v: u32,
     p: Plan,
 ) -> Made
-    ensures { λ r. ⌜ made r kids facts find ≡ answerBy (before a kids facts find) v cell root p ⌝ }
+    ensures { λ r. ⌜ made a r kids facts find ≡ answerBy (before a kids facts find) v cell root p ⌝ }
 {
     if p.new == 0 {
         bump(facts, HOLDS, p.id);
         return Made {
             no: 0,
             id: BlockId(p.id),
-            arena: a,
+            slots: a.slots,
         };
     }
     make(a, kids, facts, find, root, cell, v, p, 1, 0)
@@ -85,21 +85,21 @@ fn hold_or_make(
 fn edit_planned(
     a: Arena,
     kids: &mut [u64],
-    facts: &mut [u64],
+    facts: &mut [u32],
     find: &mut [u16],
     root: u64,
     cell: Cell,
-    v: u64,
+    v: u32,
     p: Plan,
 ) -> Made
-    ensures { λ r. ⌜ made r kids facts find ≡ editPast (before a kids facts find) v cell root p ⌝ }
+    ensures { λ r. ⌜ made a r kids facts find ≡ editPast (before a kids facts find) v cell root p ⌝ }
 {
     let no = grant_no(a, kids, facts, find, p);
     if no != 0 {
         return Made {
             no: no,
             id: BlockId::INVALID,
-            arena: a,
+            slots: a.slots,
         };
     }
     hold_or_make(a, kids, facts, find, root, cell, v, p)
@@ -109,24 +109,24 @@ fn edit_planned(
 fn edit_cell(
     a: Arena,
     kids: &mut [u64],
-    facts: &mut [u64],
+    facts: &mut [u32],
     find: &mut [u16],
     root: u64,
     cell: Cell,
     v: u16,
 ) -> Made
-    ensures { λ r. ⌜ made r kids facts find ≡ editBy (before a kids facts find) root cell v ⌝ }
+    ensures { λ r. ⌜ made a r kids facts find ≡ editBy (before a kids facts find) root cell v ⌝ }
 {
     let no = early_no(a, kids, facts, find, root, cell);
     if no != 0 {
         return Made {
             no: no,
             id: BlockId::INVALID,
-            arena: a,
+            slots: a.slots,
         };
     }
     let p = plan_edit(a, kids, facts, find, root, cell, v);
-    edit_planned(a, kids, facts, find, root, cell, v as u64, p)
+    edit_planned(a, kids, facts, find, root, cell, v as u32, p)
 }
 
 // The root with the cell at the position set to the value, or a refusal: 1, 2, 3, 4, 8, 10 or 11. The root is not used up; the answer has one new
@@ -134,7 +134,7 @@ fn edit_cell(
 pub fn set_voxel(
     arena: Arena,
     kids: &mut [u64],
-    facts: &mut [u64],
+    facts: &mut [u32],
     find: &mut [u16],
     root: BlockId,
     depth: u32,
@@ -142,7 +142,7 @@ pub fn set_voxel(
     value: u16,
 ) -> Made
     ensures { λ r. ⌜ (Fair cubeKids deepest (before arena kids facts find)
-        → made r kids facts find ≡ editOf (before arena kids facts find) (root .0) depth position value) ⌝ }
+        → made arena r kids facts find ≡ editOf (before arena kids facts find) (root .0) depth position value) ⌝ }
 {
     edit_cell(
         arena,

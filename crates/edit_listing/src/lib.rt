@@ -73,13 +73,13 @@ fn value_in(bytes: &[u8]) -> u16
 pub fn edit_record(
     arena: Arena,
     kids: &mut [u64],
-    facts: &mut [u64],
+    facts: &mut [u32],
     find: &mut [u16],
     root: BlockId,
     bytes: &[u8],
 ) -> Made
     ensures { λ r. ⌜ (Fair cubeKids deepest (tablesBefore arena kids facts find)
-        → made r kids facts find ≡ editIn (tablesBefore arena kids facts find) (root .0) (now (bytes .entry))) ⌝ }
+        → made arena r kids facts find ≡ editIn (tablesBefore arena kids facts find) (root .0) (now (bytes .entry))) ⌝ }
 {
     let cell = cell_in(bytes);
     let value = value_in(bytes);
@@ -90,7 +90,7 @@ pub fn edit_record(
 fn one(
     run: Run,
     kids: &mut [u64],
-    facts: &mut [u64],
+    facts: &mut [u32],
     find: &mut [u16],
     bytes: &[u8],
     out: &mut [u8],
@@ -102,7 +102,7 @@ fn one(
 {
     let root = run.root;
     let made = edit_record(run.arena, kids, facts, find, root, bytes);
-    listing::after_record(root, run.count, made, kids, facts, find, out)
+    listing::after_record(run, made, kids, facts, find, out)
 }
 
 // Record i: eight bytes, or as many as are left.
@@ -124,7 +124,7 @@ pub fn record_in(bytes: &[u8], i: usize) -> &[u8]
 pub fn edit_records(
     run: Run,
     kids: &mut [u64],
-    facts: &mut [u64],
+    facts: &mut [u32],
     find: &mut [u16],
     bytes: &[u8],
     out: &mut [u8],

@@ -16,8 +16,7 @@ use Rattle.tree.specs.Anew.{part}
 use Rattle.tree.proofs.Making.{part-flat, part-branch}
 use Rattle.paths.specs.declared.Cell.{Cell}
 use Rattle.paths.specs.Paths.{octant, cellFrom}
-use Rattle.arena.specs.Tables.{tables}
-use Rattle.arena.specs.declared.Arena.{Arena}
+use Rattle.arena.specs.Tables.{State, tables}
 use Rattle.edit_plan.specs.Models.{slotPlan, eightParts, cellPlan, upPlan, planBy}
 use Rattle.edit_plan.specs.declared.Plan.{Plan}
 
@@ -57,7 +56,7 @@ module _ (k f : List ℕ) where
 
 -- ---- the recursion's steps
 
-module _ (a : Arena) (k f e : List ℕ) (v id : ℕ) (c : Cell) where
+module _ (a : State) (k f e : List ℕ) (v id : ℕ) (c : Cell) where
   pub plan-end : (r : Plan) → c .depth ≡ 0 → r ≡ cellPlan (tables a k f e) v → r ≡ planBy (tables a k f e) v (pathTo c) id
   unfolding planBy pathBy
   plan-end r l h = rw l h

@@ -4,7 +4,7 @@ use mathlib.Core.List.{List, [], _∷_}
 use Prim.Native.Nat.{ℕ, _%_, _^_}
 use lib.Dec.{eqb, leb}
 use lib.ListN.{getD, set}
-use Rattle.basics.specs.Limits.{deepest, cubeKids, kidWords}
+use Rattle.basics.specs.Limits.{deepest, kidWords}
 use Rattle.basics.specs.Pick.{pick}
 use Rattle.ids.specs.Ids.{isLeaf, invalid}
 use Rattle.nodes.specs.Words.{Words, own}
@@ -14,8 +14,8 @@ use Rattle.paths.specs.declared.Cell.{Cell}
 use Rattle.tree.specs.Cells.{pathTo}
 use Rattle.tree.specs.Anew.{part}
 use Rattle.arena.specs.Tables.{Tables, W}
-use Rattle.arena.specs.Calls.{empties, allOf}
-use Rattle.arena.specs.Models.{moreOf, cellFor, valueBy}
+use Rattle.arena.specs.Calls.{allOf}
+use Rattle.arena.specs.Models.{moreOf, leafFor, kidsFor}
 use Rattle.edit_plan.specs.declared.Plan.{Plan}
 
 abbrev pub planned : ℕ → ℕ → Plan
@@ -25,9 +25,12 @@ planned k s = record { new = k; id = s }
 unfoldable pub eightParts : Words → ℕ → List ℕ
 eightParts U a = tabFrom kidWords 0 (part U a)
 
--- the slot that the search for a content finds
-unfoldable pub foundBy : Tables → List ℕ → ℕ → ℕ
-foundBy t ks v = getD (t .find) (cellFor t ks v) 0
+-- the slots that the searches for a leaf and for a branch find
+unfoldable pub leafFound : Tables → ℕ → ℕ
+leafFound t v = getD (t .find) (leafFor t v) 0
+
+unfoldable pub kidsFound : Tables → List ℕ → ℕ
+kidsFound t ks = getD (t .find) (kidsFor t ks) 0
 
 -- eight times one leaf
 unfoldable pub leafKids : List ℕ → Bool
@@ -40,11 +43,11 @@ unfoldable pub slotPlan : Words → ℕ → ℕ → Plan
 slotPlan U found s = pick (eqb found 0) (planned 1 s) (planned 0 (U found own))
 
 unfoldable pub cellPlan : Tables → ℕ → Plan
-cellPlan t x = pick (eqb x 0) (planned 0 0) (slotPlan (W t) (foundBy t empties x) 0)
+cellPlan t x = pick (eqb x 0) (planned 0 0) (slotPlan (W t) (leafFound t x) 0)
 
 unfoldable pub needPlan : Tables → List ℕ → ℕ → Plan
 needPlan t ks s =
-    pick (allOf (eqb 0) ks) (planned 0 0) (pick (leafKids ks) (planned 0 (getD ks 0 0)) (slotPlan (W t) (foundBy t ks (valueBy cubeKids (W t) ks)) s))
+    pick (allOf (eqb 0) ks) (planned 0 0) (pick (leafKids ks) (planned 0 (getD ks 0 0)) (slotPlan (W t) (kidsFound t ks) s))
 
 unfoldable pub upPlan : Tables → List ℕ → ℕ → Plan → Plan
 upPlan t ks c b = pick (eqb (b .new) 0) (needPlan t (set ks c (b .id)) (b .id)) (planned (moreOf (b .new)) (b .id))

@@ -1,22 +1,22 @@
 // The dry run of an edit: what of the result is there already, and how many nodes are not. It changes nothing.
 use arena::Arena;
+use arena::more;
 use arena::slot_of;
 use basics::DEEPEST;
 use basics::KID_WORDS;
 use basics::Kids;
 use find::search;
 use find::search_leaf;
+use find_hash::kids_hash;
+use find_hash::leaf_hash;
 use ids::BlockId;
 use ids::LOWEST_LEAF;
 use new_value::value_at;
-use new_value::value_of;
-use nodes::OWN;
 use nodes::children;
-use nodes::fact;
+use nodes::own;
 use paths::Cell;
 use paths::octant;
 use read_cell::descend;
-use std::num::wrapping_add_u64;
 ghost use mathlib.Core.Path.{_≡_};
 ghost use Prim.Native.Nat.{_≤_, _<_};
 ghost use lib.Dec.{eqb};
@@ -29,7 +29,7 @@ ghost use Rattle.edit_plan.specs.Models.{eightParts, leafKids, slotPlan,
 
 // What a dry run found: how many nodes are to be made, and the part below them that is there.
 pub struct Plan {
-    pub new: u64,
+    pub new: u32,
     pub id: u64,
 }
 
@@ -71,7 +71,7 @@ fn all_one_leaf(ks: Kids) -> bool
 }
 
 // The node in the slot that a search found; none found: one is to be made over the part s.
-fn plan_slot(facts: &[u64], found: usize, s: u64) -> Plan
+fn plan_slot(facts: &[u32], found: usize, s: u64) -> Plan
     ensures { λ r. ⌜ r ≡ slotPlan (factOf (now (facts .entry))) found s ⌝ }
 {
     if found == 0 {
@@ -79,12 +79,12 @@ fn plan_slot(facts: &[u64], found: usize, s: u64) -> Plan
     }
     Plan {
         new: 0,
-        id: fact(facts, found, OWN),
+        id: own(facts, found),
     }
 }
 
 // The cell itself: EMPTY for 0, the leaf of the value if it lives.
-fn plan_cell(a: Arena, kids: &[u64], facts: &[u64], find: &[u16], v: u64) -> Plan
+fn plan_cell(a: Arena, kids: &[u64], facts: &[u32], find: &[u16], v: u32) -> Plan
     ensures { λ r. ⌜ r ≡ cellPlan (before a kids facts find) v ⌝ }
 {
     if v == 0 {
@@ -93,12 +93,12 @@ fn plan_cell(a: Arena, kids: &[u64], facts: &[u64], find: &[u16], v: u64) -> Pla
             id: BlockId::EMPTY.0,
         };
     }
-    let f = search_leaf(find, kids, facts, a.capacity, v);
+    let f = search_leaf(find, facts, a.capacity, leaf_hash(v), v);
     plan_slot(facts, f.slot, BlockId::EMPTY.0)
 }
 
 // What eight parts come to, the last of them made being s.
-fn plan_node(a: Arena, kids: &[u64], facts: &[u64], find: &[u16], ks: Kids, s: u64) -> Plan
+fn plan_node(a: Arena, kids: &[u64], facts: &[u32], find: &[u16], ks: Kids, s: u64) -> Plan
     ensures { λ r. ⌜ r ≡ needPlan (before a kids facts find) ks s ⌝ }
 {
     if all_are(ks, BlockId::EMPTY.0) {
@@ -110,7 +110,7 @@ fn plan_node(a: Arena, kids: &[u64], facts: &[u64], find: &[u16], ks: Kids, s: u
     if all_one_leaf(ks) {
         return Plan { new: 0, id: ks[0] };
     }
-    let f = search(find, kids, facts, a.capacity, ks, value_of(facts, ks));
+    let f = search(find, kids, facts, a.capacity, kids_hash(ks), ks);
     plan_slot(facts, f.slot, s)
 }
 
@@ -118,7 +118,7 @@ fn plan_node(a: Arena, kids: &[u64], facts: &[u64], find: &[u16], ks: Kids, s: u
 fn plan_up(
     a: Arena,
     kids: &[u64],
-    facts: &[u64],
+    facts: &[u32],
     find: &[u16],
     ks: Kids,
     c: usize,
@@ -133,13 +133,13 @@ fn plan_up(
         return plan_node(a, kids, facts, find, new, below.id);
     }
     Plan {
-        new: wrapping_add_u64(below.new, 1),
+        new: more(below.new),
         id: below.id,
     }
 }
 
 // The dry run from the node of id down to the cell.
-fn dry_run(a: Arena, kids: &[u64], facts: &[u64], find: &[u16], id: u64, cell: Cell, v: u64) -> Plan
+fn dry_run(a: Arena, kids: &[u64], facts: &[u32], find: &[u16], id: u64, cell: Cell, v: u32) -> Plan
     requires { ⌜ cell .depth ≤ deepest ⌝ }
     ensures { λ r. ⌜ r ≡ planBy (before a kids facts find) v (pathTo cell) id ⌝ }
 {
@@ -163,7 +163,7 @@ fn dry_run(a: Arena, kids: &[u64], facts: &[u64], find: &[u16], id: u64, cell: C
 pub fn plan_edit(
     a: Arena,
     kids: &[u64],
-    facts: &[u64],
+    facts: &[u32],
     find: &[u16],
     root: u64,
     cell: Cell,
@@ -178,8 +178,8 @@ pub fn plan_edit(
         };
     }
     let end = descend(kids, BlockId(root), cell);
-    if value_at(facts, end.id.0) % 65536 == v as u64 {
+    if value_at(facts, end.id.0) % 65536 == v as u32 {
         return Plan { new: 0, id: root };
     }
-    dry_run(a, kids, facts, find, root, cell, v as u64)
+    dry_run(a, kids, facts, find, root, cell, v as u32)
 }

@@ -1,23 +1,22 @@
--- A content compared, and the homes: a slot's home depends on its content alone.
+-- A content compared, and the homes: a slot's home depends on its hash alone.
 use mathlib.Core.Path.{_≡_, refl, sym, ap, _∙_, subst}
 use mathlib.Core.Logic.{_≢_}
 use mathlib.Core.Bool.{Bool, true, false, true≢false}
 use mathlib.Core.List.{List, [], _∷_}
-use Prim.Native.Nat.{ℕ, zero, suc, _+_, _-_, _<_}
+use Prim.Native.Nat.{ℕ, zero, suc, _+_, _-_, _≤_, _<_}
 use native.Mathlib.Decide.{ℕ-discrete}
 use native.Mathlib.Omega.{arith}
 use lib.Dec.{eqb}
-use lib.ListN.{length, getD, getD-replicate}
+use lib.ListN.{length, getD}
 use borrow.Author.Tests.{eq-eqb, ne-eqb, eqb-true}
 use Rattle.basics.specs.Pick.{pick}
-use Rattle.find_hash.specs.Hash.{homeFor}
+use Rattle.ids.specs.Ids.{isLeaf}
 use Rattle.nodes.specs.Tally.{tabFrom, kidsOf}
-use Rattle.nodes.specs.Words.{Words, nodes, kidOf, factOf, wordOf, value, own, height}
-use Rattle.nodes.proofs.Access.{word-fact}
-use Rattle.nodes.proofs.Counts.{kids-same}
-use Rattle.nodes.proofs.Sums.{cases, tab-at, tab-list}
-use Rattle.find.specs.Cells.{stops, probeN, probe, cell}
-use Rattle.find.specs.Content.{noKids, agree, contentIs, homeAt}
+use Rattle.nodes.specs.Words.{Words, nodes, kidOf, factOf, wordOf, value, own, hash}
+use Rattle.nodes.proofs.Access.{word-kid}
+use Rattle.nodes.proofs.Sums.{cases, split, tab-at, tab-list}
+use Rattle.find.specs.Cells.{stops, probeN, probe, cell, leafCell}
+use Rattle.find.specs.Content.{agree, leafIs, kidsAre, homeAt}
 
 -- the children of slot s, read at once
 pub own-at : (j : ℕ) → j < 8 → (U : Words) (s : ℕ) (own : List ℕ) → own ≡ kidsOf 8 U s → getD own j 0 ≡ U s j
@@ -51,80 +50,73 @@ agree-words W s i (k ∷ ks) a (suc j) m =
     go true q = q
     go false q = absurd (true≢false (sym q))
 
-pub content-true : (W : Words) (ks : List ℕ) (v s : ℕ) → length ks ≡ 8 → ((i : ℕ) → i < 8 → W s i ≡ getD ks i 0) → W s value ≡ v → contentIs W ks v s ≡ true
-unfolding contentIs
-content-true W ks v s e h k = rw (eq-eqb (W s value) v k) (agree-true W s 0 ks (λ j m. let z : 0 + j ≡ j = omega arith in rw z (h j (omega arith))))
+-- ---- a leaf, and a branch
 
-pub content-words : (W : Words) (ks : List ℕ) (v s : ℕ) → length ks ≡ 8 → contentIs W ks v s ≡ true → ((i : ℕ) → i < 8 → W s i ≡ getD ks i 0) × (W s value ≡ v)
-unfolding contentIs
-content-words W ks v s n a = go (eqb (W s value) v) refl a
-  where
-    go : (b : Bool) → eqb (W s value) v ≡ b → pick b (agree W s 0 ks) false ≡ true → ((i : ℕ) → i < 8 → W s i ≡ getD ks i 0) × (W s value ≡ v)
-    go true e q = ((λ i m. let z : 0 + i ≡ i = omega arith in ap (W s) (sym z) ∙ agree-words W s 0 ks q i (omega arith)), eqb-true (W s value) v e)
-    go false e q = absurd (true≢false (sym q))
+module _ (W : Words) (h v s : ℕ) where
+  pub leaf-true : W s hash ≡ h → isLeaf (W s own) ≡ true → W s value ≡ v → leafIs W h v s ≡ true
+  unfolding leafIs
+  leaf-true a b c = rw (eq-eqb (W s hash) h a, b) (eq-eqb (W s value) v c)
 
--- the value first: w is the value of slot s
-module _ (k f : List ℕ) (s : ℕ) (ks : List ℕ) (v w : ℕ) (is : w ≡ factOf f s value) where
-  pub content-other : (w ≡ v → ⊥) → false ≡ contentIs (wordOf (nodes k f)) ks v s
-  unfolding contentIs
-  content-other n = rw (ne-eqb (wordOf (nodes k f) s value) v (λ e. n (is ∙ sym (word-fact (nodes k f) s value (omega arith)) ∙ e)))
+  pub leaf-words : leafIs W h v s ≡ true → (W s hash ≡ h) × (isLeaf (W s own) ≡ true) × (W s value ≡ v)
+  unfolding leafIs
+  leaf-words e = split (eqb (W s hash) h)
+      (λ a. split (isLeaf (W s own)) (λ b. (eqb-true (W s hash) h a, b, eqb-true (W s value) v (rw (a, b) at e))) (λ b. absurd (true≢false (sym (rw (a, b) at e)))))
+      (λ a. absurd (true≢false (sym (rw a at e))))
 
-  pub content-start : w ≡ v → contentIs (wordOf (nodes k f)) ks v s ≡ agree (wordOf (nodes k f)) s 0 ks
-  unfolding contentIs
-  content-start e = rw (eq-eqb (wordOf (nodes k f) s value) v (word-fact (nodes k f) s value (omega arith) ∙ sym is ∙ e))
+  -- what the code tests, one after the other
+  pub leaf-other : (x : ℕ) → x ≡ W s hash → (x ≡ h → ⊥) → false ≡ leafIs W h v s
+  unfolding leafIs
+  leaf-other x e n = rw (ne-eqb (W s hash) h (λ q. n (e ∙ q)))
 
--- ---- no children: `own` are those of slot s
-pub some-kid : (j : ℕ) → j < 8 → (U : Words) (s : ℕ) (own : List ℕ) → own ≡ kidsOf 8 U s → (getD own j 0 ≡ 0 → ⊥) → false ≡ agree U s 0 noKids
-some-kid j l U s own is n = go (agree U s 0 noKids) refl
-  where
-    go : (b : Bool) → agree U s 0 noKids ≡ b → false ≡ b
-    go false e = refl
-    go true e =
-        let z : 0 + j ≡ j = omega arith in
-        absurd (n (own-at j l U s own is ∙ ap (U s) (sym z) ∙ agree-words U s 0 noKids e j l ∙ getD-replicate 8 j 0 0 l))
+  pub leaf-none : (x o : ℕ) (b : Bool) → x ≡ W s hash → x ≡ h → o ≡ W s own → b ≡ isLeaf o → b ≡ false → false ≡ leafIs W h v s
+  unfolding leafIs
+  leaf-none x o b e q i f g = let z : isLeaf (W s own) ≡ false = ap isLeaf (sym i) ∙ sym f ∙ g in rw (eq-eqb (W s hash) h (sym e ∙ q), z)
 
-module _ (U : Words) (s : ℕ) (own : List ℕ) (is : own ≡ kidsOf 8 U s) where
-  no-kid : (j : ℕ) → j < 8 → getD own j 0 ≡ 0 → eqb (U s j) 0 ≡ true
-  no-kid j l z = eq-eqb (U s j) 0 (sym (own-at j l U s own is) ∙ z)
+  pub leaf-test : (x o y : ℕ) (b : Bool) → x ≡ W s hash → x ≡ h → o ≡ W s own → b ≡ isLeaf o → b ≡ true → y ≡ W s value → eqb y v ≡ leafIs W h v s
+  unfolding leafIs
+  leaf-test x o y b e q i f g z =
+      let l : isLeaf (W s own) ≡ true = ap isLeaf (sym i) ∙ sym f ∙ g in rw (eq-eqb (W s hash) h (sym e ∙ q), l) (ap (λ (w : ℕ). eqb w v) z)
 
-  pub no-kids : getD own 0 0 ≡ 0 → getD own 1 0 ≡ 0 → getD own 2 0 ≡ 0 → getD own 3 0 ≡ 0 → getD own 4 0 ≡ 0 → getD own 5 0 ≡ 0 → getD own 6 0 ≡ 0
-      → getD own 7 0 ≡ 0 → true ≡ agree U s 0 noKids
-  unfolding agree
-  no-kids a b c d e f g h =
-      rw (
-        no-kid 0 (omega arith) a,
-        no-kid 1 (omega arith) b,
-        no-kid 2 (omega arith) c,
-        no-kid 3 (omega arith) d,
-        no-kid 4 (omega arith) e,
-        no-kid 5 (omega arith) f,
-        no-kid 6 (omega arith) g,
-        no-kid 7 (omega arith) h,
-      )
+module _ (W : Words) (h : ℕ) (ks : List ℕ) (s : ℕ) where
+  pub kids-true : length ks ≡ 8 → W s hash ≡ h → ((i : ℕ) → i < 8 → W s i ≡ getD ks i 0) → kidsAre W h ks s ≡ true
+  unfolding kidsAre
+  kids-true n a e = rw (eq-eqb (W s hash) h a) (agree-true W s 0 ks (λ j m. let z : 0 + j ≡ j = omega arith in rw z (e j (omega arith))))
+
+  pub kids-words : length ks ≡ 8 → kidsAre W h ks s ≡ true → (W s hash ≡ h) × ((i : ℕ) → i < 8 → W s i ≡ getD ks i 0)
+  unfolding kidsAre
+  kids-words n e = split (eqb (W s hash) h)
+      (λ a. (eqb-true (W s hash) h a, (λ i m. let z : 0 + i ≡ i = omega arith in ap (W s) (sym z) ∙ agree-words W s 0 ks (rw a at e) i (omega arith))))
+      (λ a. absurd (true≢false (sym (rw a at e))))
+
+  pub kids-other : (x : ℕ) → x ≡ W s hash → (x ≡ h → ⊥) → false ≡ kidsAre W h ks s
+  unfolding kidsAre
+  kids-other x e n = rw (ne-eqb (W s hash) h (λ q. n (e ∙ q)))
+
+  pub kids-test : (x : ℕ) (b : Bool) → x ≡ W s hash → x ≡ h → b ≡ agree W s 0 ks → b ≡ kidsAre W h ks s
+  unfolding kidsAre
+  kids-test x b e q f = rw (eq-eqb (W s hash) h (sym e ∙ q)) f
+
+-- the facts say whether a slot has a leaf
+pub leaf-facts : (t : List ℕ) (c : ℕ) (k f : List ℕ) (h v : ℕ) → leafCell t c (factOf f) h v ≡ leafCell t c (wordOf (nodes k f)) h v
+unfolding leafCell leafIs wordOf
+leaf-facts t c k f h v = refl
 
 -- the words of a slot begin with its children
-pub kids-agree : (k f : List ℕ) (s : ℕ) → agree (kidOf k) s 0 noKids ≡ agree (wordOf (nodes k f)) s 0 noKids
-unfolding agree wordOf
-kids-agree k f s = refl
+pub kids-agree : (k f : List ℕ) (s i : ℕ) (ks : List ℕ) → i + length ks ≤ 8 → agree (kidOf k) s i ks ≡ agree (wordOf (nodes k f)) s i ks
+unfolding agree
+kids-agree k f s i [] h = refl
+kids-agree k f s i (x ∷ ks) h = rw (word-kid (nodes k f) s i (omega arith), kids-agree k f s (i + 1) ks (omega arith))
 
 -- ---- homes
 
-pub home-same : (cap : ℕ) (W W′ : Words) (s : ℕ) → ((f : ℕ) → f < height → f ≢ own → W′ s f ≡ W s f) → homeAt cap W′ s ≡ homeAt cap W s
-unfolding homeAt homeFor
-home-same cap W W′ s e =
-    let k : kidsOf 8 W′ s ≡ kidsOf 8 W s = kids-same 8 W W′ s (λ i m. e i (omega arith) (omega arith)) in
-    let v : W′ s value ≡ W s value = e value (omega arith) (omega arith) in
-    rw (k, v)
+pub home-same : (cap : ℕ) (W W′ : Words) (s : ℕ) → W′ s hash ≡ W s hash → homeAt cap W′ s ≡ homeAt cap W s
+unfolding homeAt
+home-same cap W W′ s e = rw e
 
 -- the content of a slot is its words
 pub kids-are : (W : Words) (s : ℕ) (ks : List ℕ) → length ks ≡ 8 → ((i : ℕ) → i < 8 → W s i ≡ getD ks i 0) → kidsOf 8 W s ≡ ks
 unfolding kidsOf
 kids-are W s ks e h = subst (λ (n : ℕ). tabFrom n 0 (W s) ≡ ks) e (tab-list ks 0 (W s) (λ j l. let q : 0 + j ≡ j = omega arith in rw q (h j (omega arith))))
-
-pub home-content : (cap : ℕ) (W : Words) (s : ℕ) (ks : List ℕ) (v : ℕ) → length ks ≡ 8 → ((i : ℕ) → i < 8 → W s i ≡ getD ks i 0) → W s value ≡ v
-    → homeAt cap W s ≡ homeFor cap ks v
-unfolding homeAt
-home-content cap W s ks v e h x = rw (kids-are W s ks e h, x)
 
 -- ---- probes
 

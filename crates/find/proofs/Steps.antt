@@ -10,10 +10,10 @@ use lib.Seq.{set-out}
 use lib.Dec.{eqb, leb}
 use borrow.Author.Tests.{eq-eqb, ne-eqb, le-leb, lt-leb}
 use Rattle.basics.specs.Pick.{pick}
-use Rattle.find_hash.specs.Hash.{homeFor}
+use Rattle.find_hash.specs.Hash.{homeIn}
 use Rattle.nodes.specs.Words.{Words}
-use Rattle.find.specs.Cells.{stops, probeN, probe, cellOf, shiftN, shift, erase, remove}
-use Rattle.find.specs.Content.{contentIs}
+use Rattle.find.specs.Cells.{stops, probeN, probe, leafCell, kidsCell, shiftN, shift, erase, remove}
+use Rattle.find.specs.Content.{leafIs, kidsAre}
 
 -- ---- where a probe stops, and where not
 pub stops-empty : (same : ℕ → Bool) (x : ℕ) → x ≡ 0 → stops same x ≡ true
@@ -48,9 +48,13 @@ pub probe-on : (same : ℕ → Bool) (t : List ℕ) (i : ℕ) → i < length t �
 probe-on same t i h e = probe-step same t i h ∙ rw e
 
 -- ---- a search's steps: u is the cell where it ends, and i the cell that it has come to
-pub search-start : (t : List ℕ) (cap : ℕ) (W : Words) (ks : List ℕ) (v h : ℕ) → h ≡ homeFor cap ks v → cellOf t cap W ks v ≡ probe (contentIs W ks v) t h
-unfolding cellOf
-search-start t cap W ks v h e = ap (probe (contentIs W ks v) t) (sym e)
+pub leaf-start : (t : List ℕ) (cap : ℕ) (W : Words) (h v i : ℕ) → i ≡ homeIn cap h → leafCell t cap W h v ≡ probe (leafIs W h v) t i
+unfolding leafCell
+leaf-start t cap W h v i e = ap (probe (leafIs W h v) t) (sym e)
+
+pub kids-start : (t : List ℕ) (cap : ℕ) (W : Words) (h : ℕ) (ks : List ℕ) (i : ℕ) → i ≡ homeIn cap h → kidsCell t cap W h ks ≡ probe (kidsAre W h ks) t i
+unfolding kidsCell
+kids-start t cap W h ks i e = ap (probe (kidsAre W h ks) t) (sym e)
 
 module _ (same : ℕ → Bool) (t : List ℕ) (u i : ℕ) (e : u ≡ probe same t i) where
   pub search-on : (s : ℕ) (b : Bool) → i < length t → s ≡ getD t i 0 → (s ≡ 0 → ⊥) → b ≡ same s → b ≡ false → u ≡ probe same t (i + 1)

@@ -9,10 +9,11 @@ use lib.Dec.{eqb, leb}
 use lib.ListN.{length, getD, set}
 use Rattle.basics.specs.Limits.{kidWords}
 use Rattle.basics.specs.Pick.{pick}
-use Rattle.nodes.specs.Words.{Words, value}
+use Rattle.ids.specs.Ids.{isLeaf}
+use Rattle.nodes.specs.Words.{Words, own, value}
 use Rattle.nodes.specs.Tally.{kidsOf}
-use Rattle.find_hash.specs.Hash.{homeFor}
-use Rattle.find.specs.Content.{contentIs}
+use Rattle.find_hash.specs.Hash.{leafHash, kidsHash, homeIn}
+use Rattle.find.specs.Content.{leafIs, kidsAre}
 
 abbrev pub cell : List ℕ → ℕ → ℕ
 cell t p = getD t p 0
@@ -31,9 +32,13 @@ probeN same t (suc f) i = let on = probeN same t f (suc i) in pick (stops same (
 unfoldable pub probe : (ℕ → Bool) → List ℕ → ℕ → ℕ
 probe same t i = probeN same t (length t - i) i
 
--- the cell where the search for a content ends: the search stops at the first slot whose content is equal
-unfoldable pub cellOf : List ℕ → ℕ → Words → List ℕ → ℕ → ℕ
-cellOf t cap W ks v = probe (contentIs W ks v) t (homeFor cap ks v)
+-- the cell where the search for the leaf of value v, or for the branch of the children ks, ends, whose hash is h: the search stops at the first slot whose
+-- content is equal
+unfoldable pub leafCell : List ℕ → ℕ → Words → ℕ → ℕ → ℕ
+leafCell t cap W h v = probe (leafIs W h v) t (homeIn cap h)
+
+unfoldable pub kidsCell : List ℕ → ℕ → Words → ℕ → List ℕ → ℕ
+kidsCell t cap W h ks = probe (kidsAre W h ks) t (homeIn cap h)
 
 -- a probe from cell i ends at r: the cells passed name slots that are not the same, and r is empty or names one that is. `u p` is what the cell p holds
 pub record Ended (same : ℕ → Bool) (u : ℕ → ℕ) (i r : ℕ) : Type 0 where
@@ -42,8 +47,10 @@ pub record Ended (same : ℕ → Bool) (u : ℕ → ℕ) (i r : ℕ) : Type 0 wh
   pub ends : (u r ≡ 0) ⊎ (same (u r) ≡ true)
 
 -- the cell where the search for the content of slot s ends
-abbrev pub seat : List ℕ → ℕ → Words → ℕ → ℕ
-seat t cap W s = cellOf t cap W (kidsOf kidWords W s) (W s value)
+unfoldable pub seat : List ℕ → ℕ → Words → ℕ → ℕ
+seat t cap W s =
+    let ks = kidsOf kidWords W s in
+    pick (isLeaf (W s own)) (leafCell t cap W (leafHash (W s value)) (W s value)) (kidsCell t cap W (kidsHash ks) ks)
 
 -- ## A slot put in, and taken out
 
@@ -93,7 +100,7 @@ pub record Finds (home : ℕ → ℕ) (live : ℕ → Type 0) (t : List ℕ) : T
   pub names : (x : ℕ) → 0 < x → Named (cell t) x ↔ live x
 
 -- The same said of the search: the search for the content of a live slot ends at a cell that names it; the table names live slots only, each once.
--- (Where no two live slots have equal content it is `Finds` with the slots' homes, both ways: proofs/Searched.antt)
+-- (Where no two live slots have equal content and each keeps its content's hash, it is `Finds` with the slots' homes, both ways: proofs/Searched.antt)
 pub record Searched (cap : ℕ) (W : Words) (live : ℕ → Type 0) (t : List ℕ) : Type 0 where
   pub found : (s : ℕ) → live s → cell t (seat t cap W s) ≡ s
   pub named : (p : ℕ) → 0 < cell t p → live (cell t p)

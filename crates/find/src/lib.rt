@@ -1,19 +1,21 @@
 // The finding table: which slot has a content. See specs/Content.antt and specs/Cells.antt.
 use basics::KID_WORDS;
 use basics::Kids;
-use basics::NO_KIDS;
-use find_hash::home_for;
+use find_hash::home_in;
+use ids::BlockId;
+use nodes::HASH;
 use nodes::VALUE;
 use nodes::children;
 use nodes::fact;
+use nodes::own;
 ghost use mathlib.Core.Path.{_≡_};
 ghost use Prim.Native.Nat.{_%_};
 ghost use lib.Dec.{eqb};
 ghost use lib.ListN.{getD, set};
-ghost use Rattle.nodes.specs.Words.{kidOf};
+ghost use Rattle.nodes.specs.Words.{kidOf, factOf};
 ghost use Rattle.nodes.specs.Lent.{wordsIn};
-ghost use Rattle.find.specs.Content.{noKids, agree, contentIs};
-ghost use Rattle.find.specs.Cells.{cellOf, probe};
+ghost use Rattle.find.specs.Content.{agree, leafIs, kidsAre};
+ghost use Rattle.find.specs.Cells.{leafCell, kidsCell, probe};
 
 // Where a search ended: the cell, and the slot that it names, 0 for none.
 pub struct Found {
@@ -69,15 +71,51 @@ pub fn number_from(find: &[u16], s: usize, from: usize) -> usize
     i
 }
 
-// ---- the search
+// ---- the search for a leaf
 
-// Has slot s the value v and the children ks?
-fn content_is(kids: &[u64], facts: &[u64], ks: Kids, v: u64, s: usize) -> bool
-    ensures { λ r. ⌜ r ≡ contentIs (wordsIn kids facts) ks v s ⌝ }
+// Has slot s the hash h and a leaf of the value v? Its children are not read.
+fn is_leaf_of(facts: &[u32], h: u32, v: u32, s: usize) -> bool
+    ensures { λ r. ⌜ r ≡ leafIs (factOf (now (facts .entry))) h v s ⌝ }
 {
-    if fact(facts, s, VALUE) != v {
-        return false;
+    if fact(facts, s, HASH) == h {
+        if BlockId(own(facts, s)).is_leaf() {
+            return fact(facts, s, VALUE) == v;
+        }
     }
+    false
+}
+
+// Searches for the leaf of value v, whose hash is h: the slot that has it, 0 for none, and the cell where the search ended, the first from the home on that is
+// empty or names a slot that has it.
+pub fn search_leaf(find: &[u16], facts: &[u32], capacity: usize, h: u32, v: u32) -> Found
+    ensures { λ r. ⌜ (r .cell ≡ leafCell (now (find .entry)) capacity (factOf (now (facts .entry))) h v) × (r .slot ≡ getD (now (find .entry)) (r .cell) 0) ⌝ }
+{
+    let mut i = home_in(capacity, h);
+    let slot = loop {
+        if find.len() <= i {
+            break 0;
+        }
+        let named = wide(find[i]);
+        if named == 0 {
+            break 0;
+        }
+        if is_leaf_of(facts, h, v, named) {
+            break named;
+        }
+        i += 1;
+    };
+    Found {
+        slot: slot,
+        cell: i,
+    }
+}
+
+// ---- the search for a branch
+
+// Has slot s the children ks?
+fn kids_equal(kids: &[u64], ks: Kids, s: usize) -> bool
+    ensures { λ r. ⌜ r ≡ agree (kidOf (now (kids .entry))) s 0 ks ⌝ }
+{
     let own = children(kids, s);
     let mut j: usize = 0;
     while j < KID_WORDS {
@@ -89,12 +127,21 @@ fn content_is(kids: &[u64], facts: &[u64], ks: Kids, v: u64, s: usize) -> bool
     true
 }
 
-// Searches for a content: the slot that has it, 0 for none, and the cell where the search ended, the first from the home of the content on that is
-// empty or names a slot whose content is equal.
-pub fn search(find: &[u16], kids: &[u64], facts: &[u64], capacity: usize, ks: Kids, v: u64) -> Found
-    ensures { λ r. ⌜ (r .cell ≡ cellOf (now (find .entry)) capacity (wordsIn kids facts) ks v) × (r .slot ≡ getD (now (find .entry)) (r .cell) 0) ⌝ }
+// Has slot s the hash h and the children ks? Only where the hash is equal are its children read.
+fn kids_are(kids: &[u64], facts: &[u32], h: u32, ks: Kids, s: usize) -> bool
+    ensures { λ r. ⌜ r ≡ kidsAre (wordsIn kids facts) h ks s ⌝ }
 {
-    let mut i = home_for(capacity, ks, v);
+    if fact(facts, s, HASH) == h {
+        return kids_equal(kids, ks, s);
+    }
+    false
+}
+
+// Searches for the branch of the children ks, whose hash is h: answers as `search_leaf` does.
+pub fn search(find: &[u16], kids: &[u64], facts: &[u32], capacity: usize, h: u32, ks: Kids) -> Found
+    ensures { λ r. ⌜ (r .cell ≡ kidsCell (now (find .entry)) capacity (wordsIn kids facts) h ks) × (r .slot ≡ getD (now (find .entry)) (r .cell) 0) ⌝ }
+{
+    let mut i = home_in(capacity, h);
     let slot = loop {
         if find.len() <= i {
             break 0;
@@ -103,76 +150,8 @@ pub fn search(find: &[u16], kids: &[u64], facts: &[u64], capacity: usize, ks: Ki
         if s == 0 {
             break 0;
         }
-        if content_is(kids, facts, ks, v, s) {
+        if kids_are(kids, facts, h, ks, s) {
             break s;
-        }
-        i += 1;
-    };
-    Found {
-        slot: slot,
-        cell: i,
-    }
-}
-
-// ---- the search for a leaf
-
-// Is each of the eight children of slot s EMPTY?
-fn childless(kids: &[u64], s: usize) -> bool
-    ensures { λ r. ⌜ r ≡ agree (kidOf (now (kids .entry))) s 0 noKids ⌝ }
-{
-    let own = children(kids, s);
-    if own[0] != 0 {
-        return false;
-    }
-    if own[1] != 0 {
-        return false;
-    }
-    if own[2] != 0 {
-        return false;
-    }
-    if own[3] != 0 {
-        return false;
-    }
-    if own[4] != 0 {
-        return false;
-    }
-    if own[5] != 0 {
-        return false;
-    }
-    if own[6] != 0 {
-        return false;
-    }
-    if own[7] != 0 {
-        return false;
-    }
-    true
-}
-
-// Has slot s the value v and eight EMPTY children?
-fn is_leaf_of(kids: &[u64], facts: &[u64], v: u64, s: usize) -> bool
-    ensures { λ r. ⌜ r ≡ contentIs (wordsIn kids facts) noKids v s ⌝ }
-{
-    if fact(facts, s, VALUE) == v {
-        return childless(kids, s);
-    }
-    false
-}
-
-// Searches for the leaf of value v: answers what `search` does of eight EMPTY children and v.
-pub fn search_leaf(find: &[u16], kids: &[u64], facts: &[u64], capacity: usize, v: u64) -> Found
-    ensures { λ r. ⌜ (r .cell ≡ cellOf (now (find .entry)) capacity (wordsIn kids facts) noKids v) × (r .slot ≡ getD (now (find .entry)) (r .cell) 0) ⌝ }
-{
-    let mut i = home_for(capacity, NO_KIDS, v);
-    let slot = loop {
-        if find.len() <= i {
-            break 0;
-        }
-        let named = wide(find[i]);
-        if named == 0 {
-            break 0;
-        }
-        if is_leaf_of(kids, facts, v, named) {
-            break named;
         }
         i += 1;
     };

@@ -1,25 +1,23 @@
 // A slot taken out of the finding table. See specs/Cells.antt of crate `find`.
 use find::number_from;
-use find_hash::home_for;
-use nodes::VALUE;
-use nodes::children;
+use find_hash::home_in;
+use nodes::HASH;
 use nodes::fact;
 ghost use mathlib.Core.Path.{_≡_};
-ghost use lib.Dec.{eqb};
-ghost use Rattle.nodes.specs.Lent.{wordsIn};
+ghost use Rattle.nodes.specs.Words.{factOf};
 ghost use Rattle.find.specs.Content.{homeAt};
-ghost use Rattle.find.specs.Cells.{probe, erase};
+ghost use Rattle.find.specs.Cells.{erase, remove};
 
-// The first cell to look at for the content of slot s.
-fn home_at(kids: &[u64], facts: &[u64], capacity: usize, s: usize) -> usize
-    ensures { λ r. ⌜ r ≡ homeAt capacity (wordsIn kids facts) s ⌝ }
+// The home of the node in slot s, by the hash that it keeps.
+fn home_at(facts: &[u32], capacity: usize, s: usize) -> usize
+    ensures { λ r. ⌜ r ≡ homeAt capacity (factOf (now (facts .entry))) s ⌝ }
 {
-    home_for(capacity, children(kids, s), fact(facts, s, VALUE))
+    home_in(capacity, fact(facts, s, HASH))
 }
 
 // Cell `at` taken out: what stands above it and can be nearer to its home moves down, so that no search ends too early.
-fn erase_at(find: &mut [u16], kids: &[u64], facts: &[u64], capacity: usize, at: usize)
-    ensures { λ _. ⌜ now (find .exit) ≡ erase (homeAt capacity (wordsIn kids facts)) (now (find .entry)) at ⌝ }
+fn erase_at(find: &mut [u16], facts: &[u32], capacity: usize, at: usize)
+    ensures { λ _. ⌜ now (find .exit) ≡ erase (homeAt capacity (factOf (now (facts .entry)))) (now (find .entry)) at ⌝ }
 {
     if find.len() <= at {
         return;
@@ -36,7 +34,7 @@ fn erase_at(find: &mut [u16], kids: &[u64], facts: &[u64], capacity: usize, at: 
             find[hole] = 0;
             return;
         }
-        if home_at(kids, facts, capacity, x as usize) <= hole {
+        if home_at(facts, capacity, x as usize) <= hole {
             find[hole] = x;
             hole = j;
             j += 1;
@@ -46,17 +44,10 @@ fn erase_at(find: &mut [u16], kids: &[u64], facts: &[u64], capacity: usize, at: 
     }
 }
 
-// Takes out of the finding table the cell where the probe for the number s from the cell `from` on ends. The contents have to be there still.
-pub fn remove_from(
-    find: &mut [u16],
-    kids: &[u64],
-    facts: &[u64],
-    capacity: usize,
-    s: usize,
-    from: usize,
-)
-    ensures { λ _. ⌜ now (find .exit) ≡ erase (homeAt capacity (wordsIn kids facts)) (now (find .entry)) (probe (eqb s) (now (find .entry)) from) ⌝ }
+// Takes slot s out of the finding table: the cell where the probe for its number from its home on ends.
+pub fn remove_slot(find: &mut [u16], facts: &[u32], capacity: usize, s: usize)
+    ensures { λ _. ⌜ now (find .exit) ≡ remove (homeAt capacity (factOf (now (facts .entry)))) (now (find .entry)) s ⌝ }
 {
-    let at = number_from(find, s, from);
-    erase_at(find, kids, facts, capacity, at);
+    let at = number_from(find, s, home_at(facts, capacity, s));
+    erase_at(find, facts, capacity, at);
 }

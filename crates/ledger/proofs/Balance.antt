@@ -12,13 +12,13 @@ use borrow.Author.Tests.{eq-eqb, ne-eqb}
 use Rattle.basics.specs.Pick.{pick}
 use Rattle.ids.specs.Ids.{invalid, empty, generationOf}
 use Rattle.nodes.specs.Tally.{Live, occ, tally}
-use Rattle.nodes.specs.Words.{own, value, holds, places, spare, slot, wordOf}
+use Rattle.nodes.specs.Words.{own, value, holds, places, mark, slot, wordOf}
 use Rattle.nodes.proofs.Access.{put-keeps, put-less, put-slot}
 use Rattle.nodes.proofs.Counts.{live-same, live-inj, live-nonzero, floor-pos}
 use Rattle.nodes.proofs.Sums.{cases, split}
 use Rattle.arena.specs.Calls.{Out, said, heldAt, empties, leafMade, internLeafOf, leafSlot, lessOf, takes, releaseOf, holdOf, freshOf, unheld, each, placedKid, placed, branchAnew, branchMade, branchSlot, internBranchOf, fitOf, liveOf, countsOf}
 use Rattle.arena.specs.Node.{valueFor}
-use Rattle.arena.specs.Tables.{Tables, tablesOf, cap, W, WellFormed, Sized}
+use Rattle.arena.specs.Tables.{liveIn, Tables, tablesOf, cap, W, WellFormed, Sized}
 use Rattle.arena.proofs.Branches.{alive, affords, Placing, placing, unheld-eased}
 use Rattle.arena.proofs.Fits.{live-is, room-yes, sized-fits}
 use Rattle.arena.proofs.Fresh.{Fresh, fresh-gens, leaf-new, branch-new, value-same}
@@ -71,7 +71,7 @@ hold-balanced {t = t} w id =
 there-held : {t : Tables} (s id : ℕ) → Sized t → Lives t id → slot id ≡ s → LeafBalance t (said 0 id (heldAt t s))
 there-held {t} s id z l e y = omega (arith, accepted (said 0 id (heldAt t s)) (on y id) refl, held-balance s id z l e y)
 
-module _ {n tallest : ℕ} {t : Tables} (m : n ≤ 8) (w : WellFormed n tallest t) (room : t .arena .live + 1 < cap t) where
+module _ {n tallest : ℕ} {t : Tables} (m : n ≤ 8) (w : WellFormed n tallest t) (room : liveIn (t .arena) + 1 < cap t) where
   pub leaf-one : (v : ℕ) → Fresh t (leafMade t v .after) (leafMade t v .id) empties v 1 0
   unfolding leafMade
   leaf-one v = leaf-new (wf-inv m w) room v 1 0
@@ -190,7 +190,7 @@ module _ {n tallest : ℕ} {t : Tables} (m : n ≤ 8) (w : WellFormed n tallest 
   placed-word : (b f : ℕ) → f < holds → W put b f ≡ W t b f
   placed-word b f l = placings .eased .words b f (omega arith) (omega arith) (omega arith)
 
-  module _ (room : t .arena .live + 1 < cap t) where
+  module _ (room : liveIn (t .arena) + 1 < cap t) where
     pub branch-one : Fresh put (branchMade n t ks .after) (branchMade n t ks .id) ks (valueFor n (W t) ks) 1 0
     unfolding branchMade
     branch-one =
@@ -272,7 +272,7 @@ module _ {n tallest : ℕ} {t u : Tables} (id : ℕ) (r : Released n tallest t i
   of-still y l = subst (λ (c : ℕ). Live c (W u) y) (sym (r .size)) l
 
   -- what lives after lived before, and keeps all but its counts
-  pub released-word : (y : ℕ) → Lives u y → (f : ℕ) → f ≤ spare → f ≢ places → W u (slot y) f ≡ W (lessOf holds t id) (slot y) f
+  pub released-word : (y : ℕ) → Lives u y → (f : ℕ) → f ≤ mark → f ≢ places → W u (slot y) f ≡ W (lessOf holds t id) (slot y) f
   released-word y l f a b =
       let s = to-still y l in
       let i = s .is in
@@ -353,8 +353,8 @@ pub fresh-bare : {n tallest : ℕ} (c : ℕ) (k f e : List ℕ) → WellFormed n
 fresh-bare c k f e w y v =
     let u = freshOf c k f e .after in
     let o : W u (slot y) own ≡ 0 = cases (ℕ-discrete (slot y) 0)
-    (λ q. ap (λ (b : ℕ). W u b own) q ∙ w .chain .ground)
-    (λ q. w .chain .unused (slot y) (let x = fresh-next c k f e in omega arith) (v .low)) in
+    (λ q. ap (λ (b : ℕ). W u b own) q ∙ w .stack .ground)
+    (λ q. w .stack .unused (slot y) (let x = fresh-next c k f e in omega arith) (v .low)) in
     let i = v .is in
     let h = v .high in
     let p = floor-pos in

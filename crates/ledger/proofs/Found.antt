@@ -12,7 +12,7 @@ use Rattle.ids.specs.Ids.{generationOf, isLeaf}
 use Rattle.nodes.specs.Tally.{kidsOf}
 use Rattle.nodes.specs.Words.{Words, own, value, slot, floor, wordOf}
 use Rattle.nodes.proofs.Counts.{floor-pos}
-use Rattle.nodes.proofs.Sums.{sumTo-ext, tabFrom-length, tab-at}
+use Rattle.nodes.proofs.Sums.{sumTo-ext, tabFrom-length}
 use Rattle.find.specs.Content.{agree}
 use Rattle.find.proofs.Contents.{agree-true, agree-words, kids-are}
 use Rattle.find.proofs.Searched.{kids-at}
@@ -50,7 +50,7 @@ module _ {n tallest : ℕ} {t : Tables} (m : n ≤ 8) (w : WellFormed n tallest 
 
   pub not-ground : (y : ℕ) → Lives t y → slot y ≢ 0
   not-ground y v q =
-      let z : W t (slot y) own ≡ 0 = ap (λ (b : ℕ). W t b own) q ∙ w .chain .ground in
+      let z : W t (slot y) own ≡ 0 = ap (λ (b : ℕ). W t b own) q ∙ w .stack .ground in
       let i = v .is in
       let h = v .high in
       let p = floor-pos in

@@ -124,8 +124,8 @@ module _ (R : Tables → Tables → List ℕ → Type 0)
       let b0 = b .0 in
       let b1 = b .1 in
       to (each (takes k places) (recycled t (slot x)) (kidsOf 8 (W t) (slot x))) (slot x ∷ eachGoes (takes k places) (goes k places) (recycled t (slot x)) (kidsOf 8 (W t) (slot x)))
-      (takes-gone k places t x d u ∙ ap₂ (λ (z : Tables) (l : List ℕ). each (takes k places) z l) (less-recycled places t x (omega arith)) (less-kids places t x (omega arith)))
-      (goes-gone k places t x d u ∙ ap₂ (λ (z : Tables) (l : List ℕ). slot x ∷ eachGoes (takes k places) (goes k places) z l) (less-recycled places t x (omega arith)) (less-kids places t x (omega arith)))
+      (takes-gone k places t x d u ∙ ap₂ (λ (z : Tables) (l : List ℕ). each (takes k places) z l) (less-recycled places t x (omega arith) (omega arith)) (less-kids places t x (omega arith)))
+      (goes-gone k places t x d u ∙ ap₂ (λ (z : Tables) (l : List ℕ). slot x ∷ eachGoes (takes k places) (goes k places) z l) (less-recycled places t x (omega arith) (omega arith)) (less-kids places t x (omega arith)))
       (last-goes k g t x debt v h d (omega arith) (omega arith)))
       (λ u. to (lessOf places t x) [] (takes-left k places t x d u) (goes-left k places t x u) (less t x)))
     where

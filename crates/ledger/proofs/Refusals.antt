@@ -4,7 +4,7 @@ use mathlib.Core.Logic.{_≢_, inl, inr}
 use mathlib.Core.Bool.{Bool, true, false, not, true≢false}
 use mathlib.Core.List.{List, [], _∷_, List·Memᴰ·head, List·Memᴰ·tail}
 use Prim.Native.Nat.{ℕ, zero, suc, _-_, _≤_, _<_}
-use native.Mathlib.Decide.{ℕ-discrete, decLt}
+use native.Mathlib.Decide.{ℕ-discrete}
 use native.Mathlib.Omega.{arith}
 use lib.Dec.{eqb, leb}
 use lib.ListN.{length, getD}
@@ -17,12 +17,11 @@ use Rattle.nodes.specs.Tally.{occ}
 use Rattle.nodes.specs.Words.{Words, own, holds, slot}
 use Rattle.nodes.proofs.Counts.{live-nonzero}
 use Rattle.nodes.proofs.Sums.{cases, split, occ-here, occ-cons}
-use Rattle.arena.specs.Calls.{Out, Fair, refused, did, fits, fitOf, liveOf, fullOf, roomOf, empties, leafSlot, internLeafNo, internLeafOf, allOf, liveOrEmpty, enoughFor, allLive, enough, noneOf, branchSlot, internBranchNo, internBranchOf, holdNo, holdOf, releaseNo, releaseOf, countsOf, fresh, freshOf}
+use Rattle.arena.specs.Calls.{Out, Fair, refused, fits, liveOf, fullOf, roomOf, empties, leafSlot, internLeafNo, internLeafOf, allOf, liveOrEmpty, enoughFor, allLive, enough, noneOf, branchSlot, internBranchNo, internBranchOf, holdNo, holdOf, releaseNo, releaseOf, countsOf, fresh, freshOf}
 use Rattle.arena.specs.Node.{heightFor}
-use Rattle.arena.specs.Tables.{Tables, tables, cap, W, WellFormed, Sized}
+use Rattle.arena.specs.Tables.{liveIn, Tables, tables, cap, W, WellFormed, Sized}
 use Rattle.arena.proofs.Branches.{alive, affords, some-kid}
 use Rattle.arena.proofs.Fits.{live-is, fits-sized, sized-fits, room-yes}
-use Rattle.ledger.specs.Ledger.{holdsOn}
 use Rattle.ledger.specs.Fates.{Lives, HasContent}
 use Rattle.ledger.specs.Refusals.{Crowded, Full, HasIds, LeafWhy, BranchWhy, HoldWhy, ReleaseWhy, unsizedLeaf, unsizedBranch, unsizedHeld, unsizedReleased, deadChild, deadHeld, deadReleased, poorChild, poorReleased, nothing, allEmpty, tall, fullLeaf, fullBranch, fullHeld, crowdedLeaf, crowdedBranch, CountsWhy, unsizedCounts, deadCounted, FreshWhy, unsizedFresh, Exactly}
 use Rattle.ledger.proofs.Contents.{one-has, one-of-eight-ids}
@@ -99,7 +98,7 @@ dead t y = denies (liveOrEmpty (cap t) (W t) y)
 
 pub room-no : (t : Tables) → roomOf (t .arena) ≡ false → Crowded t
 unfolding roomOf
-room-no t e = let p = ltb-false 0 (cap t - 1 - t .arena .live) e in omega arith
+room-no t e = let p = ltb-false 0 (cap t - 1 - liveIn (t .arena)) e in omega arith
 
 -- ---- hold, release and counts, on any tables
 

@@ -15,7 +15,7 @@ use Rattle.arena.specs.Tables.{Tables, cap, W}
 abbrev pub Lives : Tables → ℕ → Type 0
 Lives t y = Live (cap t) (W t) y
 
--- y has the same id, eight children, stored value and height in u as in t: all its words but the two counts (and the link and the spare word)
+-- y has the same id, eight children, stored value, height, sum and hash in u as in t: all its words but the two counts (and the mark)
 abbrev pub SameNode : Tables → Tables → ℕ → Type 0
 SameNode t u y = (f : ℕ) → f < holds → W u (slot y) f ≡ W t (slot y) f
 

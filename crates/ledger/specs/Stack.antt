@@ -9,11 +9,12 @@ use Rattle.basics.specs.Pick.{pick}
 use Rattle.nodes.specs.Tally.{Freed, kidsOf}
 use Rattle.nodes.specs.Words.{holds, places, slot}
 use Rattle.arena.specs.Calls.{Out, recycled, lessOf, unusedOf, takes, releaseNo}
-use Rattle.arena.specs.Tables.{Tables, cap, W}
+use Rattle.arena.specs.Tables.{liveIn, Tables, cap, W, freedOf}
 
--- fs are the slots that were given out and are not live, each once, the last one freed first: each is linked to the one freed before it
-abbrev pub Stack : Tables → List ℕ → Type 0
-Stack t fs = Freed (cap t) (W t) (t .arena .top) (t .arena .next) fs
+-- fs are the slots that were given out and are not live, each once, the last one freed first: the entries of their stack from the top down
+pub record Stack (t : Tables) (fs : List ℕ) : Type 0 where
+  pub well : Freed (cap t) (W t) (t .arena .next) (t .arena .freed)
+  pub slots : freedOf t ≡ fs
 
 -- ss put on top, one after the other
 abbrev pub pushed : List ℕ → List ℕ → List ℕ
@@ -32,7 +33,7 @@ lastFreed (s ∷ fs) next = s
 
 -- those left of fs once each node that was made from t to u has taken the top one
 abbrev pub leftOf : Tables → Tables → List ℕ → List ℕ
-leftOf t u fs = drop (u .arena .live - t .arena .live) fs
+leftOf t u fs = drop (liveIn (u .arena) - liveIn (t .arena)) fs
 
 -- the slot of a node that is made after k others: of those left the last one freed, else the lowest never used by then
 abbrev pub slotAfter : ℕ → List ℕ → ℕ → ℕ
@@ -41,9 +42,9 @@ slotAfter k fs next = lastFreed (drop k fs) (next + (k - length fs))
 -- What a call that ends no node does to the freed slots fs: each node that it makes takes the last one freed, else the lowest never used. If it makes any,
 -- its answer is the last of them.
 pub record Draws (t : Tables) (fs : List ℕ) (o : Out) : Type 0 where
-  pub grows : t .arena .live ≤ o .after .arena .live
+  pub grows : liveIn (t .arena) ≤ liveIn (o .after .arena)
   pub left : Stack (o .after) (leftOf t (o .after) fs)
-  pub given : (k : ℕ) → o .after .arena .live ≡ t .arena .live + suc k → slot (o .id) ≡ slotAfter k fs (t .arena .next)
+  pub given : (k : ℕ) → liveIn (o .after .arena) ≡ liveIn (t .arena) + suc k → slot (o .id) ≡ slotAfter k fs (t .arena .next)
 
 -- what h says of each, one after the other, where g is what becomes of the tables
 unfoldable pub eachGoes : (Tables → ℕ → Tables) → (Tables → ℕ → List ℕ) → Tables → List ℕ → List ℕ

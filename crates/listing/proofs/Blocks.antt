@@ -12,7 +12,7 @@ use borrow.Rule.Slice.PartMut.{midOf, putMid, same-len-mid}
 use Rattle.basics.specs.Limits.{deepest, cubeKids}
 use Rattle.basics.specs.Puts.{putsFrom}
 use Rattle.basics.proofs.Puts.{puts-append}
-use Rattle.arena.specs.Tables.{tables}
+use Rattle.arena.specs.Tables.{tables, stateOf as arenaOf}
 use Rattle.arena.specs.Calls.{Fair}
 use Rattle.listing.specs.Listing.{State, Progress, Records, stateOf, widest, recordIn, linedOf, stateAt, lineAt, linesAt, takenOf, Told, toldOf}
 use Rattle.listing.specs.Models.{oneOf, keptAt}
@@ -92,8 +92,8 @@ pub record Loop (k : Records) (n : ℕ) (run : Run) (k₀ f₀ e₀ b o₀ : Lis
   pub facts : length f₁ ≡ length f₀
   pub find : length e₁ ≡ length e₀
   pub out : length o ≡ length o₀
-  pub kept : Fair cubeKids deepest (tables (run .arena) k₀ f₀ e₀)
-      → Fair cubeKids deepest (tables (now .arena) k₁ f₁ e₁) × (_≡_ {A = Progress} (record { state = stateOf now k₁ f₁ e₁; len = len; out = o }) (keptAt k (stateOf run k₀ f₀ e₀) b o₀ i))
+  pub kept : Fair cubeKids deepest (tables (arenaOf (run .arena)) k₀ f₀ e₀)
+      → Fair cubeKids deepest (tables (arenaOf (now .arena)) k₁ f₁ e₁) × (_≡_ {A = Progress} (record { state = stateOf now k₁ f₁ e₁; len = len; out = o }) (keptAt k (stateOf run k₀ f₀ e₀) b o₀ i))
 
 kept-none : (k : Records) (s : State) (b o : List ℕ) → _≡_ {A = Progress} (record { state = s; len = 0; out = o }) (keptAt k s b o 0)
 unfolding keptAt stateAt linesAt putsFrom
@@ -123,8 +123,8 @@ module _ {k : Records} {n : ℕ} {run : Run} {k₀ f₀ e₀ b o₀ : List ℕ} 
 
   pub again : i < most → (rec : List ℕ) → rec ≡ recordIn (k .width) b i → (r : Lined) (k₂ f₂ e₂ part : List ℕ)
       → length k₂ ≡ length k₁ → length f₂ ≡ length f₁ → length e₂ ≡ length e₁ → length part ≡ length (midOf len (length o - len) o) → r .len ≤ widest
-      → (Fair cubeKids deepest (tables (now .arena) k₁ f₁ e₁)
-      → Fair cubeKids deepest (tables (r .run .arena) k₂ f₂ e₂)
+      → (Fair cubeKids deepest (tables (arenaOf (now .arena)) k₁ f₁ e₁)
+      → Fair cubeKids deepest (tables (arenaOf (r .run .arena)) k₂ f₂ e₂)
       × (_≡_ {A = Progress} (record { state = stateOf (r .run) k₂ f₂ e₂; len = r .len; out = part }) (oneOf k (stateOf now k₁ f₁ e₁) rec (midOf len (length o - len) o))))
       → Loop k n run k₀ f₀ e₀ b o₀ most (r .run) k₂ f₂ e₂ (putMid len (length o - len) o part) (i + 1) (len + r .len)
   unfolding keptAt
@@ -153,7 +153,7 @@ module _ {k : Records} {n : ℕ} {run : Run} {k₀ f₀ e₀ b o₀ : List ℕ} 
 
   pub loop-told : most ≤ i
       → (i ≡ takenOf n (length o₀))
-      × (Fair cubeKids deepest (tables (run .arena) k₀ f₀ e₀) → _≡_ {A = Told} (record { state = stateOf now k₁ f₁ e₁; records = i; len = len; out = o }) (toldOf k (stateOf run k₀ f₀ e₀) b o₀ i))
+      × (Fair cubeKids deepest (tables (arenaOf (run .arena)) k₀ f₀ e₀) → _≡_ {A = Told} (record { state = stateOf now k₁ f₁ e₁; records = i; len = len; out = o }) (toldOf k (stateOf run k₀ f₀ e₀) b o₀ i))
   unfolding toldOf keptAt
   loop-told h = (
     omega (arith, at .within, at .many),

@@ -11,7 +11,7 @@ use Rattle.basics.specs.Limits.{deepest, cubeKids, kidWords}
 use Rattle.basics.specs.Puts.{putsFrom}
 use Rattle.nodes.proofs.Sums.{cases}
 use Rattle.ids.specs.declared.BlockId.{BlockId}
-use Rattle.arena.specs.Tables.{Tables, tables, WellFormed}
+use Rattle.arena.specs.Tables.{stateIn, Tables, tables, WellFormed, stateOf as arenaOf}
 use Rattle.arena.specs.Calls.{Out, Fair, fits, madeOf, answeredOf, releaseOf, freshOf}
 use Rattle.arena.specs.declared.Made.{Made}
 use Rattle.arena.specs.declared.Answer.{Answer}
@@ -58,26 +58,26 @@ count-by : (n j : ℕ) → j ≡ (n + 1) % 2 ^ 64 → j ≡ oneMore n
 unfolding oneMore
 count-by n j e = e
 
-module _ (root : BlockId) (count : ℕ) (m : Made) (k f e : List ℕ) (j : ℕ) (more : j ≡ (count + 1) % 2 ^ 64) where
-  pub to-refused : (m .no ≡ 0 → ⊥) → Fair cubeKids deepest (tables (m .arena) k f e)
-      → _≡_ {A = Stepped} (record { state = record { tables = tables (m .arena) k f e; root = root .0; count = j }; no = m .no }) (steppedOf (root .0) count (madeOf m k f e))
+module _ (c : ℕ) (root : BlockId) (count : ℕ) (m : Made) (k f e : List ℕ) (j : ℕ) (more : j ≡ (count + 1) % 2 ^ 64) where
+  pub to-refused : (m .no ≡ 0 → ⊥) → Fair cubeKids deepest (tables (stateIn c (m .slots)) k f e)
+      → _≡_ {A = Stepped} (record { state = record { tables = tables (stateIn c (m .slots)) k f e; root = root .0; count = j }; no = m .no }) (steppedOf (root .0) count (madeOf c m k f e))
   unfolding steppedOf
   to-refused z fair =
-      ap (λ (i : ℕ). record { state = record { tables = tables (m .arena) k f e; root = root .0; count = i }; no = m .no }) (count-by count j more)
-      ∙ ap (λ (s : State). record { state = s; no = m .no }) (sym (step-refused (root .0) count (madeOf m k f e) z))
+      ap (λ (i : ℕ). record { state = record { tables = tables (stateIn c (m .slots)) k f e; root = root .0; count = i }; no = m .no }) (count-by count j more)
+      ∙ ap (λ (s : State). record { state = s; no = m .no }) (sym (step-refused (root .0) count (madeOf c m k f e) z))
 
   pub to-accepted : m .no ≡ 0 → (r : Answer) (k₁ f₁ e₁ : List ℕ)
-      → ((n tallest : ℕ) → n ≤ kidWords → tallest ≤ deepest → Fair n tallest (tables (m .arena) k f e) → answeredOf r k₁ f₁ e₁ ≡ releaseOf tallest (tables (m .arena) k f e) (root .0))
-      → Fair cubeKids deepest (tables (m .arena) k f e)
-      → _≡_ {A = Stepped} (record { state = record { tables = tables (r .arena) k₁ f₁ e₁; root = m .id .0; count = j }; no = 0 }) (steppedOf (root .0) count (madeOf m k f e))
+      → ((n tallest : ℕ) → n ≤ kidWords → tallest ≤ deepest → Fair n tallest (tables (stateIn c (m .slots)) k f e) → answeredOf c r k₁ f₁ e₁ ≡ releaseOf tallest (tables (stateIn c (m .slots)) k f e) (root .0))
+      → Fair cubeKids deepest (tables (stateIn c (m .slots)) k f e)
+      → _≡_ {A = Stepped} (record { state = record { tables = tables (stateIn c (r .slots)) k₁ f₁ e₁; root = m .id .0; count = j }; no = 0 }) (steppedOf (root .0) count (madeOf c m k f e))
   unfolding steppedOf
   to-accepted z r k₁ f₁ e₁ released fair =
-      let t = tables (m .arena) k f e in
+      let t = tables (stateIn c (m .slots)) k f e in
       let q = released cubeKids deepest (omega arith) (omega arith) fair in
       ap (λ (o : Out). record { state = record { tables = o .after; root = m .id .0; count = j }; no = 0 }) q
       ∙ ap (λ (i : ℕ). record { state = record { tables = releaseOf deepest t (root .0) .after; root = m .id .0; count = i }; no = 0 }) (count-by count j more)
-      ∙ ap (λ (s : State). record { state = s; no = 0 }) (sym (step-accepted (root .0) count (madeOf m k f e) z))
-      ∙ ap (λ (i : ℕ). record { state = stepTo (root .0) count (madeOf m k f e); no = i }) (sym z)
+      ∙ ap (λ (s : State). record { state = s; no = 0 }) (sym (step-accepted (root .0) count (madeOf c m k f e) z))
+      ∙ ap (λ (i : ℕ). record { state = stepTo (root .0) count (madeOf c m k f e); no = i }) (sym z)
 
 -- ---- with its line
 
@@ -100,26 +100,26 @@ lined-state line root count a o = refl
 
 -- entered, and then the run gone on: fair tables stay fair
 pub one-is : {k : Records} → Enters k → (run : Run) (kids f e rec o : List ℕ) → Bytes rec → (m : Made) (k₁ f₁ e₁ : List ℕ)
-    → (Fair cubeKids deepest (tables (run .arena) kids f e) → madeOf m k₁ f₁ e₁ ≡ k .enter (tables (run .arena) kids f e) (run .root .0) rec)
+    → (Fair cubeKids deepest (tables (arenaOf (run .arena)) kids f e) → madeOf (run .arena .capacity) m k₁ f₁ e₁ ≡ k .enter (tables (arenaOf (run .arena)) kids f e) (run .root .0) rec)
     → (r : Lined) (k₂ f₂ e₂ o₁ : List ℕ)
-    → (Fair cubeKids deepest (tables (m .arena) k₁ f₁ e₁)
-    → _≡_ {A = Progress} (record { state = stateOf (r .run) k₂ f₂ e₂; len = r .len; out = o₁ }) (linedOf (k .line) (run .root .0) (run .count) (madeOf m k₁ f₁ e₁) o))
-    → Fair cubeKids deepest (tables (run .arena) kids f e)
-    → Fair cubeKids deepest (tables (r .run .arena) k₂ f₂ e₂)
+    → (Fair cubeKids deepest (tables (stateIn (run .arena .capacity) (m .slots)) k₁ f₁ e₁)
+    → _≡_ {A = Progress} (record { state = stateOf (r .run) k₂ f₂ e₂; len = r .len; out = o₁ }) (linedOf (k .line) (run .root .0) (run .count) (madeOf (run .arena .capacity) m k₁ f₁ e₁) o))
+    → Fair cubeKids deepest (tables (arenaOf (run .arena)) kids f e)
+    → Fair cubeKids deepest (tables (arenaOf (r .run .arena)) k₂ f₂ e₂)
     × (_≡_ {A = Progress} (record { state = stateOf (r .run) k₂ f₂ e₂; len = r .len; out = o₁ }) (oneOf k (stateOf run kids f e) rec o))
 unfolding oneOf answerTo
 one-is {k} enters run kids f e rec o bytes m k₁ f₁ e₁ entered r k₂ f₂ e₂ o₁ gone fair =
     let q = entered fair in
-    let mid = subst (λ (x : Out). Fair cubeKids deepest (x .after)) (sym q) (enters-fair enters (tables (run .arena) kids f e) (run .root .0) rec bytes fair) in
+    let mid = subst (λ (x : Out). Fair cubeKids deepest (x .after)) (sym q) (enters-fair enters (tables (arenaOf (run .arena)) kids f e) (run .root .0) rec bytes fair) in
     let h = gone mid in
-    let state = ap (λ (x : Progress). x .state) h ∙ lined-state (k .line) (run .root .0) (run .count) (madeOf m k₁ f₁ e₁) o in (
-      subst (λ (s : State). Fair cubeKids deepest (s .tables)) (sym state) (step-fair (run .root .0) (run .count) (madeOf m k₁ f₁ e₁) mid),
+    let state = ap (λ (x : Progress). x .state) h ∙ lined-state (k .line) (run .root .0) (run .count) (madeOf (run .arena .capacity) m k₁ f₁ e₁) o in (
+      subst (λ (s : State). Fair cubeKids deepest (s .tables)) (sym state) (step-fair (run .root .0) (run .count) (madeOf (run .arena .capacity) m k₁ f₁ e₁) mid),
       h ∙ ap (λ (x : Out). linedOf (k .line) (run .root .0) (run .count) x o) q,
     )
 
 -- ---- the start
 
-pub start-is : (a : Answer) (c : ℕ) (k f e k₁ f₁ e₁ : List ℕ) → answeredOf a k₁ f₁ e₁ ≡ freshOf c k f e
-    → _≡_ {A = Stepped} (record { state = record { tables = tables (a .arena) k₁ f₁ e₁; root = 0; count = 0 }; no = a .no }) (startOf c k f e)
+pub start-is : (a : Answer) (c : ℕ) (k f e k₁ f₁ e₁ : List ℕ) → answeredOf c a k₁ f₁ e₁ ≡ freshOf c k f e
+    → _≡_ {A = Stepped} (record { state = record { tables = tables (stateIn c (a .slots)) k₁ f₁ e₁; root = 0; count = 0 }; no = a .no }) (startOf c k f e)
 unfolding startOf
 start-is a c k f e k₁ f₁ e₁ h = ap (λ (o : Out). record { state = record { tables = o .after; root = 0; count = 0 }; no = o .no }) h

@@ -13,7 +13,7 @@ use Rattle.basics.specs.Limits.{deepest, cubeKids}
 use Rattle.basics.specs.Puts.{putsFrom}
 use Rattle.basics.proofs.Puts.{puts-there}
 use Rattle.nodes.proofs.Sums.{cases}
-use Rattle.arena.specs.Tables.{WellFormed}
+use Rattle.arena.specs.Tables.{liveIn, WellFormed}
 use Rattle.arena.specs.Calls.{Out, fitOf, fits, freshOf}
 use Rattle.arena.proofs.Holding.{fresh-well}
 use Rattle.basics.specs.Bytes.{Bytes}
@@ -181,7 +181,7 @@ pub entered-listing : {k : Records} {s t : State} {b lines : List ℕ} (r : Ente
     → lines ++ listingAt k t x n cut ≡ listingAt k s (b ++ x) (entered-stands r .many + n) cut
 unfolding listingAt
 entered-listing {k} {t} {lines} r x n cut =
-    let end : State → List ℕ = λ u. endingOf cut (u .tables .arena .live) in
+    let end : State → List ℕ = λ u. endingOf cut (liveIn (u .tables .arena)) in
     sym (append-assoc lines (linesAt k t x n) (end (stateAt k t x n)))
     ∙ ap₂ (λ (l : List ℕ) (u : State). l ++ end u) (entered-lines r x n) (entered-state r x n)
 

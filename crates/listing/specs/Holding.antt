@@ -6,7 +6,7 @@ use mathlib.Core.List.{List}
 use Prim.Native.Nat.{ℕ, _+_, _≤_}
 use lib.ListN.{length}
 use Rattle.basics.specs.Limits.{deepest, cubeKids}
-use Rattle.arena.specs.Tables.{Tables, WellFormed}
+use Rattle.arena.specs.Tables.{liveIn, Tables, WellFormed}
 use Rattle.arena.specs.Calls.{Out, refused, fits, releaseOf}
 use Rattle.ledger.specs.Ledger.{on, holdsOn, ifAccepted, Balanced}
 use Rattle.ledger.specs.Fates.{Lives}
@@ -41,4 +41,4 @@ HeldBeside other s = (y : ℕ) → holdsOn (s .tables) y ≡ other y + on y (s .
 pub record HoldsRoot (s : State) : Type 0 where
   pub alone : HeldAlone (s .tables) (s .root)
   pub lives : (y : ℕ) → Lives (s .tables) y ↔ NodeOf cubeKids (s .tables) (s .root) y
-  pub counted : NodesOf cubeKids (s .tables) (s .root) (s .tables .arena .live)
+  pub counted : NodesOf cubeKids (s .tables) (s .root) (liveIn (s .tables .arena))

@@ -16,9 +16,9 @@ before r k f e = stateOf r (now (k .entry)) (now (f .entry)) (now (e .entry))
 abbrev pub after : Run → Lent → Lent → Lent → State
 after r k f e = stateOf r (now (k .exit)) (now (f .exit)) (now (e .exit))
 
--- the answer to a record, which the call is handed
-abbrev pub handed : Made → Lent → Lent → Lent → Out
-handed m k f e = madeOf m (now (k .entry)) (now (f .entry)) (now (e .entry))
+-- the answer to a record of the run, which the call is handed
+abbrev pub handed : Run → Made → Lent → Lent → Lent → Out
+handed r m k f e = madeOf (r .arena .capacity) m (now (k .entry)) (now (f .entry)) (now (e .entry))
 
 -- what the start, one record and a block answered and left
 abbrev pub stepped : Step → Lent → Lent → Lent → Stepped

@@ -11,7 +11,7 @@ use Rattle.basics.specs.Puts.{putsFrom}
 use Rattle.lines.specs.Lines.{decimal, space, newline}
 use Rattle.ids.specs.Ids.{empty}
 use Rattle.ids_text.specs.Text.{textOf}
-use Rattle.arena.specs.Tables.{Tables, tables}
+use Rattle.arena.specs.Tables.{liveIn, Tables, tables, stateOf as arenaOf}
 use Rattle.arena.specs.Calls.{Out, freshOf, releaseOf}
 use Rattle.listing.specs.declared.Run.{Run}
 
@@ -122,7 +122,7 @@ takenOf n room = min n (room / widest)
 
 -- the state beside the lists of the tables
 abbrev pub stateOf : Run → List ℕ → List ℕ → List ℕ → State
-stateOf r k f e = record { tables = tables (r .arena) k f e; root = r .root .0; count = r .count }
+stateOf r k f e = record { tables = tables (arenaOf (r .arena)) k f e; root = r .root .0; count = r .count }
 
 -- what a block comes to: the state, the records taken, how many bytes were written, and the bytes lent for them
 pub record Told : Type 0 where
@@ -140,7 +140,7 @@ toldOf k s b o n =
 
 -- the listing of n records in the bytes b, of which `cut` are left over
 unfoldable pub listingAt : Records → State → List ℕ → ℕ → ℕ → List ℕ
-listingAt k s b n cut = linesAt k s b n ++ endingOf cut (stateAt k s b n .tables .arena .live)
+listingAt k s b n cut = linesAt k s b n ++ endingOf cut (liveIn (stateAt k s b n .tables .arena))
 
 -- A run over blocks of whole records: the bytes taken in so far, the state, and the lines so far.
 pub data Entered (k : Records) (s : State) : List ℕ → State → List ℕ → Type 0 where

@@ -15,6 +15,7 @@ ghost use Rattle.basics.specs.Limits.{deepest, cubeKids};
 ghost use Rattle.basics.specs.Puts.{putsFrom};
 ghost use Rattle.ids_text.specs.Text.{textOf};
 ghost use Rattle.arena.specs.Calls.{Fair};
+ghost use Rattle.arena.specs.Tables.{liveIn, stateOf};
 ghost use Rattle.listing.specs.Lent.{handed, stepped, lined};
 ghost use Rattle.lines.specs.Lines.{newline};
 ghost use Rattle.listing.specs.Listing.{lineOf, widest, shortOf, endingOf, steppedOf, linedOf, startOf, takenOf};
@@ -82,11 +83,11 @@ fn put_line(out: &mut [u8], number: u64, no: u32, root: BlockId) -> usize
 
 // Writes the last lines: a cut last record of `cut` bytes if there is one, and how many nodes live; answers how many bytes they have.
 pub fn ending(run: Run, cut: usize, out: &mut [u8]) -> usize
-    ensures { λ r. ⌜ (now (out .exit) ≡ putsFrom (now (out .entry)) 0 (endingOf cut (run .arena .live))) × (r ≡ length (endingOf cut (run .arena .live))) ⌝ }
+    ensures { λ r. ⌜ (now (out .exit) ≡ putsFrom (now (out .entry)) 0 (endingOf cut (liveIn (stateOf (run .arena))))) × (r ≡ length (endingOf cut (liveIn (stateOf (run .arena))))) ⌝ }
 {
     let short = put_short(out, cut);
     let word = put_text(out, short, b"live ");
-    let live = put_number(out, short + word, run.arena.live as u64, b'\n');
+    let live = put_number(out, short + word, arena::live(run.arena), b'\n');
     short + word + live
 }
 
@@ -105,14 +106,16 @@ fn put_short(out: &mut [u8], cut: usize) -> usize
 // ---- from record to record
 
 // A fresh arena over the tables, with nothing in it, before the first record. Where the tables do not fit the capacity it answers 1, and so does every record.
-pub fn start(capacity: usize, kids: &mut [u64], facts: &mut [u64], find: &mut [u16]) -> Step
+pub fn start(capacity: usize, kids: &mut [u64], facts: &mut [u32], find: &mut [u16]) -> Step
     ensures { λ r. ⌜ stepped r kids facts find ≡ startOf capacity (now (kids .entry)) (now (facts .entry)) (now (find .entry)) ⌝ }
 {
     let fresh = arena_hold::fresh(capacity, kids, facts, find);
-    let arena = fresh.arena;
     Step {
         run: Run {
-            arena: arena,
+            arena: Arena {
+                capacity: capacity,
+                slots: fresh.slots,
+            },
             root: BlockId::EMPTY,
             count: 0,
         },
@@ -128,20 +131,18 @@ pub fn taken(records: usize, room: usize) -> usize
     if records < lines { records } else { lines }
 }
 
-// From a root and a count, after the answer to a record: accepted, its id is the root and the old root is released; refused, the old root stays.
-pub fn step_to(
-    root: BlockId,
-    count: u64,
-    made: Made,
-    kids: &mut [u64],
-    facts: &mut [u64],
-    find: &mut [u16],
-) -> Step
-    ensures { λ r. ⌜ (Fair cubeKids deepest (handed made kids facts find .after)
-        → stepped r kids facts find ≡ steppedOf (root .0) count (handed made kids facts find)) ⌝ }
+// From a run, after the answer to a record: accepted, its id is the root and the old root is released; refused, the old root stays.
+pub fn step_to(run: Run, made: Made, kids: &mut [u64], facts: &mut [u32], find: &mut [u16]) -> Step
+    ensures { λ r. ⌜ (Fair cubeKids deepest (handed run made kids facts find .after)
+        → stepped r kids facts find ≡ steppedOf (run .root .0) (run .count) (handed run made kids facts find)) ⌝ }
 {
-    let number = wrapping_add_u64(count, 1);
-    let answered = made.arena;
+    let number = wrapping_add_u64(run.count, 1);
+    let capacity = run.arena.capacity;
+    let root = run.root;
+    let answered = Arena {
+        capacity: capacity,
+        slots: made.slots,
+    };
     if made.no != 0 {
         return Step {
             run: Run {
@@ -153,11 +154,13 @@ pub fn step_to(
         };
     }
     let released = arena_release::release(answered, kids, facts, find, root);
-    let arena = released.arena;
     let next = made.id;
     Step {
         run: Run {
-            arena: arena,
+            arena: Arena {
+                capacity: capacity,
+                slots: released.slots,
+            },
             root: next,
             count: number,
         },
@@ -165,25 +168,24 @@ pub fn step_to(
     }
 }
 
-// From a root and a count, after the answer to a record, as above; and the record's line at the start of `out`.
+// From a run, after the answer to a record, as above; and the record's line at the start of `out`.
 pub fn after_record(
-    root: BlockId,
-    count: u64,
+    run: Run,
     made: Made,
     kids: &mut [u64],
-    facts: &mut [u64],
+    facts: &mut [u32],
     find: &mut [u16],
     out: &mut [u8],
 ) -> Lined
     ensures { λ r. ⌜ (r .len ≤ widest)
-        × (Fair cubeKids deepest (handed made kids facts find .after)
-        → lined r kids facts find out ≡ linedOf lineOf (root .0) count (handed made kids facts find) (now (out .entry))) ⌝ }
+        × (Fair cubeKids deepest (handed run made kids facts find .after)
+        → lined r kids facts find out ≡ linedOf lineOf (run .root .0) (run .count) (handed run made kids facts find) (now (out .entry))) ⌝ }
 {
-    let step = step_to(root, count, made, kids, facts, find);
-    let run = step.run;
-    let line = put_line(out, run.count, step.no, run.root);
+    let step = step_to(run, made, kids, facts, find);
+    let next = step.run;
+    let line = put_line(out, next.count, step.no, next.root);
     Lined {
-        run: run,
+        run: next,
         len: line,
     }
 }

@@ -4,6 +4,7 @@ use mathlib.Core.List.{List, _++_, append-assoc, append-nil}
 use Prim.Native.Nat.{ℕ, zero, suc, _+_}
 use native.Mathlib.Omega.{arith}
 use lib.ListN.{length, getD, length-append}
+use Rattle.arena.specs.Tables.{liveIn}
 use Rattle.listing.specs.Listing.{State, stateAt, linesAt, startOf, Entered}
 use Rattle.listing.proofs.Whole.{entered-stands, entered-state, entered-lines}
 use Rattle.edit_listing.specs.Listing.{recordDepth, wholeIn, cutOf}
@@ -72,11 +73,11 @@ module _ (capacity : ℕ) (k f e : List ℕ) {t : State} {a left : List ℕ} (fi
   -- .. and the lines of the blocks, one after the other, are all that `monthsOf` says
   pub months-printed : (o : Outcome) → o ≡ compareOf (sideEnd u y .tables) (sideEnd t x .root) (sideEnd u y .root) recordDepth c l r
       → {cells : List ℕ} → Printed (o .codes) (o .lefts) (o .rights) (o .count) cells
-      → ((left ++ sideLines Left t x) ++ (right ++ sideLines Right u y)) ++ (cells ++ closingOf (o .no) (o .count) (o .opened) (sideEnd u y .tables .arena .live))
+      → ((left ++ sideLines Left t x) ++ (right ++ sideLines Right u y)) ++ (cells ++ closingOf (o .no) (o .count) (o .opened) (liveIn (sideEnd u y .tables .arena)))
       ≡ monthsOf capacity k f e (a ++ x) (b ++ y) c l r
   unfolding monthsOf outcomeLines
   months-printed o same {cells} p =
-      let live : State → ℕ = λ v. v .tables .arena .live in
+      let live : State → ℕ = λ v. liveIn (v .tables .arena) in
       let sides : (left ++ sideLines Left t x) ++ (right ++ sideLines Right u y) ≡ sideLines Left s (a ++ x) ++ sideLines Right (secondSide (sideEnd s (a ++ x))) (b ++ y) =
       ap₂ (λ (p q : List ℕ). p ++ q) (side-lines Left first x) (side-lines Right second y)
       ∙ ap (λ (v : State). sideLines Left s (a ++ x) ++ sideLines Right (secondSide v) (b ++ y)) (side-end Left first x) in

@@ -10,6 +10,7 @@ use Rattle.basics.specs.Pick.{pick}
 use Rattle.lines.specs.Lines.{decimal, space, newline}
 use Rattle.ids.specs.Ids.{empty}
 use Rattle.paths.specs.Paths.{decodedOf, toCell}
+use Rattle.arena.specs.Tables.{liveIn}
 use Rattle.listing.specs.Listing.{State, Records, stateAt, linesAt, startOf}
 use Rattle.edit_listing.specs.Listing.{recordWidth, recordDepth, editIn, edits, wholeIn, cutOf}
 use Rattle.compare.specs.Compare.{Outcome, compareOf}
@@ -102,7 +103,7 @@ unfoldable pub monthsOf : ℕ → List ℕ → List ℕ → List ℕ → List �
 monthsOf capacity k f e a b c l r =
     let s = startOf capacity k f e .state in
     let t = secondSide (sideEnd s a) in
-    (sideLines Left s a ++ sideLines Right t b) ++ outcomeLines (comparisonOf s a b c l r) (sideEnd t b .tables .arena .live)
+    (sideLines Left s a ++ sideLines Right t b) ++ outcomeLines (comparisonOf s a b c l r) (liveIn (sideEnd t b .tables .arena))
 
 -- The cells of a list with the parts c, l and r, printed block after block: how many so far, and their lines.
 pub data Printed (c l r : List ℕ) : ℕ → List ℕ → Type 0 where

@@ -21,6 +21,7 @@ ghost use Rattle.basics.specs.Limits.{deepest, cubeKids};
 ghost use Rattle.basics.specs.Puts.{putsFrom};
 ghost use Rattle.lines.specs.Lines.{decimal, newline};
 ghost use Rattle.arena.specs.Calls.{Fair};
+ghost use Rattle.arena.specs.Tables.{liveIn, stateOf as arenaOf};
 ghost use Rattle.listing.specs.Lent.{before, after, lined, told};
 ghost use Rattle.listing.specs.Listing.{widest, stateOf, takenOf, toldOf};
 ghost use Rattle.listing.specs.Models.{oneOf};
@@ -72,7 +73,7 @@ fn one(
     side: Side,
     run: Run,
     kids: &mut [u64],
-    facts: &mut [u64],
+    facts: &mut [u32],
     find: &mut [u16],
     bytes: &[u8],
     out: &mut [u8],
@@ -84,7 +85,7 @@ fn one(
 {
     let root = run.root;
     let made = edit_record(run.arena, kids, facts, find, root, bytes);
-    let step = listing::step_to(root, run.count, made, kids, facts, find);
+    let step = listing::step_to(run, made, kids, facts, find);
     let next = step.run;
     let len = put_refused(out, side, next.count, step.no);
     Lined {
@@ -98,7 +99,7 @@ pub fn side_records(
     side: Side,
     run: Run,
     kids: &mut [u64],
-    facts: &mut [u64],
+    facts: &mut [u32],
     find: &mut [u16],
     bytes: &[u8],
     out: &mut [u8],
@@ -266,11 +267,11 @@ fn put_refusal(out: &mut [u8], no: u32) -> usize
 // Writes the last lines: the refusal of the comparison if there is one, how many cells differ, how many pairs were opened, and how many nodes live; answers how
 // many bytes they have.
 pub fn closing(compared: Compared, run: Run, out: &mut [u8]) -> usize
-    ensures { λ r. ⌜ (now (out .exit) ≡ putsFrom (now (out .entry)) 0 (closingOf (compared .no) (compared .count) (compared .opened) (run .arena .live)))
-        × (r ≡ length (closingOf (compared .no) (compared .count) (compared .opened) (run .arena .live))) ⌝ }
+    ensures { λ r. ⌜ (now (out .exit) ≡ putsFrom (now (out .entry)) 0 (closingOf (compared .no) (compared .count) (compared .opened) (liveIn (arenaOf (run .arena)))))
+        × (r ≡ length (closingOf (compared .no) (compared .count) (compared .opened) (liveIn (arenaOf (run .arena))))) ⌝ }
 {
     let a = put_refusal(out, compared.no);
     let b = a + put_numbered(out, a, b"cells ", compared.count as u64);
     let c = b + put_numbered(out, b, b"opened ", compared.opened as u64);
-    c + put_numbered(out, c, b"live ", run.arena.live as u64)
+    c + put_numbered(out, c, b"live ", arena::live(run.arena))
 }

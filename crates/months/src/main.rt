@@ -18,14 +18,14 @@ use libc::STDOUT_FILENO;
 use listing::Run;
 use month_listing::Side;
 
-// The slots of the arena. Its tables have 8 and 7 words and 3 cells a slot, 64,512 bytes.
+// The slots of the arena. Its tables have 8 and 11 words and 5 cells a slot, 60,416 bytes.
 const SLOTS: usize = 512;
 
 const KIDS: usize = 4096;
 
-const FACTS: usize = 3584;
+const FACTS: usize = 5632;
 
-const CELLS: usize = 1536;
+const CELLS: usize = 2560;
 
 // The cells that the list of differing cells holds: a path code and two values each, 8,192 bytes beside the tables.
 const LISTED: usize = 1024;
@@ -129,7 +129,7 @@ fn one_block(
     fd: i32,
     run: Run,
     kids: &mut [u64],
-    facts: &mut [u64],
+    facts: &mut [u32],
     find: &mut [u16],
 ) -> Turn {
     let mut block = [0u8; BLOCK];
@@ -160,7 +160,7 @@ fn enter_file(
     fd: i32,
     first: Run,
     kids: &mut [u64],
-    facts: &mut [u64],
+    facts: &mut [u32],
     find: &mut [u16],
 ) -> Entered {
     let mut run = first;
@@ -206,7 +206,7 @@ fn say_cells(codes: &[u32], lefts: &[u16], rights: &[u16], count: usize) -> bool
 }
 
 // Compares the two roots and writes what came of it.
-fn say_outcome(run: Run, kids: &[u64], facts: &[u64], find: &[u16], left: BlockId) {
+fn say_outcome(run: Run, kids: &[u64], facts: &[u32], find: &[u16], left: BlockId) {
     let mut codes = [0u32; LISTED];
     let mut lefts = [0u16; LISTED];
     let mut rights = [0u16; LISTED];
@@ -232,7 +232,7 @@ fn say_outcome(run: Run, kids: &[u64], facts: &[u64], find: &[u16], left: BlockI
 
 fn list(left: i32, right: i32) {
     let mut kids = [0u64; KIDS];
-    let mut facts = [0u64; FACTS];
+    let mut facts = [0u32; FACTS];
     let mut find = [0u16; CELLS];
     let start = listing::start(SLOTS, &mut kids, &mut facts, &mut find);
     if start.no != 0 {

@@ -1,60 +1,63 @@
 // A new node: a free slot, a leaf's id in it, and the node written and named. Intern leaf, intern branch and the edit all make their nodes with these.
 use arena::Arena;
 use arena::Made;
+use arena::freed_in;
+use arena::live;
 use arena::more;
+use arena::next_in;
+use arena::slots_of;
 use basics::Kids;
-use basics::NO_KIDS;
 use find::put_cell;
 use ids::BlockId;
 use new_id::branch_id;
-use nodes::LINK;
-use nodes::OWN;
+use nodes::ENTRY;
 use nodes::fact;
-use nodes_write::write_slot;
+use nodes::own;
+use nodes_write::put_children;
+use nodes_write::put_facts;
 ghost use mathlib.Core.Path.{_≡_};
-ghost use Prim.Native.Nat.{_%_, _^_};
+ghost use mathlib.Core.List.{List};
+ghost use Prim.Native.Nat.{ℕ, _%_, _^_};
 ghost use Rattle.ids.specs.Ids.{generationOf, newLeaf};
 ghost use Rattle.nodes.specs.Words.{factOf};
-ghost use Rattle.arena.specs.Calls.{freeSlots, freshSlot, givenBy};
+ghost use Rattle.arena.specs.Calls.{madeOf, freeSlots, freshSlot, givenBy};
 ghost use Rattle.arena.specs.Lent.{before, made};
-ghost use Rattle.arena.specs.Models.{moreOf, freshAt, leafFresh, branchFresh};
+ghost use Rattle.arena.specs.Models.{moreOf, leafFresh, branchFresh};
+ghost use Rattle.arena.specs.Tables.{stateIn, stateOf, tables};
 
 // How many slots are free.
 pub fn free_slots(a: Arena) -> u64
-    ensures { λ r. ⌜ r ≡ freeSlots a ⌝ }
+    ensures { λ r. ⌜ r ≡ freeSlots (stateOf a) ⌝ }
 {
-    if a.capacity <= a.live {
+    let live = live(a);
+    let capacity = a.capacity as u64;
+    if capacity <= live {
         return 0;
     }
-    (a.capacity - a.live - 1) as u64
+    capacity - live - 1
 }
 
 // Fresh slot: the last one freed, else the lowest never used.
-pub fn fresh_slot(a: Arena) -> usize
-    ensures { λ r. ⌜ r ≡ freshSlot a ⌝ }
+pub fn fresh_slot(a: Arena, facts: &[u32]) -> usize
+    ensures { λ r. ⌜ r ≡ freshSlot (stateOf a) (factOf (now (facts .entry))) ⌝ }
 {
-    if a.top == 0 { a.next } else { a.top }
+    let freed = freed_in(a.slots);
+    if freed == 0 {
+        return next_in(a.slots) as usize;
+    }
+    fact(facts, (freed - 1) as usize, ENTRY) as usize
 }
 
-// The state once the fresh slot is given out.
-fn give(a: Arena, facts: &[u64]) -> Arena
-    ensures { λ r. ⌜ r ≡ givenBy moreOf a (factOf (now (facts .entry))) ⌝ }
+// `slots` once the fresh slot is given out.
+fn give(slots: u64) -> u64
+    ensures { λ r. ⌜ ((c : ℕ) → stateIn c r ≡ givenBy moreOf (stateIn c slots)) ⌝ }
 {
-    if a.top == 0 {
-        return Arena {
-            capacity: a.capacity,
-            next: more(a.next as u64) as usize,
-            top: 0,
-            live: more(a.live as u64) as usize,
-        };
+    let next = next_in(slots);
+    let freed = freed_in(slots);
+    if freed == 0 {
+        return slots_of(more(next), 0);
     }
-    let top = fact(facts, a.top, LINK) as usize;
-    Arena {
-        capacity: a.capacity,
-        next: a.next,
-        top: top,
-        live: more(a.live as u64) as usize,
-    }
+    slots_of(next, freed - 1)
 }
 
 // The id of a leaf in slot s, whose own word is `o`.
@@ -65,67 +68,55 @@ pub fn leaf_id(s: usize, o: u64) -> u64
     id.0
 }
 
-// A fresh node of the id, with h holds and q places, named in the cell `at`.
-fn fresh_node(
+// A fresh leaf of value v, whose hash is k. A free slot has no children, so that none are written.
+pub fn fresh_leaf(
     a: Arena,
-    kids: &mut [u64],
-    facts: &mut [u64],
+    facts: &mut [u32],
     find: &mut [u16],
     at: usize,
-    id: u64,
-    ks: Kids,
-    v: u64,
-    up: u64,
-    h: u64,
-    q: u64,
+    v: u32,
+    k: u32,
+    h: u32,
+    q: u32,
 ) -> Made
-    ensures { λ r. ⌜ made r kids facts find ≡ freshAt (before a kids facts find) id ks v up h q at ⌝ }
+    ensures { λ r. ⌜ ((j : List ℕ) → madeOf (a .capacity) r j (now (facts .exit)) (now (find .exit)) ≡ leafFresh (tables (stateOf a) j (now (facts .entry)) (now (find .entry))) v k h q at) ⌝ }
 {
-    let s = fresh_slot(a);
-    let b = give(a, facts);
-    write_slot(kids, facts, s, ks, [id, v, up, h, q, 0, 0]);
+    let s = fresh_slot(a, facts);
+    let id = leaf_id(s, own(facts, s));
+    put_facts(facts, s, id, v, 0, 0, k, h, q, 0);
     put_cell(find, at, s);
     Made {
         no: 0,
         id: BlockId(id),
-        arena: b,
+        slots: give(a.slots),
     }
 }
 
-// A fresh leaf of value v.
-pub fn fresh_leaf(
-    a: Arena,
-    kids: &mut [u64],
-    facts: &mut [u64],
-    find: &mut [u16],
-    at: usize,
-    v: u64,
-    h: u64,
-    q: u64,
-) -> Made
-    ensures { λ r. ⌜ made r kids facts find ≡ leafFresh (before a kids facts find) v h q at ⌝ }
-{
-    let s = fresh_slot(a);
-    let id = leaf_id(s, fact(facts, s, OWN));
-    fresh_node(a, kids, facts, find, at, id, NO_KIDS, v, 0, h, q)
-}
-
-// A fresh branch of the children ks, with the stored value v and the height up.
+// A fresh branch of the children ks, with the stored value v and the height up, the sum and the hash k.
 pub fn fresh_branch(
     a: Arena,
     kids: &mut [u64],
-    facts: &mut [u64],
+    facts: &mut [u32],
     find: &mut [u16],
     at: usize,
     ks: Kids,
-    v: u64,
-    up: u64,
-    h: u64,
-    q: u64,
+    v: u32,
+    up: u32,
+    sum: u32,
+    k: u32,
+    h: u32,
+    q: u32,
 ) -> Made
-    ensures { λ r. ⌜ made r kids facts find ≡ branchFresh (before a kids facts find) ks v up h q at ⌝ }
+    ensures { λ r. ⌜ made a r kids facts find ≡ branchFresh (before a kids facts find) ks v up sum k h q at ⌝ }
 {
-    let s = fresh_slot(a);
-    let id = branch_id(ks, s, fact(facts, s, OWN));
-    fresh_node(a, kids, facts, find, at, id, ks, v, up, h, q)
+    let s = fresh_slot(a, facts);
+    let id = branch_id(ks, s, own(facts, s));
+    put_children(kids, s, ks);
+    put_facts(facts, s, id, v, up, sum, k, h, q, 0);
+    put_cell(find, at, s);
+    Made {
+        no: 0,
+        id: BlockId(id),
+        slots: give(a.slots),
+    }
 }

@@ -1,7 +1,7 @@
 -- The two sums over the children, one child after the other.
 use mathlib.Core.Path.{_≡_, refl, ap, _∙_}
 use mathlib.Core.List.{List}
-use Prim.Native.Nat.{ℕ, _+_, _/_, _%_, _≤_, max}
+use Prim.Native.Nat.{ℕ, _+_, _/_, _≤_, max}
 use native.Mathlib.Numerals.{add-one}
 use native.Mathlib.Omega.{arith}
 use borrow.Author.Tests.{eq-eqb, ne-eqb}
@@ -10,7 +10,8 @@ use Rattle.basics.specs.Limits.{cubeKids}
 use Rattle.basics.specs.Sums.{sumTo}
 use Rattle.nodes.specs.Words.{Words, height, slot, value}
 use Rattle.nodes.specs.Values.{heightAt, maxTo, valueAt}
-use Rattle.arena.specs.Models.{topFor, valueBy, wrapSum}
+use Rattle.arena.specs.Models.{topFor}
+use Rattle.arena.specs.Node.{sumFor, valueFor}
 
 module _ (U : Words) (y : ℕ) where
   pub value-none : y ≡ 0 → 0 ≡ valueAt U y
@@ -30,17 +31,20 @@ module _ (U : Words) (y : ℕ) where
   height-node s w d es ew = rw (ne-eqb y 0 d) (ew ∙ ap (λ (x : ℕ). U x height) es)
 
 module _ (U : Words) (ks : List ℕ) where
-  pub sum-start : 0 ≡ wrapSum U ks 0
-  unfolding wrapSum sumTo
+  pub sum-start : 0 ≡ sumFor 0 U ks
+  unfolding sumFor sumTo
   sum-start = refl
 
-  pub sum-step : (sum i v : ℕ) → sum ≡ wrapSum U ks i → v ≡ valueAt U (getD ks i 0) → sum + v % 65536 ≡ wrapSum U ks (i + 1)
-  unfolding wrapSum sumTo
+  pub sum-step : (sum i v : ℕ) → sum ≡ sumFor i U ks → v ≡ valueAt U (getD ks i 0) → sum + v ≡ sumFor (i + 1) U ks
+  unfolding sumFor sumTo
   sum-step sum i v e ev = rw (add-one i, e, ev)
 
-  pub sum-last : (sum i : ℕ) → sum ≡ wrapSum U ks i → i ≤ cubeKids → cubeKids ≤ i → sum / cubeKids ≡ valueBy cubeKids U ks
-  unfolding valueBy
-  sum-last sum i e a b = let q : i ≡ cubeKids = omega arith in ap (λ (x : ℕ). x / cubeKids) (rw q at e)
+  pub sum-last : (sum i : ℕ) → sum ≡ sumFor i U ks → i ≤ cubeKids → cubeKids ≤ i → sum ≡ sumFor cubeKids U ks
+  sum-last sum i e a b = let q : i ≡ cubeKids = omega arith in rw q at e
+
+  pub value-last : (sum i : ℕ) → sum ≡ sumFor i U ks → i ≤ cubeKids → cubeKids ≤ i → sum / cubeKids ≡ valueFor cubeKids U ks
+  unfolding valueFor sumFor
+  value-last sum i e a b = let q : i ≡ cubeKids = omega arith in ap (λ (x : ℕ). x / cubeKids) (rw q at e)
 
   pub top-start : 0 ≡ topFor U ks 0
   unfolding topFor maxTo
@@ -55,15 +59,15 @@ module _ (U : Words) (ks : List ℕ) where
 
 module _ (U : Words) (ks : List ℕ) (i : ℕ) where
   -- an EMPTY child is passed over
-  pub sum-none : (sum x : ℕ) → sum ≡ wrapSum U ks i → getD ks i 0 ≡ 0 → x ≡ sum → x ≡ wrapSum U ks (i + 1)
+  pub sum-none : (sum x : ℕ) → sum ≡ sumFor i U ks → getD ks i 0 ≡ 0 → x ≡ sum → x ≡ sumFor (i + 1) U ks
   sum-none sum x e z ex = let w = sum-step U ks sum i 0 e (value-none U (getD ks i 0) z) in omega arith
 
   pub top-none : (top x : ℕ) → top ≡ topFor U ks i → getD ks i 0 ≡ 0 → x ≡ top → x ≡ topFor U ks (i + 1)
   top-none top x e z ex = let w = top-step U ks top i 0 e (height-none U (getD ks i 0) z) in omega arith
 
   -- the node of another adds its two facts
-  pub sum-node : (sum x s v : ℕ) → sum ≡ wrapSum U ks i → (getD ks i 0 ≡ 0 → ⊥) → s ≡ slot (getD ks i 0) → v ≡ U s value → x ≡ sum + v % 65536
-      → x ≡ wrapSum U ks (i + 1)
+  pub sum-node : (sum x s v : ℕ) → sum ≡ sumFor i U ks → (getD ks i 0 ≡ 0 → ⊥) → s ≡ slot (getD ks i 0) → v ≡ U s value → x ≡ sum + v
+      → x ≡ sumFor (i + 1) U ks
   sum-node sum x s v e d es ev ex = ex ∙ sum-step U ks sum i v e (value-node U (getD ks i 0) s v d es ev)
 
   pub top-node : (top x m s v : ℕ) → top ≡ topFor U ks i → (getD ks i 0 ≡ 0 → ⊥) → s ≡ slot (getD ks i 0) → v ≡ U s height → m ≡ max top v

@@ -8,7 +8,7 @@ use native.Mathlib.Decide.{ℕ-discrete, decLt}
 use native.Mathlib.Omega.{arith}
 use lib.ListN.{length}
 use Rattle.nodes.specs.Tally.{same, occ, tabFrom, kidsOf, tally, Live}
-use Rattle.nodes.specs.Words.{own, height, holds, places, floor, slot, Words, spare}
+use Rattle.nodes.specs.Words.{own, height, holds, places, floor, slot, Words, mark}
 use Rattle.nodes.proofs.Sums.{cases, same-refl, same-diff, sumTo-ext, sumTo-upd, sumTo-le, sumTo-pos, occ-cons, occ-there, occ-append, tabFrom-ext, occ-tab, tab-occ, occ-tab-zero, sumTo-mono, sumTo-const, tabFrom-length, occ-length}
 
 pub floor-pos : 1 ≤ floor
@@ -30,7 +30,7 @@ pub record Counts (n cap : ℕ) (W : Words) (debt : List ℕ) : Type 0 where
 
 -- all slots but s are as they were
 abbrev pub Others : ℕ → Words → Words → Type 0
-Others s W W′ = (b f : ℕ) → b ≢ s → f ≤ spare → W′ b f ≡ W b f
+Others s W W′ = (b f : ℕ) → b ≢ s → f ≤ mark → W′ b f ≡ W b f
 
 -- ---- the live
 

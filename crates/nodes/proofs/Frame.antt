@@ -6,13 +6,13 @@ use Prim.Native.Nat.{ℕ, zero, suc, _+_, _≤_, _<_}
 use native.Mathlib.Decide.{decLt}
 use native.Mathlib.Omega.{arith}
 use Rattle.nodes.specs.Tally.{kidsOf, tally, Live, occ, Under, here, down}
-use Rattle.nodes.specs.Words.{own, height, holds, places, floor, slot, Words, spare}
+use Rattle.nodes.specs.Words.{own, height, holds, places, floor, slot, Words, mark}
 use Rattle.nodes.proofs.Counts.{kids-same, total, Counts, live-own, live-same, live-nonzero, kid-live, tally-pos, occ-bare}
 use Rattle.nodes.proofs.Sums.{cases, occ-nil}
 
 -- what a slot that lives on keeps: all but the places. A slot that is held lives on
 pub record Frame (cap : ℕ) (W W′ : Words) : Type 0 where
-  pub kept : (b : ℕ) → b < cap → floor ≤ W′ b own → (f : ℕ) → f ≤ spare → f ≢ places → W′ b f ≡ W b f
+  pub kept : (b : ℕ) → b < cap → floor ≤ W′ b own → (f : ℕ) → f ≤ mark → f ≢ places → W′ b f ≡ W b f
   pub held : (b : ℕ) → b < cap → floor ≤ W b own → 1 ≤ W b holds → floor ≤ W′ b own
 
 pub frame-refl : (cap : ℕ) (W : Words) → Frame cap W W
@@ -43,7 +43,7 @@ total-nil n cap W y = omega (arith, occ-nil y)
 
 -- every word but the places
 abbrev pub Kept : Words → Words → ℕ → Type 0
-Kept W W′ s = (f : ℕ) → f ≤ spare → f ≢ places → W′ s f ≡ W s f
+Kept W W′ s = (f : ℕ) → f ≤ mark → f ≢ places → W′ s f ≡ W s f
 
 module _ (cap : ℕ) (W W′ : Words) (debt : List ℕ) (c : Counts 8 cap W′ debt) (r : Frame cap W W′) where
   -- what lives afterwards lived before, with the same words

@@ -1,7 +1,8 @@
 pub mod Sums
-pub mod Access
+pub mod Rows
 pub mod Counts
+pub mod Access
+pub mod Answers
 pub mod Freeing
-pub mod Walking
 pub mod Frame
 pub mod Local

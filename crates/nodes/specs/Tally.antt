@@ -9,7 +9,7 @@ use Rattle.basics.specs.Limits.{kidWords}
 use Rattle.basics.specs.Pick.{pick}
 use Rattle.basics.specs.Sums.{sumTo}
 use Rattle.ids.specs.Ids.{isLeaf}
-use Rattle.nodes.specs.Words.{Words, own, link, slot, floor}
+use Rattle.nodes.specs.Words.{Words, own, mark, entry, slot, floor}
 
 -- 1 for true, 0 for false
 unfoldable pub oneIf : Bool → ℕ
@@ -68,18 +68,19 @@ pub record Free (W : Words) (next s : ℕ) : Type 0 where
   pub below : s < next
   pub dead : W s own < floor
 
--- from top the links run through the slots of the list, and end
-abbrev pub Chain : Words → ℕ → List ℕ → Type 0
-Chain W top [] = top ≡ 0
-Chain W top (f ∷ fs) = (top ≡ f) × Chain W (W f link) fs
+-- the freed slots, the last one freed in front: entries freed-1, .., 0 of their stack
+unfoldable pub freedList : Words → ℕ → List ℕ
+freedList W zero = []
+freedList W (suc k) = W k entry ∷ freedList W k
 
--- the chain from top runs through fs; each slot of 1 .. next-1 that is not live stands in fs once, and no other; slot 0 and the slots from next
--- on, never given out, are dead with generation 0
-pub record Freed (cap : ℕ) (W : Words) (top next : ℕ) (fs : List ℕ) : Type 0 where
+-- each entry of the stack is a slot of 1 .. next-1 that is not live, and knows its number there, so that no two entries are one slot; with the live they
+-- make up 1 .. next-1. (So each slot of 1 .. next-1 that is not live stands on the stack once: proofs/Freeing.antt.) Slot 0 and the slots from next on,
+-- never given out, are dead with generation 0
+pub record Freed (cap : ℕ) (W : Words) (next freed : ℕ) : Type 0 where
   pub some : 1 ≤ next
   pub fits : next ≤ cap
-  pub chain : Chain W top fs
-  pub only : (s : ℕ) → 1 ≤ occ s fs → Free W next s
-  pub once : (s : ℕ) → Free W next s → occ s fs ≡ 1
+  pub only : (i : ℕ) → i < freed → Free W next (W i entry)
+  pub knows : (i : ℕ) → i < freed → W (W i entry) mark ≡ i
+  pub count : freed + liveCount cap W + 1 ≡ next
   pub unused : (s : ℕ) → next ≤ s → s < cap → W s own ≡ 0
   pub ground : W 0 own ≡ 0

@@ -1,9 +1,10 @@
--- Where a node's words lie. Two lent tables hold a slot's fifteen words: `kids` the eight children, eight words a slot, and `facts` the other
--- seven, seven words a slot. `W s f` is the word f of the slot s.
-use mathlib.Core.List.{List}
-use Prim.Native.Nat.{ℕ, _+_, _-_, _*_, _^_}
-use lib.Dec.{leb, ltb}
-use lib.ListN.{getD, set}
+-- Where a node's words lie. Two lent tables hold a slot's words: `kids` the eight children, eight words a slot, and `facts` the rest, eleven words of 32 bits
+-- a slot: the low and the high half of the own word, and then each fact in a word of its own. `W s f` is the word f of the slot s.
+use mathlib.Core.Bool.{Bool, false}
+use mathlib.Core.List.{List, [], _∷_}
+use Prim.Native.Nat.{ℕ, _+_, _-_, _*_, _/_, _%_, _^_}
+use lib.Dec.{eqb, ltb}
+use lib.ListN.{length, getD, set}
 use Rattle.basics.specs.Limits.{kidWords, factWords}
 use Rattle.basics.specs.Pick.{pick}
 use Rattle.basics.specs.Puts.{putsFrom}
@@ -22,21 +23,51 @@ value = 9
 abbrev pub height : ℕ
 height = 10
 
--- the callers' holds
-abbrev pub holds : ℕ
-holds = 11
-
--- the child places of live branches that name it
-abbrev pub places : ℕ
-places = 12
-
--- in a freed slot the slot freed before it, 0 none
-abbrev pub link : ℕ
-link = 13
+-- the sum of the children's stored values
+abbrev pub sum : ℕ
+sum = 11
 
 -- 0
 abbrev pub spare : ℕ
-spare = 14
+spare = 12
+
+-- the hash of the content
+abbrev pub hash : ℕ
+hash = 13
+
+-- the callers' holds
+abbrev pub holds : ℕ
+holds = 14
+
+-- the child places of live branches that name it
+abbrev pub places : ℕ
+places = 15
+
+-- in a freed slot its number on the stack of freed slots; else 0, but while the check counts in it
+abbrev pub mark : ℕ
+mark = 16
+
+-- entry s of the stack of freed slots, which is no word of the node in slot s
+abbrev pub entry : ℕ
+entry = 17
+
+-- ## A table in rows of r words. What lies outside the table reads 0 and is not written; a row that does not lie whole in it lies outside
+
+-- row s lies in the table: slot numbers are below 2^32
+unfoldable pub rowIn : ℕ → List ℕ → ℕ → Bool
+rowIn r l s = pick (ltb s (2 ^ 32)) (ltb (r * s + (r - 1)) (length l)) false
+
+-- word p of row s
+unfoldable pub rowAt : ℕ → List ℕ → ℕ → ℕ → ℕ
+rowAt r l s p = pick (ltb p r) (pick (rowIn r l s) (getD l (r * s + p) 0) 0) 0
+
+-- it is written
+unfoldable pub rowSet : ℕ → List ℕ → ℕ → ℕ → ℕ → List ℕ
+rowSet r l s p v = pick (ltb p r) (pick (rowIn r l s) (set l (r * s + p) v) l) l
+
+-- the first words of row s are written
+unfoldable pub rowPut : ℕ → List ℕ → ℕ → List ℕ → List ℕ
+rowPut r l s vs = pick (rowIn r l s) (putsFrom l (r * s) vs) l
 
 -- ## The two tables
 
@@ -50,26 +81,32 @@ nodes k f = record { kids = k; facts = f }
 abbrev pub Words : Type 0
 Words = ℕ → ℕ → ℕ
 
--- what lies outside a table, or is no word of it, reads 0 and is not written
 unfoldable pub kidOf : List ℕ → Words
-kidOf l s i = pick (ltb i kidWords) (getD l (kidWords * s + i) 0) 0
+kidOf l s i = rowAt kidWords l s i
 
 unfoldable pub factOf : List ℕ → Words
-factOf l s f = pick (leb own f) (pick (leb f spare) (getD l (factWords * s + (f - own)) 0) 0) 0
+factOf l s f =
+    pick (eqb f own) (rowAt factWords l s 0 + 2 ^ 32 * rowAt factWords l s 1)
+    (pick (ltb f own) 0 (rowAt factWords l s (f - 7)))
 
 unfoldable pub wordOf : Nodes → Words
 wordOf x s f = pick (ltb f kidWords) (kidOf (x .kids) s f) (factOf (x .facts) s f)
 
--- one of the seven facts written
+-- one of the facts written, but for the own word
 unfoldable pub factPut : List ℕ → ℕ → ℕ → ℕ → List ℕ
-factPut l s f v = pick (leb own f) (pick (leb f spare) (set l (factWords * s + (f - own)) v) l) l
+factPut l s f v = pick (ltb own f) (rowSet factWords l s (f - 7) v) l
 
 unfoldable pub putOf : Nodes → ℕ → ℕ → ℕ → Nodes
 putOf x s f v = nodes (x .kids) (factPut (x .facts) s f v)
 
--- a whole slot written: its eight children, and its seven facts in order
+-- the facts from the own word to the mark written, in order; the entry is no node's
+unfoldable pub factsPut : List ℕ → ℕ → List ℕ → List ℕ
+factsPut l s [] = l
+factsPut l s (o ∷ fs) = rowPut factWords l s (o % 2 ^ 32 ∷ o / 2 ^ 32 ∷ fs)
+
+-- a whole slot written: its eight children, and its facts from the own word to the mark
 unfoldable pub written : Nodes → ℕ → List ℕ → List ℕ → Nodes
-written x s ks fs = nodes (putsFrom (x .kids) (kidWords * s) ks) (putsFrom (x .facts) (factWords * s) fs)
+written x s ks fs = nodes (rowPut kidWords (x .kids) s ks) (factsPut (x .facts) s fs)
 
 -- ## Ids and own words
 

@@ -3,111 +3,105 @@
 use basics::FACT_WORDS;
 use basics::KID_WORDS;
 use basics::Kids;
-use nodes::OWN;
-use nodes::SPARE;
+use nodes::ENTRY;
+use nodes::ROWS;
+use nodes::VALUE;
 ghost use mathlib.Core.Path.{_≡_};
 ghost use mathlib.Core.List.{[], _∷_};
-ghost use Prim.Native.Nat.{_+_, _*_, _≤_, _<_};
-ghost use lib.ListN.{length, set};
-ghost use Rattle.basics.specs.Limits.{kidWords, factWords};
+ghost use Prim.Native.Nat.{_+_, _<_};
+ghost use lib.ListN.{length};
+ghost use Rattle.basics.specs.Limits.{kidWords};
 ghost use Rattle.basics.specs.Puts.{putsFrom};
-ghost use Rattle.nodes.specs.Words.{nodes, factPut, written};
+ghost use Rattle.nodes.specs.Words.{factPut, factsPut, rowPut};
 
-// Writes the fact f of slot s.
-pub fn put_fact(facts: &mut [u64], s: usize, f: usize, v: u64)
+// Writes the fact f of slot s; nothing where f is its own word, or no fact.
+pub fn put_fact(facts: &mut [u32], s: usize, f: usize, v: u32)
     ensures { λ _. ⌜ now (facts .exit) ≡ factPut (now (facts .entry)) s f v ⌝ }
 {
-    if OWN <= f {
-        if f <= SPARE {
-            if s < facts.len() {
-                let place = FACT_WORDS * s + (f - OWN);
-                if place < facts.len() {
-                    facts[place] = v;
+    if VALUE <= f {
+        if f <= ENTRY {
+            if s < ROWS {
+                let at = FACT_WORDS * s;
+                if at + 10 < facts.len() {
+                    facts[at + (f - 7)] = v;
                 }
             }
         }
     }
 }
 
-// Writes one number; nothing past the end.
-fn put_at(table: &mut [u64], at: usize, v: u64)
-    ensures { λ _. ⌜ now (table .exit) ≡ set (now (table .entry)) at v ⌝ }
+// Writes four facts that the table has room for.
+fn put_four(facts: &mut [u32], at: usize, a: u32, b: u32, c: u32, d: u32)
+    requires { ⌜ at + 3 < length (now facts) ⌝ }
+    ensures { λ _. ⌜ now (facts .exit) ≡ putsFrom (now (facts .entry)) at (a ∷ b ∷ c ∷ d ∷ []) ⌝ }
 {
-    if at < table.len() {
-        table[at] = v;
-    }
+    facts[at] = a;
+    facts[at + 1] = b;
+    facts[at + 2] = c;
+    facts[at + 3] = d;
 }
 
-// Writes a row, the words of slot s in a table of `width` words a slot.
-fn put_row(table: &mut [u64], width: usize, s: usize, row: &[u64])
-    requires { ⌜ (1 ≤ width) × (width ≤ 8) ⌝ }
-    ensures { λ _. ⌜ now (table .exit) ≡ putsFrom (now (table .entry)) (width * s) (now (row .entry)) ⌝ }
+// Writes two facts that the table has room for.
+fn put_two(facts: &mut [u32], at: usize, a: u32, b: u32)
+    requires { ⌜ at + 1 < length (now facts) ⌝ }
+    ensures { λ _. ⌜ now (facts .exit) ≡ putsFrom (now (facts .entry)) at (a ∷ b ∷ []) ⌝ }
 {
-    if s < table.len() {
-        let at = width * s;
-        let mut i: usize = 0;
-        while i < row.len() {
-            put_at(table, at + i, row[i]);
-            i += 1;
-        }
-    }
+    facts[at] = a;
+    facts[at + 1] = b;
 }
 
-// Writes four numbers that the table has room for.
-fn put_four(table: &mut [u64], at: usize, a: u64, b: u64, c: u64, d: u64)
-    requires { ⌜ at + 3 < length (now table) ⌝ }
-    ensures { λ _. ⌜ now (table .exit) ≡ putsFrom (now (table .entry)) at (a ∷ b ∷ c ∷ d ∷ []) ⌝ }
+// Writes four children that the table has room for.
+fn put_half(kids: &mut [u64], at: usize, a: u64, b: u64, c: u64, d: u64)
+    requires { ⌜ at + 3 < length (now kids) ⌝ }
+    ensures { λ _. ⌜ now (kids .exit) ≡ putsFrom (now (kids .entry)) at (a ∷ b ∷ c ∷ d ∷ []) ⌝ }
 {
-    table[at] = a;
-    table[at + 1] = b;
-    table[at + 2] = c;
-    table[at + 3] = d;
+    kids[at] = a;
+    kids[at + 1] = b;
+    kids[at + 2] = c;
+    kids[at + 3] = d;
 }
 
-// Writes three numbers that the table has room for.
-fn put_three(table: &mut [u64], at: usize, a: u64, b: u64, c: u64)
-    requires { ⌜ at + 2 < length (now table) ⌝ }
-    ensures { λ _. ⌜ now (table .exit) ≡ putsFrom (now (table .entry)) at (a ∷ b ∷ c ∷ []) ⌝ }
+// Writes the eight children of slot s.
+pub fn put_children(kids: &mut [u64], s: usize, ks: Kids)
+    ensures { λ _. ⌜ now (kids .exit) ≡ rowPut kidWords (now (kids .entry)) s ks ⌝ }
 {
-    table[at] = a;
-    table[at + 1] = b;
-    table[at + 2] = c;
-}
-
-// Writes the eight children of slot s. One test is enough where the table has the whole row.
-fn put_kids(kids: &mut [u64], s: usize, ks: Kids)
-    ensures { λ _. ⌜ now (kids .exit) ≡ putsFrom (now (kids .entry)) (kidWords * s) ks ⌝ }
-{
-    if s < kids.len() {
+    if s < ROWS {
         let at = KID_WORDS * s;
         if at + 7 < kids.len() {
-            put_four(kids, at, ks[0], ks[1], ks[2], ks[3]);
-            put_four(kids, at + 4, ks[4], ks[5], ks[6], ks[7]);
-            return;
+            put_half(kids, at, ks[0], ks[1], ks[2], ks[3]);
+            put_half(kids, at + 4, ks[4], ks[5], ks[6], ks[7]);
         }
     }
-    put_row(kids, KID_WORDS, s, &ks);
 }
 
-// Writes the seven facts of slot s, likewise.
-fn put_facts(facts: &mut [u64], s: usize, fs: [u64; FACT_WORDS])
-    ensures { λ _. ⌜ now (facts .exit) ≡ putsFrom (now (facts .entry)) (factWords * s) fs ⌝ }
+// Writes the facts of slot s, but for the spare word, which is 0, and the entry, which is no node's.
+pub fn put_facts(
+    facts: &mut [u32],
+    s: usize,
+    own: u64,
+    value: u32,
+    height: u32,
+    sum: u32,
+    hash: u32,
+    holds: u32,
+    places: u32,
+    mark: u32,
+)
+    ensures { λ _. ⌜ now (facts .exit) ≡ factsPut (now (facts .entry)) s (own ∷ value ∷ height ∷ sum ∷ 0 ∷ hash ∷ holds ∷ places ∷ mark ∷ []) ⌝ }
 {
-    if s < facts.len() {
+    if s < ROWS {
         let at = FACT_WORDS * s;
-        if at + 6 < facts.len() {
-            put_four(facts, at, fs[0], fs[1], fs[2], fs[3]);
-            put_three(facts, at + 4, fs[4], fs[5], fs[6]);
-            return;
+        if at + 10 < facts.len() {
+            put_four(
+                facts,
+                at,
+                (own % 0x1_0000_0000) as u32,
+                (own / 0x1_0000_0000) as u32,
+                value,
+                height,
+            );
+            put_four(facts, at + 4, sum, 0, hash, holds);
+            put_two(facts, at + 8, places, mark);
         }
     }
-    put_row(facts, FACT_WORDS, s, &fs);
-}
-
-// Writes a whole slot: its eight children and its seven facts.
-pub fn write_slot(kids: &mut [u64], facts: &mut [u64], s: usize, ks: Kids, fs: [u64; FACT_WORDS])
-    ensures { λ _. ⌜ nodes (now (kids .exit)) (now (facts .exit)) ≡ written (nodes (now (kids .entry)) (now (facts .entry))) s ks fs ⌝ }
-{
-    put_kids(kids, s, ks);
-    put_facts(facts, s, fs);
 }

@@ -10,8 +10,8 @@ use Rattle.basics.specs.Limits.{deepest, cubeKids, kidWords, largestValue}
 use Rattle.nodes.specs.Words.{slot}
 use Rattle.nodes.proofs.Sums.{cases, split}
 use Rattle.paths.specs.Paths.{place}
-use Rattle.arena.specs.Calls.{Out, empties, fits, freshSlot, holdNo, internLeafOf, internBranchOf}
-use Rattle.arena.specs.Tables.{Tables, LiveSlot, WellFormed}
+use Rattle.arena.specs.Calls.{Out, empties, fits, freshIn, holdNo, internLeafOf, internBranchOf}
+use Rattle.arena.specs.Tables.{liveIn, Tables, LiveSlot, WellFormed}
 use Rattle.ledger.specs.Fates.{HasContent}
 use Rattle.ledger.specs.Refusals.{HasIds}
 use Rattle.ledger.specs.Stack.{Stack, pushed, lastFreed, leftOf, slotAfter, Draws, recycledBy}
@@ -57,7 +57,7 @@ module _ {t : Tables} (w : WellFormed cubeKids deepest t) (fs : List ℕ) (s : S
 
 -- ## Any calls since a fresh arena
 
--- The slots freed and not given out again are those that the tables link, in the same order.
+-- The slots freed and not given out again are those on the stack of the tables, in the same order.
 pub freeing-stack : {t : Tables} {fs : List ℕ} → Freeing t fs → WellFormed cubeKids deepest t × Stack t fs
 freeing-stack (bare (fresh c k f e z)) =
     let w = fresh-made cubeKids deepest fit (fresh c k f e z) .0 in
@@ -122,7 +122,7 @@ module _ {t : Tables} {fs : List ℕ} (h : Freeing t fs) where
   s = freeing-stack h .1
 
   -- The slot that is given out next is the last one freed, else `next`.
-  pub next-slot : freshSlot (t .arena) ≡ lastFreed fs (t .arena .next)
+  pub next-slot : freshIn t ≡ lastFreed fs (t .arena .next)
   next-slot = fresh-last t fs s
 
   -- So a leaf or a branch that is interned, and was not there, has that slot ..
@@ -135,7 +135,7 @@ module _ {t : Tables} {fs : List ℕ} (h : Freeing t fs) where
   branch-next ks e z new = branch-takes fit w fs s ks e z new .0
 
   -- .. and a call that makes k nodes and one more, as an edit does, leaf first and upward, answers the last of them: it has the slot that the k leave.
-  pub made-next : (c : Call) → Handed c → NoRelease c → (k : ℕ) → outcome t c .after .arena .live ≡ t .arena .live + suc k
+  pub made-next : (c : Call) → Handed c → NoRelease c → (k : ℕ) → liveIn (outcome t c .after .arena) ≡ liveIn (t .arena) + suc k
       → slot (outcome t c .id) ≡ slotAfter k fs (t .arena .next)
   made-next c e n = call-draws w fs s c e n .given
 
@@ -153,31 +153,31 @@ drop-drop (suc i) j (suc k) (f ∷ fs) e = drop-drop i j k fs (omega arith)
 
 -- each node that they make has taken the top one
 unreleased-left : {t u : Tables} (fs : List ℕ) → WellFormed cubeKids deepest t → Stack t fs → Unreleased t u
-    → WellFormed cubeKids deepest u × (t .arena .live ≤ u .arena .live) × Stack u (leftOf t u fs)
-unreleased-left {t} fs w s none = let z : 0 ≡ t .arena .live - t .arena .live = omega arith in (w, omega arith, subst (λ (k : ℕ). Stack t (drop k fs)) z s)
+    → WellFormed cubeKids deepest u × (liveIn (t .arena) ≤ liveIn (u .arena)) × Stack u (leftOf t u fs)
+unreleased-left {t} fs w s none = let z : 0 ≡ liveIn (t .arena) - liveIn (t .arena) = omega arith in (w, omega arith, subst (λ (k : ℕ). Stack t (drop k fs)) z s)
 unreleased-left {t} {u} fs w s (and c h n r) =
     let v = outcome t c .after in
     let g = call-draws w fs s c h n in
     let x = g .grows in
     let e = unreleased-left (leftOf t v fs) (call-does w c h .well) (g .left) r in
     let y = e .1 in
-    let z = drop-drop (v .arena .live - t .arena .live) (u .arena .live - v .arena .live) (u .arena .live - t .arena .live) fs (omega arith) in
+    let z = drop-drop (liveIn (v .arena) - liveIn (t .arena)) (liveIn (u .arena) - liveIn (v .arena)) (liveIn (u .arena) - liveIn (t .arena)) fs (omega arith) in
     (e .0, omega arith, subst (λ (l : List ℕ). Stack u l) z (e .2))
 
 -- From t on calls that release nothing have made k nodes: the slot that is given out next.
-pub unreleased-next : {t u : Tables} {fs : List ℕ} → Freeing t fs → Unreleased t u → (k : ℕ) → u .arena .live ≡ t .arena .live + k
-    → freshSlot (u .arena) ≡ slotAfter k fs (t .arena .next)
+pub unreleased-next : {t u : Tables} {fs : List ℕ} → Freeing t fs → Unreleased t u → (k : ℕ) → liveIn (u .arena) ≡ liveIn (t .arena) + k
+    → freshIn u ≡ slotAfter k fs (t .arena .next)
 unreleased-next {t} {u} {fs} h r k e =
     let w = freeing-stack h .0 in
     let s = freeing-stack h .1 in
     let x = unreleased-left fs w s r in
-    let z : u .arena .live - t .arena .live ≡ k = omega arith in
+    let z : liveIn (u .arena) - liveIn (t .arena) ≡ k = omega arith in
     let y : Stack u (drop k fs) = subst (λ (i : ℕ). Stack u (drop i fs)) z (x .2) in
-    fresh-last u (drop k fs) y ∙ ap (lastFreed (drop k fs)) (next-after t u fs k (w .lives) (x .0 .lives) e s y)
+    fresh-last u (drop k fs) y ∙ ap (lastFreed (drop k fs)) (next-after t u fs k e s y)
 
 -- A release recycled slots, s the last of them; calls after it released nothing and made no node: s is given out next.
 pub release-next : {t u : Tables} {fs : List ℕ} → Freeing t fs → (id : ℕ) (ss : List ℕ) (s : ℕ) → recycledBy deepest t id ≡ ss ++ (s ∷ [])
-    → Unreleased (outcome t (release id) .after) u → u .arena .live ≡ outcome t (release id) .after .arena .live → freshSlot (u .arena) ≡ s
+    → Unreleased (outcome t (release id) .after) u → liveIn (u .arena) ≡ liveIn (outcome t (release id) .after .arena) → freshIn u ≡ s
 release-next {t} {fs} h id ss s e r same =
     let v = outcome t (release id) .after in
     let z : pushed (recycledBy deepest t id) fs ≡ s ∷ pushed ss fs = ap (λ (l : List ℕ). pushed l fs) e ∙ pushed-append ss (s ∷ []) fs in
@@ -193,10 +193,10 @@ module _ {t : Tables} (w : WellFormed cubeKids deepest t) (fs : List ℕ) (k : S
   making-gives : (c : Call) → Handed c → NoRelease c → GivesOut t (outcome t c .after)
   making-gives c h n =
       let u = outcome t c .after in
-      let made = u .arena .live - t .arena .live in
+      let made = liveIn (u .arena) - liveIn (t .arena) in
       let d = call-draws w fs k c h n in
       let x = d .grows in
-      let e = next-after t u fs made (w .lives) (call-does w c h .well .lives) (omega arith) k (d .left) in
+      let e = next-after t u fs made (omega arith) k (d .left) in
       (omega arith, newly-given t u fs made k (d .left))
 
   call-gives : (c : Call) → Handed c → GivesOut t (outcome t c .after)

@@ -13,17 +13,17 @@ use Rattle.basics.specs.Sums.{sumTo}
 use Rattle.basics.specs.Puts.{putsFrom}
 use Rattle.ids.specs.Ids.{leafFlag, indexOf, isLeaf, generationOf, pack}
 use Rattle.paths.specs.Paths.{place, inside, whole, octant}
-use Rattle.nodes.specs.Words.{kidOf, factOf, wordOf, factPut, putOf, written, slot, floor}
+use Rattle.nodes.specs.Words.{rowIn, rowAt, rowSet, rowPut, kidOf, factOf, wordOf, factPut, putOf, factsPut, written, slot, floor}
 use Rattle.nodes.specs.Values.{valueAt, heightAt, maxTo}
 use Rattle.nodes.specs.Tally.{oneIf, tabFrom, kidsOf}
-use Rattle.find_hash.specs.Hash.{wrap, mixOf, hashOf, homeIn, homeFor}
+use Rattle.find_hash.specs.Hash.{factor, term, kidsHash, leafHash, homeIn}
 use Rattle.find.specs.Cells.{stops, probeN, probe, insertAt, shiftN, shift, erase, remove}
 use Rattle.find.specs.Content.{agree, homeAt}
 use Rattle.tree.specs.Tree.{kind, look}
 use Rattle.tree.specs.Anew.{part, replace}
 use Rattle.tree.specs.Cells.{pathBy, At}
-use Rattle.arena.specs.Node.{bitsOf, kidMask, kidTypes, leafId, branchId, nextGeneration, valueFor, heightFor}
-use Rattle.arena.specs.Tables.{Tables}
+use Rattle.arena.specs.Node.{bitsOf, kidMask, kidTypes, leafId, branchId, nextGeneration, sumFor, valueFor, heightFor}
+use Rattle.arena.specs.Tables.{liveIn, Tables}
 use Rattle.arena.specs.Calls.{Out, freshOf, fitOf, liveOf, fullOf, heldAt, freshSlot, slotGiven, freshFacts, empties, named, findSlot, leafIn, leafSlot, deadFacts, recycled, lessOf, unusedOf, each, takes, releaseNo, releaseOf, allOf, liveOrEmpty, branchIn, branchSlot, placedKid, freshNode, leafAnew, branchAnew}
 use Rattle.arena.proofs.Holding.{fresh-well}
 use Rattle.ledger.specs.Ledger.{holdsOn}
@@ -42,7 +42,7 @@ zeros n = replicate n 0
 
 -- a fresh arena of 5 slots
 abbrev t₀ : Tables
-t₀ = freshOf 5 (zeros 40) (zeros 35) (zeros 15) .after
+t₀ = freshOf 5 (zeros 40) (zeros 55) (zeros 25) .after
 
 -- the first crew: two edits, and its passing root released
 abbrev o₁ : Out
@@ -76,7 +76,7 @@ o₆ = editOf (o₅ .after) (o₅ .id) 1 (place 0 0 0) 5
 
 record Computed : Type 0 where
   -- the tables are sized
-  sized : fitOf 5 (length (zeros 40)) (length (zeros 35)) (length (zeros 15)) ≡ true
+  sized : fitOf 5 (length (zeros 40)) (length (zeros 55)) (length (zeros 25)) ≡ true
   -- the edits are accepted
   no₁ : editNo t₀ 0 1 (place 0 0 0) 5 ≡ 0
   no₂ : editNo (o₁ .after) (o₁ .id) 1 (place 1 0 0) 7 ≡ 0
@@ -93,7 +93,7 @@ record Computed : Type 0 where
   end₆ : o₆ .id ≡ 0x0181800100000002
 
 computed : Computed
-unfolding sumTo indexOf isLeaf leafFlag generationOf pack inside whole octant kidOf factOf wordOf factPut putOf putsFrom written slot floor valueAt heightAt maxTo oneIf tabFrom kidsOf wrap mixOf hashOf homeIn homeFor stops probeN probe insertAt shiftN shift erase remove agree homeAt kind look decLe ℕ-discrete part replace pathBy bitsOf kidMask kidTypes leafId branchId nextGeneration valueFor heightFor freshOf fitOf liveOf fullOf heldAt freshSlot slotGiven freshFacts empties named findSlot leafIn leafSlot deadFacts recycled lessOf unusedOf each takes releaseNo releaseOf allOf liveOrEmpty branchIn branchSlot placedKid lookNo wordsOf oneLeaf needOf cellNeed upNeed planOf resultOf freshNode leafAnew branchAnew owed lowOf makeOf grantNo granted answerOf cellNo editCell editNo editOf holdsOn
+unfolding sumTo indexOf isLeaf leafFlag generationOf pack inside whole octant rowIn rowAt rowSet rowPut kidOf factOf wordOf factPut putOf factsPut putsFrom written slot floor valueAt heightAt maxTo oneIf tabFrom kidsOf factor term kidsHash leafHash homeIn stops probeN probe insertAt shiftN shift erase remove agree homeAt kind look decLe ℕ-discrete part replace pathBy bitsOf kidMask kidTypes leafId branchId nextGeneration sumFor valueFor heightFor liveIn freshOf fitOf liveOf fullOf heldAt freshSlot slotGiven freshFacts empties named findSlot leafIn leafSlot deadFacts recycled lessOf unusedOf each takes releaseNo releaseOf allOf liveOrEmpty branchIn branchSlot placedKid lookNo wordsOf oneLeaf needOf cellNeed upNeed planOf resultOf freshNode leafAnew branchAnew owed lowOf makeOf grantNo granted answerOf cellNo editCell editNo editOf holdsOn
 computed = record {
   sized = refl;
   no₁ = refl;
@@ -135,7 +135,7 @@ third = begins seven (accepted {v = 7} (omega arith) (computed .no₅)) (edits f
 -- The theorem gives the id that computing gives.
 pub sample : OneEnd 1 t₀ 0 (five ∷ seven ∷ []) (o₂ .id) (o₄ .id) t₂
 sample =
-    any-order (omega arith) (two-crews (fresh-well cubeKids deepest 5 (zeros 40) (zeros 35) (zeros 15) (computed .sized)) (inl refl) (empty-root 1 t₀) first second)
+    any-order (omega arith) (two-crews (fresh-well cubeKids deepest 5 (zeros 40) (zeros 55) (zeros 25) (computed .sized)) (inl refl) (empty-root 1 t₀) first second)
     (((λ r. omega (arith, ap (λ (s : At 1). s .x) r)), tt), (tt, tt)) (List·Permᴰ·swap refl refl)
 
 -- Where the first end is let go before the second crew starts, both lists are entered and the ids can differ.

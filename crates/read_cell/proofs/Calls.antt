@@ -22,8 +22,7 @@ use Rattle.paths.specs.declared.IVec3.{IVec3}
 use Rattle.paths.specs.Paths.{coordOf, inside, whole, cellFrom, toCell}
 use Rattle.nodes.specs.Values.{valueAt}
 use Rattle.tree.specs.Cells.{pathTo}
-use Rattle.arena.specs.declared.Arena.{Arena}
-use Rattle.arena.specs.Tables.{tables}
+use Rattle.arena.specs.Tables.{State, tables}
 use Rattle.arena.specs.Calls.{fits, liveOf, liveOrEmpty}
 use Rattle.read_cell.specs.declared.End.{End}
 use Rattle.read_cell.specs.declared.Looked.{Looked}
@@ -90,18 +89,18 @@ ladder-deep b d x e =
     let q : (leb d deepest ≡ true) × (x ≡ 0) = past-yes (leb d deepest) x 2 0 (omega arith) (p .1) in
     (leb-true _ _ (q .0), q .1)
 
-module _ (a : Arena) (ks fs es : List ℕ) (id : ℕ) where
+module _ (c : ℕ) (ks fs : List ℕ) (id : ℕ) where
   -- the facts alone tell
-  pub there-facts : (t : Bool) → t ≡ liveOrEmpty (a .capacity) (factOf fs) id → t ≡ liveOrEmpty (a .capacity) (wordOf (nodes ks fs)) id
+  pub there-facts : (t : Bool) → t ≡ liveOrEmpty c (factOf fs) id → t ≡ liveOrEmpty c (wordOf (nodes ks fs)) id
   unfolding liveOrEmpty liveOf
   there-facts t e =
-      e ∙ ap (λ (w : ℕ). pick (eqb id 0) true (pick (ltb (slot id) (a .capacity)) (pick (leb floor id) (eqb w id) false) false))
+      e ∙ ap (λ (w : ℕ). pick (eqb id 0) true (pick (ltb (slot id) c) (pick (leb floor id) (eqb w id) false) false))
       (sym (word-fact (nodes ks fs) (slot id) own (omega arith)))
 
 -- for a ladder whose tests are flags of callees, or orders
 pub ruleset climb = (via-yes, via-no, rung-yes, rung-no, le-leb, lt-leb, all-inside, one-outside, there-facts)
 
-module _ (a : Arena) (ks fs es : List ℕ) (id : ℕ) where
+module _ (a : State) (ks fs es : List ℕ) (id : ℕ) where
   -- ---- lookup
 
   pub look-refused : (c : Cell) (k : ℕ) → k ≡ lookNoAt (tables a ks fs es) id c → (k ≡ 0 → ⊥) → looked k 0 ≡ lookAt (tables a ks fs es) id c

@@ -14,6 +14,7 @@ use Rattle.basics.specs.Pick.{pick}
 use Rattle.basics.proofs.Rungs.{pick-no, past-yes}
 use Rattle.nodes.specs.Words.{own, value, slot, floor}
 use Rattle.nodes.proofs.Access.{word-fact, fact-out}
+use Rattle.nodes.proofs.Rows.{in-short}
 use Rattle.nodes.proofs.Counts.{live-nonzero}
 use Rattle.nodes.proofs.Sums.{cases}
 use Rattle.paths.specs.Paths.{inside, whole, place}
@@ -52,7 +53,7 @@ well-small {t = t} w s =
     (λ h. omega (arith, w .nodes s (l, omega arith) .small)))
     (λ l.
     let z = w .sized .facts in
-    omega (arith, word-fact (t .nodes) s value (omega arith), fact-out (t .nodes .facts) s value (omega arith)))
+    omega (arith, word-fact (t .nodes) s value (omega arith), fact-out (t .nodes .facts) s value (in-short 11 (t .nodes .facts) s (omega arith))))
 
 -- ---- lookup as document 01 has it
 

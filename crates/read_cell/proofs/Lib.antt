@@ -1,5 +1,4 @@
 pub mod Ends
-pub mod PathWord
 pub mod Walk
 pub mod Cube
 pub mod Calls

@@ -6,7 +6,7 @@ use native.Mathlib.Decide.{decLe}
 use lib.ListN.{replicate}
 use Rattle.basics.specs.Limits.{deepest}
 use Rattle.ids.specs.Ids.{invalid, indexOf}
-use Rattle.nodes.specs.Words.{kidOf, factOf, wordOf, slot, floor}
+use Rattle.nodes.specs.Words.{rowIn, rowAt, kidOf, factOf, wordOf, slot, floor}
 use Rattle.nodes.specs.Tally.{tabFrom}
 use Rattle.paths.specs.Paths.{inside, whole, place}
 use Rattle.tree.specs.Tree.{kind, look}
@@ -30,12 +30,13 @@ root = 0x0282800000000002
 abbrev kids : List ℕ
 kids = replicate 16 0 ++ (one ∷ 0 ∷ one ∷ 0 ∷ 0 ∷ 0 ∷ 0 ∷ 0 ∷ [])
 
--- own, value, height, holds, places, link, spare of the slots 0, 1 and 2
+-- own in two halves, value, height, sum, spare, hash, holds, places, mark and the stack's entry of the slots 0, 1 and 2
 abbrev facts : List ℕ
-facts = replicate 7 0 ++ (one ∷ 1 ∷ 0 ∷ 0 ∷ 2 ∷ 0 ∷ 0 ∷ []) ++ (root ∷ 0 ∷ 1 ∷ 1 ∷ 0 ∷ 0 ∷ 0 ∷ [])
+facts =
+    replicate 11 0 ++ (1 ∷ 0x80000000 ∷ 1 ∷ 0 ∷ 0 ∷ 0 ∷ 0x9E3779B1 ∷ 0 ∷ 2 ∷ 0 ∷ 0 ∷ []) ++ (2 ∷ 0x02828000 ∷ 0 ∷ 1 ∷ 2 ∷ 0 ∷ 0x60EA27EE ∷ 1 ∷ 0 ∷ 0 ∷ 0 ∷ [])
 
 abbrev sample : Tables
-sample = tables (record { capacity = 3; next = 3; top = 0; live = 2 }) kids facts (replicate 9 0)
+sample = tables (record { capacity = 3; next = 3; freed = 0 }) kids facts (replicate 15 0)
 
 -- lookup's number and value
 abbrev Says : ℕ → ℕ → Looked → Type 0
@@ -43,11 +44,11 @@ Says k v r = (r .no ≡ k) × (r .value ≡ v)
 
 -- at depth 0 the stored average decides, 2 / 8; at depth 1 the cube is plain
 pub at-depth-0 : Says 0 0 (lookOf sample root 0 (place 0 0 0))
-unfolding lookOf lookNo fitOf inside whole liveOrEmpty liveOf floor look kind decLe valueAt slot indexOf wordOf kidOf factOf pathBy octant
+unfolding lookOf lookNo fitOf inside whole liveOrEmpty liveOf floor look kind decLe valueAt slot indexOf wordOf kidOf factOf rowAt rowIn pathBy octant
 at-depth-0 = (refl, refl)
 
 pub at-depth-1 : Says 0 1 (lookOf sample root 1 (place 0 1 0))
-unfolding lookOf lookNo fitOf inside whole liveOrEmpty liveOf floor look kind decLe valueAt slot indexOf wordOf kidOf factOf pathBy octant
+unfolding lookOf lookNo fitOf inside whole liveOrEmpty liveOf floor look kind decLe valueAt slot indexOf wordOf kidOf factOf rowAt rowIn pathBy octant
 at-depth-1 = (refl, refl)
 
 -- refusals
@@ -60,14 +61,14 @@ unfolding lookOf lookNo fitOf inside
 outside = (refl, refl)
 
 pub not-live : Says 4 0 (lookOf sample invalid 1 (place 0 1 0))
-unfolding lookOf lookNo fitOf inside liveOrEmpty liveOf floor slot indexOf wordOf factOf
+unfolding lookOf lookNo fitOf inside liveOrEmpty liveOf floor slot indexOf wordOf factOf rowAt rowIn
 not-live = (refl, refl)
 
 -- cell (x, y, z) stands at y * 4^d + z * 2^d + x
 pub expands : expandOf sample root 1 (replicate 8 9) ≡ expanded 0 (1 ∷ 0 ∷ 0 ∷ 0 ∷ 1 ∷ 0 ∷ 0 ∷ 0 ∷ [])
-unfolding expandOf expandNo fitOf liveOrEmpty liveOf floor cubeOf tabFrom look kind decLe valueAt slot indexOf wordOf kidOf factOf pathBy octant
+unfolding expandOf expandNo fitOf liveOrEmpty liveOf floor cubeOf tabFrom look kind decLe valueAt slot indexOf wordOf kidOf factOf rowAt rowIn pathBy octant
 expands = refl
 
 pub too-short : expandOf sample root 1 (replicate 7 9) ≡ expanded 9 (replicate 7 9)
-unfolding expandOf expandNo fitOf liveOrEmpty liveOf floor slot indexOf wordOf factOf
+unfolding expandOf expandNo fitOf liveOrEmpty liveOf floor slot indexOf wordOf factOf rowAt rowIn
 too-short = refl

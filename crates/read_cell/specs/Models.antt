@@ -1,14 +1,12 @@
 -- What each private function does, step by step. Nobody has to believe these: the laws carry them to Reading and Calls.
-use Prim.Native.Nat.{ℕ, zero, suc, _+_, _*_, _%_, _^_}
+use Prim.Native.Nat.{ℕ, _%_, _^_}
 use mathlib.Core.Bool.{Bool, true}
 use lib.Dec.{leb, ltb, eqb}
 use Rattle.basics.specs.Limits.{deepest}
 use Rattle.basics.specs.Pick.{pick}
-use Rattle.basics.specs.Bits.{bit}
 use Rattle.nodes.specs.Words.{Words}
 use Rattle.nodes.specs.Values.{valueAt}
 use Rattle.paths.specs.declared.Cell.{Cell}
-use Rattle.paths.specs.Paths.{octant}
 use Rattle.arena.specs.Tables.{Tables, cap, W}
 use Rattle.arena.specs.Calls.{fits, liveOrEmpty}
 use Rattle.read_cell.specs.declared.Looked.{Looked}
@@ -22,18 +20,6 @@ endsAt a = pick (eqb a 0) true (leb (2 ^ 63) a)
 -- the value of an id, in 16 bits
 unfoldable pub val : Words → ℕ → ℕ
 val W a = valueAt W a % 2 ^ 16
-
--- ## A path in one word
-
--- the low n bits of x, six places apart, the highest of them first
-unfoldable pub spaced : ℕ → ℕ → ℕ
-spaced zero x = 0
-spaced (suc n) x = bit n x + 64 * spaced n x
-
--- the child numbers of the last n levels down to the cell, six places apart, the first of them first; a 1 after the last
-unfoldable pub pathWord : ℕ → Cell → ℕ
-pathWord zero c = 1
-pathWord (suc n) c = octant n (c .x) (c .y) (c .z) + 64 * pathWord n c
 
 -- ## Lookup of a cell
 

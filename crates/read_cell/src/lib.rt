@@ -6,21 +6,21 @@ use arena::slot_of;
 use basics::DEEPEST;
 use ids::BlockId;
 use ids::LOWEST_LEAF;
-use nodes::VALUE;
-use nodes::fact;
 use nodes::kid;
+use nodes::stored;
 use paths::Cell;
 use paths::IVec3;
+use paths::octant;
 use paths::to_cell;
 ghost use mathlib.Core.Path.{_≡_};
-ghost use Prim.Native.Nat.{_*_, _^_, _<_, _≤_};
+ghost use Prim.Native.Nat.{_^_, _≤_};
 ghost use lib.Dec.{ltb};
 ghost use Rattle.basics.specs.Limits.{deepest};
 ghost use Rattle.nodes.specs.Words.{kidOf, factOf};
 ghost use Rattle.arena.specs.Lent.{before};
 ghost use Rattle.read_cell.specs.Reading.{endOf};
 ghost use Rattle.read_cell.specs.Calls.{lookOf};
-ghost use Rattle.read_cell.specs.Models.{endsAt, val, spaced, pathWord, lookNoAt, lookAt};
+ghost use Rattle.read_cell.specs.Models.{endsAt, val, lookNoAt, lookAt};
 
 // Where a path ended: the id reached, and its level.
 pub struct End {
@@ -48,10 +48,10 @@ fn is_end(id: u64) -> bool
 }
 
 // The stored value, in 16 bits; EMPTY has 0.
-pub fn value(facts: &[u64], id: u64) -> u16
+pub fn value(facts: &[u32], id: u64) -> u16
     ensures { λ r. ⌜ r ≡ val (factOf (now (facts .entry))) id ⌝ }
 {
-    let stored = (fact(facts, slot_of(id), VALUE) % 0x1_0000) as u16;
+    let stored = (stored(facts, slot_of(id)) % 0x1_0000) as u16;
     if id == BlockId::EMPTY.0 {
         return 0;
     }
@@ -59,22 +59,6 @@ pub fn value(facts: &[u64], id: u64) -> u16
 }
 
 // ---- down a path
-
-// The low six bits of x, bit 5 at place 5 and each lower one six places further.
-fn spread(x: u32) -> u64
-    ensures { λ r. ⌜ (r ≡ 32 * spaced 6 x) × (r < 2 ^ 36) ⌝ }
-{
-    ((x % 64) as u64 * 0x8_1020_4081) & 0x8_2082_0820
-}
-
-// The child numbers down to the cell, the first lowest and each six places above the last, and a 1 above them.
-fn path_word(cell: Cell) -> u64
-    requires { ⌜ cell .depth ≤ deepest ⌝ }
-    ensures { λ r. ⌜ r ≡ pathWord (cell .depth) cell ⌝ }
-{
-    let sum = spread(cell.x) + 2 * spread(cell.y) + 4 * spread(cell.z) + 0x200_0000_0000;
-    sum >> (41 - 6 * cell.depth)
-}
 
 // Down from id, as level 0, to the cell: until EMPTY, a leaf, or the level of its depth. INVALID of a depth above 6.
 pub fn descend(kids: &[u64], id: BlockId, cell: Cell) -> End
@@ -86,22 +70,17 @@ pub fn descend(kids: &[u64], id: BlockId, cell: Cell) -> End
             level: 0,
         };
     }
-    if is_end(id.0) {
-        return End { id: id, level: 0 };
-    }
     let mut at = id.0;
-    let mut level: u32 = 0;
-    let mut word = path_word(cell);
-    while 1 < word {
-        at = kid(kids, slot_of(at), (word % 8) as usize);
-        level += 1;
-        word = word / 64;
+    let mut left = cell.depth;
+    while 0 < left {
         if is_end(at) {
             return End {
                 id: BlockId(at),
-                level: level,
+                level: cell.depth - left,
             };
         }
+        left -= 1;
+        at = kid(kids, slot_of(at), octant(left, cell.x, cell.y, cell.z));
     }
     End {
         id: BlockId(at),
@@ -123,7 +102,7 @@ fn is_inside(d: u32, x: u32) -> bool
 // ---- lookup
 
 // The lowest refusal that applies to a lookup, or 0.
-pub fn look_no(arena: Arena, kids: &[u64], facts: &[u64], find: &[u16], id: u64, cell: Cell) -> u32
+pub fn look_no(arena: Arena, kids: &[u64], facts: &[u32], find: &[u16], id: u64, cell: Cell) -> u32
     ensures { λ r. ⌜ r ≡ lookNoAt (before arena kids facts find) id cell ⌝ }
 {
     if fit(arena.capacity, kids.len(), facts.len(), find.len()) {
@@ -145,7 +124,7 @@ pub fn look_no(arena: Arena, kids: &[u64], facts: &[u64], find: &[u16], id: u64,
 fn look_at(
     arena: Arena,
     kids: &[u64],
-    facts: &[u64],
+    facts: &[u32],
     find: &[u16],
     id: BlockId,
     cell: Cell,
@@ -167,7 +146,7 @@ fn look_at(
 pub fn get_at_depth(
     arena: Arena,
     kids: &[u64],
-    facts: &[u64],
+    facts: &[u32],
     find: &[u16],
     id: BlockId,
     depth: u32,

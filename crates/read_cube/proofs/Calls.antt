@@ -13,8 +13,7 @@ use Rattle.basics.specs.Limits.{deepestCube}
 use Rattle.basics.specs.Pick.{pick}
 use Rattle.basics.proofs.Rungs.{rung-yes, rung-no, eq-via, ne-via}
 use Rattle.nodes.specs.Words.{nodes, factOf, wordOf}
-use Rattle.arena.specs.declared.Arena.{Arena}
-use Rattle.arena.specs.Tables.{tables}
+use Rattle.arena.specs.Tables.{State, tables}
 use Rattle.arena.specs.Calls.{fits, liveOrEmpty}
 use Rattle.read_cell.specs.Reading.{cubeOf}
 use Rattle.read_cell.specs.Calls.{expandNo, expanded, expandOf}
@@ -51,7 +50,7 @@ passed true true false e k q h = absurd (omega arith)
 passed true false c e k q h = absurd (omega arith)
 passed false b c e k q h = absurd (omega arith)
 
-module _ (a : Arena) (ks fs es : List ℕ) (id d n k : ℕ) (q : k ≡ expandNo (tables a ks fs es) id d n) where
+module _ (a : State) (ks fs es : List ℕ) (id d n k : ℕ) (q : k ≡ expandNo (tables a ks fs es) id d n) where
   both : k ≡ 0 → (leb d deepestCube ≡ true) × (eqb n (8 ^ d) ≡ true)
   unfolding expandNo
   both h = passed (fits (tables a ks fs es)) (leb d deepestCube) (liveOrEmpty (a .capacity) (wordOf (nodes ks fs)) id) (eqb n (8 ^ d)) k q h

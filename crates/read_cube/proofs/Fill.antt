@@ -69,6 +69,13 @@ row-fits at n w row z p c c₀ h q k e = let m : suc z * row ≤ w * row = mul-l
 pub plane-fits : (at n w row plane y p c c₀ : ℕ) → y < n → p ≡ y * plane → at + n * plane + w * row + n ≤ c₀ + plane + row → c ≡ c₀ → at + p + w * row + n ≤ c + row
 plane-fits at n w row plane y p c c₀ h q k e = let m : suc y * plane ≤ n * plane = mul-le-mul-right plane h in omega arith
 
+-- a block of a side that is known
+pub sized-fits : (n k at row plane c : ℕ) → n ≡ k → at + n * plane + n * row + n ≤ c + plane + row → at + k * plane + k * row + k ≤ c + plane + row
+sized-fits n k at row plane c e h = rw e at h
+
+pub sized-done : (n k at row plane u : ℕ) (l m : List ℕ) → n ≡ k → m ≡ fillBlock row plane at k k u l → m ≡ fillBlock row plane at n n u l
+sized-done n k at row plane u l m e h = h ∙ rw e refl
+
 -- ---- an octant's offset
 
 pub times-no : (b W : ℕ) → b ≡ 0 → 0 ≡ b * W

@@ -2,7 +2,7 @@
 use Prim.Native.Nat.{ℕ, zero, suc, _+_, _*_, _/_, _%_, _^_}
 use mathlib.Core.List.{List}
 use lib.Dec.{leb, eqb}
-use lib.ListN.{length, set}
+use lib.ListN.{length, getD, set}
 use Rattle.basics.specs.Limits.{cubeKids}
 use Rattle.basics.specs.Pick.{pick}
 use Rattle.nodes.specs.Words.{Words}
@@ -48,13 +48,15 @@ grow W n row plane (suc k) side a at l =
 abbrev pub partsTo : Words → ℕ → ℕ → ℕ → ℕ → ℕ → ℕ → ℕ → ℕ → List ℕ → List ℕ
 partsTo W n row plane k h a at c l = times (λ i m. grow W n row plane k h (childOf W a i) (at + offset row plane h i) m) c l
 
--- the value of part c
-unfoldable pub partVal : Words → ℕ → ℕ → ℕ
-partVal W a c = val W (childOf W a c)
-
--- the parts c and c + 1, side by side
+-- the values of a and b, side by side
 unfoldable pub pairOf : Words → ℕ → ℕ → ℕ → List ℕ → List ℕ
-pairOf W a c at l = set (set l at (partVal W a c)) (at + 1) (partVal W a (c + 1))
+pairOf W a b at l = set (set l at (val W a)) (at + 1) (val W b)
+
+-- the values of the eight ids r, as parts that are single cells
+unfoldable pub eightOf : Words → List ℕ → ℕ → ℕ → ℕ → List ℕ → List ℕ
+eightOf W r row plane at l =
+    pairOf W (getD r 6 0) (getD r 7 0) (at + plane + row) (pairOf W (getD r 4 0) (getD r 5 0) (at + row)
+    (pairOf W (getD r 2 0) (getD r 3 0) (at + plane) (pairOf W (getD r 0 0) (getD r 1 0) at l)))
 
 -- the whole cube of side s: one value where the root is a leaf, else 0 and then its octants
 unfoldable pub cubeFrom : Words → ℕ → ℕ → ℕ → List ℕ → List ℕ

@@ -4,8 +4,10 @@ use arena::fit;
 use arena::is_live_or_empty;
 use arena::slot_of;
 use basics::DEEPEST_CUBE;
+use basics::Kids;
 use ids::BlockId;
 use ids::LOWEST_LEAF;
+use nodes::children;
 use nodes::kid;
 use read_cell::value;
 ghost use mathlib.Core.Path.{_≡_};
@@ -13,9 +15,10 @@ ghost use Prim.Native.Nat.{_+_, _*_, _^_, _<_, _≤_};
 ghost use lib.Dec.{eqb};
 ghost use Rattle.basics.specs.Limits.{deepestCube, cubeKids};
 ghost use Rattle.nodes.specs.Lent.{wordsIn};
+ghost use Rattle.nodes.specs.Words.{factOf};
 ghost use Rattle.arena.specs.Lent.{before};
 ghost use Rattle.read_cell.specs.Calls.{expanded, expandNo, expandOf};
-ghost use Rattle.read_cube.specs.Models.{fillRow, fillPlane, fillBlock, offset as offsetOf, grow, partsTo, partVal, pairOf, cubeFrom};
+ghost use Rattle.read_cube.specs.Models.{fillRow, fillPlane, fillBlock, offset as offsetOf, grow, partsTo, pairOf, eightOf, cubeFrom};
 
 // ---- one value into part of a cube
 
@@ -64,6 +67,23 @@ fn fill_block(cube: &mut [u16], at: usize, n: usize, row: usize, plane: usize, v
     }
 }
 
+// The same, with loops of their own for the sides of small octants.
+fn fill_leaf(cube: &mut [u16], at: usize, n: usize, row: usize, plane: usize, v: u16)
+    requires { ⌜ (n ≤ 64) × (row ≤ 64) × (plane ≤ 4096) ⌝ }
+    requires { do ⌜ at + n * plane + n * row + n ≤ (← ⟦cube.len()⟧) + plane + row ⌝ }
+    ensures { λ _. ⌜ now (cube .exit) ≡ fillBlock row plane at n n v (now (cube .entry)) ⌝ }
+{
+    if n == 8 {
+        fill_block(cube, at, 8, row, plane, v);
+        return;
+    }
+    if n == 4 {
+        fill_block(cube, at, 4, row, plane, v);
+        return;
+    }
+    fill_block(cube, at, n, row, plane, v);
+}
+
 // ---- octants
 
 // v where the bit is 1, else 0.
@@ -82,28 +102,30 @@ fn offset(c: usize, h: usize, row: usize, plane: usize) -> usize
     times_bit(c % 2, h) + times_bit(c / 2 % 2, mul(h, plane)) + times_bit(c / 4, mul(h, row))
 }
 
-// The stored value of child c.
-fn part_value(kids: &[u64], facts: &[u64], id: u64, c: usize) -> u16
-    requires { ⌜ c < 8 ⌝ }
-    ensures { λ r. ⌜ r ≡ partVal (wordsIn kids facts) id c ⌝ }
+// The values of two ids, side by side.
+fn fill_pair(facts: &[u32], cube: &mut [u16], a: u64, b: u64, at: usize)
+    requires { do ⌜ at + 2 ≤ (← ⟦cube.len()⟧) ⌝ }
+    ensures { λ _. ⌜ now (cube .exit) ≡ pairOf (factOf (now (facts .entry))) a b at (now (cube .entry)) ⌝ }
 {
-    value(facts, kid(kids, slot_of(id), c))
+    cube[at] = value(facts, a);
+    cube[at + 1] = value(facts, b);
 }
 
-// The children c and c + 1, side by side.
-fn fill_pair(kids: &[u64], facts: &[u64], cube: &mut [u16], id: u64, c: usize, at: usize)
-    requires { ⌜ c < 7 ⌝ }
-    requires { do ⌜ at + 2 ≤ (← ⟦cube.len()⟧) ⌝ }
-    ensures { λ _. ⌜ now (cube .exit) ≡ pairOf (wordsIn kids facts) id c at (now (cube .entry)) ⌝ }
+// The values of eight ids, as octants that are single cells.
+fn fill_eight(facts: &[u32], cube: &mut [u16], ids: Kids, at: usize, row: usize, plane: usize)
+    requires { do ⌜ at + plane + row + 2 ≤ (← ⟦cube.len()⟧) ⌝ }
+    ensures { λ _. ⌜ now (cube .exit) ≡ eightOf (factOf (now (facts .entry))) ids row plane at (now (cube .entry)) ⌝ }
 {
-    cube[at] = part_value(kids, facts, id, c);
-    cube[at + 1] = part_value(kids, facts, id, c + 1);
+    fill_pair(facts, cube, ids[0], ids[1], at);
+    fill_pair(facts, cube, ids[2], ids[3], at + plane);
+    fill_pair(facts, cube, ids[4], ids[5], at + row);
+    fill_pair(facts, cube, ids[6], ids[7], at + plane + row);
 }
 
 // The eight octants of a branch that are single cells, in turn.
 fn fill_cells(
     kids: &[u64],
-    facts: &[u64],
+    facts: &[u32],
     cube: &mut [u16],
     id: u64,
     at: usize,
@@ -113,16 +135,60 @@ fn fill_cells(
     requires { do ⌜ at + plane + row + 2 ≤ (← ⟦cube.len()⟧) ⌝ }
     ensures { λ _. ⌜ now (cube .exit) ≡ partsTo (wordsIn kids facts) cubeKids row plane 0 1 id at 8 (now (cube .entry)) ⌝ }
 {
-    fill_pair(kids, facts, cube, id, 0, at);
-    fill_pair(kids, facts, cube, id, 2, at + plane);
-    fill_pair(kids, facts, cube, id, 4, at + row);
-    fill_pair(kids, facts, cube, id, 6, at + plane + row);
+    fill_eight(facts, cube, children(kids, slot_of(id)), at, row, plane);
+}
+
+// One octant of side 2 of the lent cube, all 0 before: its corner at `at`.
+fn fill_small(
+    kids: &[u64],
+    facts: &[u32],
+    cube: &mut [u16],
+    id: u64,
+    at: usize,
+    row: usize,
+    plane: usize,
+)
+    requires { ⌜ (row ≤ 64) × (plane ≤ 4096) ⌝ }
+    requires { do ⌜ at + plane + row + 2 ≤ (← ⟦cube.len()⟧) ⌝ }
+    ensures { λ _. ⌜ now (cube .exit) ≡ grow (wordsIn kids facts) cubeKids row plane 1 2 id at (now (cube .entry)) ⌝ }
+{
+    if id == BlockId::EMPTY.0 {
+        return;
+    }
+    if LOWEST_LEAF <= id {
+        fill_block(cube, at, 2, row, plane, value(facts, id));
+        return;
+    }
+    fill_cells(kids, facts, cube, id, at, row, plane);
+}
+
+// The eight octants of a branch that have side 2, in turn.
+fn fill_smalls(
+    kids: &[u64],
+    facts: &[u32],
+    cube: &mut [u16],
+    id: u64,
+    at: usize,
+    row: usize,
+    plane: usize,
+)
+    requires { ⌜ (row ≤ 64) × (plane ≤ 4096) ⌝ }
+    requires { do ⌜ at + 3 * plane + 3 * row + 4 ≤ (← ⟦cube.len()⟧) ⌝ }
+    ensures { λ _. ⌜ now (cube .exit) ≡ partsTo (wordsIn kids facts) cubeKids row plane 1 2 id at 8 (now (cube .entry)) ⌝ }
+{
+    let s = slot_of(id);
+    let mut c: usize = 0;
+    while c < 8 {
+        let e = at + offset(c, 2, row, plane);
+        fill_small(kids, facts, cube, kid(kids, s, c), e, row, plane);
+        c += 1;
+    }
 }
 
 // One octant of the lent cube, all 0 before: its corner at `at`, `left` levels above the cells.
 fn fill_octant(
     kids: &[u64],
-    facts: &[u64],
+    facts: &[u32],
     cube: &mut [u16],
     id: u64,
     at: usize,
@@ -143,11 +209,15 @@ fn fill_octant(
         return;
     }
     if LOWEST_LEAF <= id {
-        fill_block(cube, at, side, row, plane, value(facts, id));
+        fill_leaf(cube, at, side, row, plane, value(facts, id));
         return;
     }
     if left == 1 {
         fill_cells(kids, facts, cube, id, at, row, plane);
+        return;
+    }
+    if left == 2 {
+        fill_smalls(kids, facts, cube, id, at, row, plane);
         return;
     }
     fill_octants(kids, facts, cube, id, at, left - 1, side / 2, row, plane);
@@ -156,7 +226,7 @@ fn fill_octant(
 // The eight octants of a branch, each of side h, in turn.
 fn fill_octants(
     kids: &[u64],
-    facts: &[u64],
+    facts: &[u32],
     cube: &mut [u16],
     id: u64,
     at: usize,
@@ -179,7 +249,7 @@ fn fill_octants(
 }
 
 // The whole cube of side s: one value where the root is a leaf, else 0 and then the root's octants.
-fn fill_cube(kids: &[u64], facts: &[u64], cube: &mut [u16], id: u64, depth: u32, s: usize)
+fn fill_cube(kids: &[u64], facts: &[u32], cube: &mut [u16], id: u64, depth: u32, s: usize)
     requires { ⌜ (s ≡ 2 ^ depth) × (s ≤ 64) ⌝ }
     requires { do ⌜ 0 + s * (s * s) + s * s + s ≤ (← ⟦cube.len()⟧) + s * s + s ⌝ }
     ensures { λ _. ⌜ now (cube .exit) ≡ cubeFrom (wordsIn kids facts) s depth id (now (cube .entry)) ⌝ }
@@ -215,7 +285,7 @@ fn is_cube(d: u32, n: usize) -> bool
 fn expand_no(
     arena: Arena,
     kids: &[u64],
-    facts: &[u64],
+    facts: &[u32],
     find: &[u16],
     id: u64,
     depth: u32,
@@ -242,7 +312,7 @@ fn expand_no(
 pub fn to_vec(
     arena: Arena,
     kids: &[u64],
-    facts: &[u64],
+    facts: &[u32],
     find: &[u16],
     id: BlockId,
     depth: u32,

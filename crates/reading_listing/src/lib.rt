@@ -43,7 +43,7 @@ fn record_in(bytes: &[u8], i: usize) -> &[u8]
 fn one(
     run: Run,
     kids: &mut [u64],
-    facts: &mut [u64],
+    facts: &mut [u32],
     find: &mut [u16],
     k: u32,
     bytes: &[u8],
@@ -56,14 +56,14 @@ fn one(
 {
     let root = run.root;
     let made = readings::enter_reading(run.arena, kids, facts, find, root, DEPTH, k, bytes);
-    listing::after_record(root, run.count, made, kids, facts, find, out)
+    listing::after_record(run, made, kids, facts, find, out)
 }
 
 // Enters the records of `bytes`, as far as `out` has room for their lines, and writes the lines at the start of `out`.
 pub fn enter_records(
     run: Run,
     kids: &mut [u64],
-    facts: &mut [u64],
+    facts: &mut [u32],
     find: &mut [u16],
     k: u32,
     bytes: &[u8],

@@ -17,25 +17,24 @@ ghost use Rattle.readings.specs.Models.{Rising};
 fn hold_root(
     arena: Arena,
     kids: &mut [u64],
-    facts: &mut [u64],
+    facts: &mut [u32],
     find: &mut [u16],
     root: BlockId,
 ) -> Made
-    ensures { λ r. ⌜ made r kids facts find ≡ pauseOf (before arena kids facts find) (root .0) ⌝ }
+    ensures { λ r. ⌜ made arena r kids facts find ≡ pauseOf (before arena kids facts find) (root .0) ⌝ }
 {
     let held = arena_hold::hold(arena, kids, facts, find, root);
-    let after = held.arena;
     if held.no != 0 {
         return Made {
             no: held.no,
             id: BlockId::INVALID,
-            arena: after,
+            slots: held.slots,
         };
     }
     Made {
         no: 0,
         id: root,
-        arena: after,
+        slots: held.slots,
     }
 }
 
@@ -43,7 +42,7 @@ fn hold_root(
 fn act(
     arena: Arena,
     kids: &mut [u64],
-    facts: &mut [u64],
+    facts: &mut [u32],
     find: &mut [u16],
     root: BlockId,
     depth: u32,
@@ -51,7 +50,7 @@ fn act(
 ) -> Made
     requires { ⌜ Rising aim ⌝ }
     ensures { λ r. ⌜ (Fair cubeKids deepest (before arena kids facts find)
-        → made r kids facts find ≡ askedOf (before arena kids facts find) (root .0) depth aim) ⌝ }
+        → made arena r kids facts find ≡ askedOf (before arena kids facts find) (root .0) depth aim) ⌝ }
 {
     match aim {
         Aim::Nothing => hold_root(arena, kids, facts, find, root),
@@ -71,7 +70,7 @@ fn act(
         Aim::No(no) => Made {
             no: no,
             id: BlockId::INVALID,
-            arena: arena,
+            slots: arena.slots,
         },
     }
 }
@@ -82,7 +81,7 @@ fn act(
 pub fn enter_reading(
     arena: Arena,
     kids: &mut [u64],
-    facts: &mut [u64],
+    facts: &mut [u32],
     find: &mut [u16],
     root: BlockId,
     depth: u32,
@@ -90,7 +89,7 @@ pub fn enter_reading(
     bytes: &[u8],
 ) -> Made
     ensures { λ r. ⌜ (Fair cubeKids deepest (before arena kids facts find)
-        → made r kids facts find ≡ enterOf (before arena kids facts find) (root .0) depth k (now (bytes .entry))) ⌝ }
+        → made arena r kids facts find ≡ enterOf (before arena kids facts find) (root .0) depth k (now (bytes .entry))) ⌝ }
 {
     if fit(arena.capacity, kids.len(), facts.len(), find.len()) {
         let aim = aim_of(bytes, k, depth);
@@ -99,6 +98,6 @@ pub fn enter_reading(
     Made {
         no: 1,
         id: BlockId::INVALID,
-        arena: arena,
+        slots: arena.slots,
     }
 }

@@ -19,7 +19,7 @@ use Rattle.nodes.proofs.Sums.{cases, split}
 use Rattle.paths.specs.declared.IVec3.{IVec3}
 use Rattle.tree.specs.Tree.{LiveOr0}
 use Rattle.tree.specs.Lacks.{Need, have, lack}
-use Rattle.arena.specs.Tables.{Tables, cap, W, Sized, WellFormed}
+use Rattle.arena.specs.Tables.{liveIn, Tables, cap, W, Sized, WellFormed}
 use Rattle.arena.specs.Calls.{Fair, fits, liveOrEmpty, fullOf}
 use Rattle.arena.proofs.Fits.{sized-fits}
 use Rattle.ledger.specs.Fates.{Lives}
@@ -41,7 +41,7 @@ use Rattle.refusals.proofs.Reading.{above, beyond, look-ladder, look-no
 grant-ladder : (t : Tables) (r : Need) → grantNo t r ≡ ladder ((tenOf t r, 10) ∷ (elevenOf t r, 11) ∷ [])
 unfolding grantNo tenOf elevenOf ladder
 grant-ladder t (have r) = split (eqb r 0) (λ z. rw z) (λ z. split (fullOf (W t) (slot r)) (λ f. rw (z, f)) (λ f. rw (z, f)))
-grant-ladder t (lack k) = split (leb k (cap t - 1 - t .arena .live)) (λ l. rw l) (λ l. rw l)
+grant-ladder t (lack k) = split (leb k (cap t - 1 - liveIn (t .arena))) (λ l. rw l) (λ l. rw l)
 
 -- 10 is not given where the result isn't there, nor where it is EMPTY
 ten-have : (t : Tables) (r : ℕ) → tenOf t (have r) ≡ true → (r ≢ 0) × Full t r
@@ -67,7 +67,7 @@ eleven-is t (have r) = ((λ e. absurd (true≢false (sym e))), (λ e. absurd (ne
     never true b e = omega arith
     never false true e = omega arith
     never false false e = omega arith
-eleven-is t (lack k) = go (leb k (cap t - 1 - t .arena .live))
+eleven-is t (lack k) = go (leb k (cap t - 1 - liveIn (t .arena)))
   where
     go : (b : Bool) → Decides (not b) (_≡_ {A = ℕ} (pick b 0 11) 11)
     go true = ((λ e. absurd (true≢false (sym e))), (λ e. absurd (omega arith)))

@@ -18,7 +18,7 @@ use Rattle.tree.proofs.Grow.{extends-keeps, value-later, height-later, 
 
 -- ## Definitions
 
--- the slot s has the same words later, counts apart: children, id, value and height
+-- the slot s has the same words later, counts apart: children, id, value, height, sum, spare and hash
 abbrev pub SameSlot : Words → Words → ℕ → Type 0
 SameSlot W W′ s = (f : ℕ) → f < holds → W′ s f ≡ W s f
 

@@ -15,6 +15,7 @@ use Rattle.nodes.specs.Words.{Words, Nodes, wordOf, own, value, height, slot, f
 use Rattle.nodes.specs.Values.{valueAt, heightAt, maxTo}
 use Rattle.nodes.specs.Tally.{Live}
 use Rattle.nodes.proofs.Access.{word-fact, fact-out}
+use Rattle.nodes.proofs.Rows.{in-short}
 use Rattle.nodes.proofs.Counts.{floor-pos, live-nonzero}
 use Rattle.nodes.proofs.Sums.{cases, sumTo-ext}
 use Rattle.tree.specs.Tree.{Branch, LiveOr0, childOf, WellMade, Cell, here, down, Extends}
@@ -30,9 +31,9 @@ use Rattle.tree.proofs.Plan.{plan-have}
 -- ## Dead slots more change nothing
 
 -- what lies outside the tables reads 0
-pub tables-bare : (x : Nodes) (cap : ℕ) → length (x .facts) ≡ 7 * cap → Bare cap (wordOf x)
+pub tables-bare : (x : Nodes) (cap : ℕ) → length (x .facts) ≡ 11 * cap → Bare cap (wordOf x)
 tables-bare x cap e s h =
-    let z : wordOf x s own ≡ 0 = word-fact x s own (omega arith) ∙ sym (fact-out (x .facts) s own (omega arith)) in
+    let z : wordOf x s own ≡ 0 = word-fact x s own (omega arith) ∙ fact-out (x .facts) s own (in-short 11 (x .facts) s (omega arith)) in
     omega (arith, floor-pos)
 
 module _ {cap c : ℕ} {W : Words} where

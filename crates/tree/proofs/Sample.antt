@@ -7,7 +7,7 @@ use native.Mathlib.Omega.{arith}
 use lib.ListN.{replicate}
 use Rattle.ids.specs.Ids.{indexOf}
 use Rattle.basics.specs.Puts.{putsFrom}
-use Rattle.nodes.specs.Words.{Nodes, nodes, own, factOf, wordOf, written, slot, floor}
+use Rattle.nodes.specs.Words.{rowIn, rowAt, rowPut, Nodes, nodes, own, factOf, wordOf, factsPut, written, slot, floor}
 use Rattle.nodes.specs.Tally.{Live}
 use Rattle.nodes.proofs.Access.{written-others}
 use Rattle.tree.specs.Tree.{WellMade, look, kind}
@@ -17,10 +17,10 @@ use Rattle.tree.proofs.OneNode.{Added, added-made}
 -- ## Two slots, never given out
 
 abbrev pub fresh : Nodes
-fresh = nodes (replicate 16 0) (replicate 14 0)
+fresh = nodes (replicate 16 0) (replicate 22 0)
 
 fresh-own : (s : ℕ) → s < 2 → wordOf fresh s own ≡ 0
-unfolding wordOf factOf
+unfolding wordOf factOf rowAt rowIn
 fresh-own zero h = refl
 fresh-own (suc zero) h = refl
 fresh-own (suc (suc s)) h = absurd (omega arith)
@@ -44,22 +44,22 @@ fresh-made n =
 abbrev pub five : ℕ
 five = 0x8000000000000001
 
--- no children; its id, value 5, height 0, one hold
+-- no children; its id, value 5, height 0, sum 0, spare 0, the hash of 5, one hold, no place, mark 0
 abbrev none : List ℕ
 none = 0 ∷ 0 ∷ 0 ∷ 0 ∷ 0 ∷ 0 ∷ 0 ∷ 0 ∷ []
 
-abbrev words : List ℕ
-words = five ∷ 5 ∷ 0 ∷ 1 ∷ 0 ∷ 0 ∷ 0 ∷ []
+abbrev facts : List ℕ
+facts = 5 ∷ 0 ∷ 0 ∷ 0 ∷ 0x17156075 ∷ 1 ∷ 0 ∷ 0 ∷ []
 
 abbrev pub withFive : Nodes
-withFive = written fresh 1 none words
+withFive = written fresh 1 none (five ∷ facts)
 
 five-slot : slot five ≡ 1
 unfolding slot indexOf
 five-slot = refl
 
 five-own : wordOf withFive 1 own ≡ five
-unfolding wordOf factOf written putsFrom
+unfolding wordOf factOf rowAt rowIn written factsPut rowPut putsFrom
 five-own = refl
 
 five-live : Live 2 (wordOf withFive) five
@@ -71,15 +71,15 @@ added =
     record {
       dead = rw (five-slot, fresh-own 1 (omega arith)) (omega (arith, Rattle.nodes.proofs.Counts.floor-pos));
       now = five-live;
-      rest = λ s h f k. written-others fresh 1 none words refl refl s f (rw five-slot at h) (omega arith);
+      rest = λ s h f k. written-others fresh 1 none five facts refl refl s f (rw five-slot at h) (omega arith);
     }
 
 five-value : valueAt (wordOf withFive) five ≡ 5
-unfolding valueAt slot indexOf wordOf factOf written putsFrom
+unfolding valueAt slot indexOf wordOf factOf rowAt rowIn written factsPut rowPut putsFrom
 five-value = refl
 
 five-height : heightAt (wordOf withFive) five ≡ 0
-unfolding heightAt slot indexOf wordOf factOf written putsFrom
+unfolding heightAt slot indexOf wordOf factOf rowAt rowIn written factsPut rowPut putsFrom
 five-height = refl
 
 pub five-made : (n : ℕ) → n ≤ 8 → WellMade n 2 (wordOf withFive)
@@ -93,5 +93,5 @@ five-made n h =
 -- ## Lookup computes
 
 pub reads : look (wordOf withFive) (3 ∷ 7 ∷ []) five ≡ 5
-unfolding look kind decLe valueAt slot indexOf wordOf factOf written putsFrom
+unfolding look kind decLe valueAt slot indexOf wordOf factOf rowAt rowIn written factsPut rowPut putsFrom
 reads = refl

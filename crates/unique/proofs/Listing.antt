@@ -1,5 +1,5 @@
 -- The contract of each call of the listings determines its answer and what it leaves.
-use mathlib.Core.Path.{_≡_, refl, sym, ap, ap₂, _∙_}
+use mathlib.Core.Path.{_≡_, sym, ap, ap₂, _∙_}
 use mathlib.Core.List.{List, []}
 use Prim.Native.Nat.{ℕ}
 use lib.ListN.{length}
@@ -13,31 +13,34 @@ use Rattle.reading_listing.specs.Listing.{readings}
 use Rattle.month_listing.specs.declared.Cells.{Cells}
 use Rattle.month_listing.specs.Months.{sided, cellLines}
 use Rattle.unique.specs.Listing.{Listing, start, records, readingRecords, ending, sideRecords, sideShort, second, cells, closing, ListingSaid, ListingMeets, ListingSpeaks, steppedOf, ranOf}
-use Rattle.unique.proofs.One.{one}
+use Rattle.unique.proofs.One.{one, slotsBack, slots-back}
+
+-- a run out of its state
+abbrev runBack : State → Run
+runBack s = record { arena = record { capacity = s .tables .arena .capacity; slots = slotsBack (s .tables .arena) }; root = record { 0 = s .root }; count = s .count }
+
+run-back : (r : Run) (k f e : List ℕ) → runBack (stateOf r k f e) ≡ r
+run-back r k f e =
+    ap (λ (w : ℕ). record { arena = record { capacity = r .arena .capacity; slots = w }; root = r .root; count = r .count }) (slots-back (r .arena .capacity) (r .arena .slots))
 
 stepped-one : {o : Stepped} (a b : Step × List ℕ × List ℕ × List ℕ) → steppedOf a ≡ o → steppedOf b ≡ o → a ≡ b
 stepped-one = one steppedOf
-    (λ o. (
-      record { run = record { arena = o .state .tables .arena; root = record { 0 = o .state .root }; count = o .state .count }; no = o .no },
-      o .state .tables .nodes .kids,
-      o .state .tables .nodes .facts,
-      o .state .tables .find,
-    ))
-    (λ a. refl)
+    (λ o. (record { run = runBack (o .state); no = o .no }, o .state .tables .nodes .kids, o .state .tables .nodes .facts, o .state .tables .find))
+    (λ a. ap (λ (r : Run). (record { run = r; no = a .0 .no }, a .1, a .2, a .3)) (run-back (a .0 .run) (a .1) (a .2) (a .3)))
 
 ran-one : {o : Told} (a b : Ran × List ℕ × List ℕ × List ℕ × List ℕ) → ranOf a ≡ o → ranOf b ≡ o → a ≡ b
 ran-one = one ranOf
     (λ o. (
-      record { run = record { arena = o .state .tables .arena; root = record { 0 = o .state .root }; count = o .state .count }; records = o .records; len = o .len },
+      record { run = runBack (o .state); records = o .records; len = o .len },
       o .state .tables .nodes .kids,
       o .state .tables .nodes .facts,
       o .state .tables .find,
       o .out,
     ))
-    (λ a. refl)
+    (λ a. ap (λ (r : Run). (record { run = r; records = a .0 .records; len = a .0 .len }, a .1, a .2, a .3, a .4)) (run-back (a .0 .run) (a .1) (a .2) (a .3)))
 
 run-one : {o : State} (a b : Run) → stateOf a [] [] [] ≡ o → stateOf b [] [] [] ≡ o → a ≡ b
-run-one = one (λ r. stateOf r [] [] []) (λ o. record { arena = o .tables .arena; root = record { 0 = o .root }; count = o .count }) (λ a. refl)
+run-one = one (λ r. stateOf r [] [] []) runBack (λ a. run-back a [] [] [])
 
 pub listing-determined : (q : Listing) → ListingSpeaks q → (a b : ListingSaid q) → ListingMeets q a → ListingMeets q b → a ≡ b
 listing-determined (start c k f e) s a b p q = stepped-one a b p q

@@ -17,7 +17,7 @@ use Rattle.paths.specs.Paths.{pathOf, decodedOf, childIndexOf}
 use Rattle.arena.specs.declared.Answer.{Answer}
 use Rattle.arena.specs.declared.Counted.{Counted}
 use Rattle.arena.specs.declared.Made.{Made}
-use Rattle.arena.specs.Tables.{Tables, WellFormed}
+use Rattle.arena.specs.Tables.{Tables, cap, WellFormed}
 use Rattle.arena.specs.Calls.{Fair, rawIds, madeOf, answeredOf, counted, freshOf, holdOf, countsOf, internLeafOf, internBranchOf, releaseOf}
 use Rattle.read_cell.specs.declared.Looked.{Looked}
 use Rattle.read_cell.specs.Calls.{lookOf, expanded, expandOf}
@@ -138,16 +138,16 @@ Said (check t) = Bool × List ℕ
 
 -- its contract
 abbrev pub Meets : (q : Asked) → Said q → Type 0
-Meets (fresh c k f e) a = answeredOf (a .0) (a .1) (a .2) (a .3) ≡ freshOf c k f e
-Meets (hold t b) a = answeredOf (a .0) (t .nodes .kids) (a .1) (t .find) ≡ holdOf t (b .0)
+Meets (fresh c k f e) a = answeredOf c (a .0) (a .1) (a .2) (a .3) ≡ freshOf c k f e
+Meets (hold t b) a = answeredOf (cap t) (a .0) (t .nodes .kids) (a .1) (t .find) ≡ holdOf t (b .0)
 Meets (counts t b) a = counted a ≡ countsOf t (b .0)
-Meets (leaf t v) a = (n tallest : ℕ) → n ≤ kidWords → Fair n tallest t → madeOf (a .0) (a .1) (a .2) (a .3) ≡ internLeafOf t v
-Meets (branch t ks) a = Fair cubeKids deepest t → madeOf (a .0) (a .1) (a .2) (a .3) ≡ internBranchOf cubeKids deepest t (rawIds ks)
-Meets (release t b) a = (n tallest : ℕ) → n ≤ kidWords → tallest ≤ deepest → Fair n tallest t → answeredOf (a .0) (a .1) (a .2) (a .3) ≡ releaseOf tallest t (b .0)
+Meets (leaf t v) a = (n tallest : ℕ) → n ≤ kidWords → Fair n tallest t → madeOf (cap t) (a .0) (a .1) (a .2) (a .3) ≡ internLeafOf t v
+Meets (branch t ks) a = Fair cubeKids deepest t → madeOf (cap t) (a .0) (a .1) (a .2) (a .3) ≡ internBranchOf cubeKids deepest t (rawIds ks)
+Meets (release t b) a = (n tallest : ℕ) → n ≤ kidWords → tallest ≤ deepest → Fair n tallest t → answeredOf (cap t) (a .0) (a .1) (a .2) (a .3) ≡ releaseOf tallest t (b .0)
 Meets (look t b d p) a = a ≡ lookOf t (b .0) d p
 Meets (expand t b d l) a = expanded (a .0) (a .1) ≡ expandOf t (b .0) d l
-Meets (edit t b d p v) a = Fair cubeKids deepest t → madeOf (a .0) (a .1) (a .2) (a .3) ≡ editOf t (b .0) d p v
-Meets (enter t b d k l) a = Fair cubeKids deepest t → madeOf (a .0) (a .1) (a .2) (a .3) ≡ enterOf t (b .0) d k l
+Meets (edit t b d p v) a = Fair cubeKids deepest t → madeOf (cap t) (a .0) (a .1) (a .2) (a .3) ≡ editOf t (b .0) d p v
+Meets (enter t b d k l) a = Fair cubeKids deepest t → madeOf (cap t) (a .0) (a .1) (a .2) (a .3) ≡ enterOf t (b .0) d k l
 Meets (compare t x y d c l r) a = compared (a .0) (a .1) (a .2) (a .3) ≡ compareOf t (x .0) (y .0) d c l r
 Meets (check t) a = ((a .0 ≡ true) ↔ WellFormed cubeKids deepest t) × (a .1 ≡ t .nodes .facts)
 

@@ -6,6 +6,7 @@ use lib.ListN.{length}
 use Rattle.basics.specs.Limits.{deepest, cubeKids}
 use Rattle.basics.specs.Puts.{putsFrom}
 use Rattle.arena.specs.Calls.{Fair}
+use Rattle.arena.specs.Tables.{liveIn, stateOf as arenaOf}
 use Rattle.listing.specs.declared.Run.{Run}
 use Rattle.listing.specs.declared.Ran.{Ran}
 use Rattle.listing.specs.declared.Step.{Step}
@@ -55,7 +56,7 @@ ListingMeets (records r k f e b o) a =
     (a .0 .records ≡ takenOf (wholeIn (length b)) (length o)) × (Fair cubeKids deepest (stateOf r k f e .tables) → ranOf a ≡ toldOf edits (stateOf r k f e) b o (a .0 .records))
 ListingMeets (readingRecords r k f e i b o) a =
     (a .0 .records ≡ takenOf (allIn (length b)) (length o)) × (Fair cubeKids deepest (stateOf r k f e .tables) → ranOf a ≡ toldOf (readings i) (stateOf r k f e) b o (a .0 .records))
-ListingMeets (ending r cut o) a = (a .1 ≡ putsFrom o 0 (endingOf cut (r .arena .live))) × (a .0 ≡ length (endingOf cut (r .arena .live)))
+ListingMeets (ending r cut o) a = (a .1 ≡ putsFrom o 0 (endingOf cut (liveIn (arenaOf (r .arena))))) × (a .0 ≡ length (endingOf cut (liveIn (arenaOf (r .arena)))))
 ListingMeets (sideRecords d r k f e b o) a =
     (a .0 .records ≡ takenOf (wholeIn (length b)) (length o)) × (Fair cubeKids deepest (stateOf r k f e .tables) → ranOf a ≡ toldOf (sided d) (stateOf r k f e) b o (a .0 .records))
 ListingMeets (sideShort d cut o) a = (a .1 ≡ putsFrom o 0 (shortLine d cut)) × (a .0 ≡ length (shortLine d cut))
@@ -63,7 +64,7 @@ ListingMeets (second r) a = (k f e : List ℕ) → stateOf a k f e ≡ secondSid
 ListingMeets (cells c l r i n o) a =
     (a .0 .cells ≡ cellsTaken (n - i) (length o)) × (a .1 ≡ putsFrom o 0 (cellLines c l r i (a .0 .cells))) × (a .0 .len ≡ length (cellLines c l r i (a .0 .cells)))
 ListingMeets (closing x r o) a =
-    (a .1 ≡ putsFrom o 0 (closingOf (x .no) (x .count) (x .opened) (r .arena .live))) × (a .0 ≡ length (closingOf (x .no) (x .count) (x .opened) (r .arena .live)))
+    (a .1 ≡ putsFrom o 0 (closingOf (x .no) (x .count) (x .opened) (liveIn (arenaOf (r .arena))))) × (a .0 ≡ length (closingOf (x .no) (x .count) (x .opened) (liveIn (arenaOf (r .arena)))))
 
 -- on which tables it speaks
 abbrev pub ListingSpeaks : Listing → Type 0

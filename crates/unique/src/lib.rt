@@ -154,19 +154,19 @@ fn parse_meets(bytes: &[u8]) -> Reading
 
 // ---- calls on lent tables
 
-fn fresh_meets(capacity: usize, kids: &mut [u64], facts: &mut [u64], find: &mut [u16]) -> Answer
+fn fresh_meets(capacity: usize, kids: &mut [u64], facts: &mut [u32], find: &mut [u16]) -> Answer
     ensures { λ r. ⌜ Meets (fresh capacity (now (kids .entry)) (now (facts .entry)) (now (find .entry))) (r, now (kids .exit), now (facts .exit), now (find .exit)) ⌝ }
 {
     arena_hold::fresh(capacity, kids, facts, find)
 }
 
-fn hold_meets(arena: Arena, kids: &[u64], facts: &mut [u64], find: &[u16], id: BlockId) -> Answer
+fn hold_meets(arena: Arena, kids: &[u64], facts: &mut [u32], find: &[u16], id: BlockId) -> Answer
     ensures { λ r. ⌜ Meets (hold (before arena kids facts find) id) (r, now (facts .exit)) ⌝ }
 {
     arena_hold::hold(arena, kids, facts, find, id)
 }
 
-fn counts_meets(arena: Arena, kids: &[u64], facts: &[u64], find: &[u16], id: BlockId) -> Counted
+fn counts_meets(arena: Arena, kids: &[u64], facts: &[u32], find: &[u16], id: BlockId) -> Counted
     ensures { λ r. ⌜ Meets (counts (before arena kids facts find) id) r ⌝ }
 {
     arena_hold::counts(arena, kids, facts, find, id)
@@ -175,7 +175,7 @@ fn counts_meets(arena: Arena, kids: &[u64], facts: &[u64], find: &[u16], id: Blo
 fn leaf_meets(
     arena: Arena,
     kids: &mut [u64],
-    facts: &mut [u64],
+    facts: &mut [u32],
     find: &mut [u16],
     value: u16,
 ) -> Made
@@ -187,7 +187,7 @@ fn leaf_meets(
 fn branch_meets(
     arena: Arena,
     kids: &mut [u64],
-    facts: &mut [u64],
+    facts: &mut [u32],
     find: &mut [u16],
     children: [BlockId; KID_WORDS],
 ) -> Made
@@ -199,7 +199,7 @@ fn branch_meets(
 fn release_meets(
     arena: Arena,
     kids: &mut [u64],
-    facts: &mut [u64],
+    facts: &mut [u32],
     find: &mut [u16],
     id: BlockId,
 ) -> Answer
@@ -211,7 +211,7 @@ fn release_meets(
 fn look_meets(
     arena: Arena,
     kids: &[u64],
-    facts: &[u64],
+    facts: &[u32],
     find: &[u16],
     id: BlockId,
     depth: u32,
@@ -225,7 +225,7 @@ fn look_meets(
 fn expand_meets(
     arena: Arena,
     kids: &[u64],
-    facts: &[u64],
+    facts: &[u32],
     find: &[u16],
     id: BlockId,
     depth: u32,
@@ -239,7 +239,7 @@ fn expand_meets(
 fn edit_meets(
     arena: Arena,
     kids: &mut [u64],
-    facts: &mut [u64],
+    facts: &mut [u32],
     find: &mut [u16],
     root: BlockId,
     depth: u32,
@@ -254,7 +254,7 @@ fn edit_meets(
 fn enter_meets(
     arena: Arena,
     kids: &mut [u64],
-    facts: &mut [u64],
+    facts: &mut [u32],
     find: &mut [u16],
     root: BlockId,
     depth: u32,
@@ -269,7 +269,7 @@ fn enter_meets(
 fn compare_meets(
     arena: Arena,
     kids: &[u64],
-    facts: &[u64],
+    facts: &[u32],
     find: &[u16],
     left: BlockId,
     right: BlockId,
@@ -294,7 +294,7 @@ fn compare_meets(
     )
 }
 
-fn check_meets(arena: Arena, kids: &[u64], facts: &mut [u64], find: &[u16]) -> bool
+fn check_meets(arena: Arena, kids: &[u64], facts: &mut [u32], find: &[u16]) -> bool
     ensures { λ r. ⌜ Meets (check (before arena kids facts find)) (r, now (facts .exit)) ⌝ }
 {
     check_arena::check_arena(arena, kids, facts, find)
@@ -340,7 +340,7 @@ fn exported_parse_meets(bytes: &[u8]) -> ReadingFields
 
 // ---- the listings of edit records, of readings and of two months
 
-fn start_meets(capacity: usize, kids: &mut [u64], facts: &mut [u64], find: &mut [u16]) -> Step
+fn start_meets(capacity: usize, kids: &mut [u64], facts: &mut [u32], find: &mut [u16]) -> Step
     ensures { λ r. ⌜ ListingMeets (start capacity (now (kids .entry)) (now (facts .entry)) (now (find .entry))) (r, now (kids .exit), now (facts .exit), now (find .exit)) ⌝ }
 {
     listing::start(capacity, kids, facts, find)
@@ -349,7 +349,7 @@ fn start_meets(capacity: usize, kids: &mut [u64], facts: &mut [u64], find: &mut 
 fn records_meets(
     run: Run,
     kids: &mut [u64],
-    facts: &mut [u64],
+    facts: &mut [u32],
     find: &mut [u16],
     bytes: &[u8],
     out: &mut [u8],
@@ -362,7 +362,7 @@ fn records_meets(
 fn reading_records_meets(
     run: Run,
     kids: &mut [u64],
-    facts: &mut [u64],
+    facts: &mut [u32],
     find: &mut [u16],
     k: u32,
     bytes: &[u8],
@@ -383,7 +383,7 @@ fn side_records_meets(
     side: Side,
     run: Run,
     kids: &mut [u64],
-    facts: &mut [u64],
+    facts: &mut [u32],
     find: &mut [u16],
     bytes: &[u8],
     out: &mut [u8],

@@ -5,6 +5,7 @@ use crate::lent::Lent;
 use crate::tally::Tally;
 use reference::arena::{GENERATIONS, MOST_CAPACITY, MOST_HOLDS, TALLEST};
 use reference::document01::{EMPTY, INVALID, generation, index};
+use reference::tables::lengths;
 
 type Told = Result<(), String>;
 
@@ -201,12 +202,7 @@ fn capacities(_: &mut Tally) -> Told {
         (MOST_CAPACITY + 1, 1),
     ] {
         let state = Lent::fresh(2).arena;
-        let mut lent = Lent::new(
-            state,
-            &vec![7; 8 * capacity],
-            &vec![7; 7 * capacity],
-            &vec![7; 3 * capacity],
-        );
+        let mut lent = Lent::full_of(state, lengths(capacity), 7);
         let before = lent.clone();
         if lent.make_fresh(capacity) != no || !lent.is_intact() {
             return Err(format!("a fresh arena of {capacity} slots"));

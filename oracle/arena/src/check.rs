@@ -4,7 +4,11 @@ use crate::lent::Lent;
 use reference::Random;
 use reference::arena::{GENERATIONS, MOST_HOLDS, TALLEST};
 use reference::document01::{EMPTY, generation, index, is_leaf, new_branch, new_leaf};
-use reference::tables::{FLOOR, HEIGHT, HOLDS, LINK, OWN, PLACES, SPARE, VALUE, home};
+use reference::finding::{hash, home};
+use reference::tables::{
+    ENTRY, FLOOR, HASH, HEIGHT, HOLDS, MARK, OWN_HIGH, OWN_LOW, PLACES, SPARE, SUM, VALUE, WORDS,
+    halves, slots_of,
+};
 
 /// Asks the arena check, which says yes exactly if the tables are well formed, and changes nothing. Are they?
 pub fn judge(lent: &mut Lent) -> Result<bool, String> {
@@ -22,27 +26,70 @@ pub fn judge(lent: &mut Lent) -> Result<bool, String> {
     Ok(says)
 }
 
-fn is_live(lent: &Lent, slot: usize) -> bool {
-    lent.facts()[7 * slot + OWN] >= FLOOR
+fn fact(lent: &Lent, slot: usize, word: usize) -> u32 {
+    lent.row(slot)[word]
+}
+
+fn put(lent: &mut Lent, slot: usize, word: usize, content: u32) {
+    lent.tables().facts[WORDS * slot + word] = content;
+}
+
+fn put_own(lent: &mut Lent, slot: usize, own: u64) {
+    let [low, high] = halves(own);
+    put(lent, slot, OWN_LOW, low);
+    put(lent, slot, OWN_HIGH, high);
+}
+
+fn children(lent: &Lent, slot: usize) -> [u64; 8] {
+    lent.kids()[8 * slot..8 * slot + 8].try_into().unwrap()
 }
 
 fn live_slots(lent: &Lent) -> Vec<usize> {
     (0..lent.arena.capacity)
-        .filter(|slot| is_live(lent, *slot))
+        .filter(|slot| lent.view().own(*slot) >= FLOOR)
         .collect()
 }
 
-/// Writes the finding table anew: these slots, one after the other, each in the first empty cell from its home on.
+/// Writes the finding table anew: these slots, one after the other, each in the first empty cell from the home of its hash word on.
 fn write_finding(lent: &mut Lent, slots: &[usize]) {
     let capacity = lent.arena.capacity;
-    let tables = lent.tables();
-    tables.find.fill(0);
+    lent.tables().find.fill(0);
     for &slot in slots {
-        let children = &tables.kids[8 * slot..8 * slot + 8];
-        let home = home(capacity, children, tables.facts[7 * slot + VALUE]);
-        let free = (home..tables.find.len()).find(|cell| tables.find[*cell] == 0);
-        tables.find[free.unwrap()] = slot as u16;
+        let home = home(capacity, fact(lent, slot, HASH));
+        let find = lent.tables().find;
+        let free = (home..find.len()).find(|cell| find[*cell] == 0);
+        find[free.unwrap()] = slot as u16;
     }
+}
+
+/// Writes what is worked out of the live nodes' contents anew: hashes, sums, and the finding table.
+fn write_anew(lent: &mut Lent) {
+    let slots = live_slots(lent);
+    for &slot in &slots {
+        let children = children(lent, slot);
+        let hash = hash(lent.view().own(slot), &children, fact(lent, slot, VALUE));
+        let below = children.into_iter().filter(|id| *id != EMPTY);
+        let sum = below.map(|id| fact(lent, index(id) as usize, VALUE)).sum();
+        put(lent, slot, HASH, hash);
+        put(lent, slot, SUM, sum);
+    }
+    write_finding(lent, &slots);
+}
+
+/// The freed slots of well-formed tables, the one freed last at the end.
+fn freed_slots(lent: &Lent) -> Vec<usize> {
+    (0..lent.arena.freed())
+        .map(|number| fact(lent, number, ENTRY) as usize)
+        .collect()
+}
+
+/// Writes the stack of freed slots anew: the entries, the marks, and how many there are.
+fn write_freed(lent: &mut Lent, slots: &[usize]) {
+    for (number, &slot) in slots.iter().enumerate() {
+        put(lent, number, ENTRY, slot as u32);
+        put(lent, slot, MARK, number as u32);
+    }
+    lent.arena.slots = slots_of(lent.arena.next(), slots.len());
 }
 
 // ---- edges
@@ -60,23 +107,24 @@ impl Hand {
         &mut self,
         id: impl Fn(u32) -> u64,
         children: [u64; 8],
-        value: u64,
-        height: u64,
+        value: u32,
+        height: u32,
     ) -> u64 {
-        let slot = self.0.arena.next;
-        self.0.arena.next += 1;
-        self.0.arena.live += 1;
+        let slot = self.0.arena.next();
+        self.0.arena.slots += 1;
         let id = id(slot as u32);
-        let tables = self.0.tables();
-        tables.kids[8 * slot..8 * slot + 8].copy_from_slice(&children);
-        tables.facts[7 * slot..7 * slot + 7].copy_from_slice(&[id, value, height, 1, 0, 0, 0]);
+        self.0.tables().kids[8 * slot..8 * slot + 8].copy_from_slice(&children);
+        put_own(&mut self.0, slot, id);
+        for (word, content) in [(VALUE, value), (HEIGHT, height), (HOLDS, 1)] {
+            self.put(id, word, content);
+        }
         for child in children.into_iter().filter(|id| *id != EMPTY) {
-            tables.facts[7 * index(child) as usize + PLACES] += 1;
+            self.put(child, PLACES, self.fact(child, PLACES) + 1);
         }
         id
     }
 
-    fn leaf(&mut self, value: u64) -> u64 {
+    fn leaf(&mut self, value: u32) -> u64 {
         self.node(|slot| new_leaf(slot, 0).1, [EMPTY; 8], value, 0)
     }
 
@@ -90,29 +138,47 @@ impl Hand {
         self.node(id, children, value / 8, height + 1)
     }
 
-    fn fact(&self, id: u64, word: usize) -> u64 {
-        self.0.facts()[7 * index(id) as usize + word]
+    /// The next slot, given out and freed again, with this generation.
+    fn freed(&mut self, given: u16) {
+        let slot = self.0.arena.next();
+        self.0.arena.slots += 1;
+        put_own(&mut self.0, slot, u64::from(given) << 32);
+        let mut slots = freed_slots(&self.0);
+        slots.push(slot);
+        write_freed(&mut self.0, &slots);
     }
 
-    fn put(&mut self, id: u64, word: usize, content: u64) {
-        self.0.tables().facts[7 * index(id) as usize + word] = content;
+    fn fact(&self, id: u64, word: usize) -> u32 {
+        fact(&self.0, index(id) as usize, word)
     }
 
-    /// The check has to say this, and document 01's reading too.
+    fn put(&mut self, id: u64, word: usize, content: u32) {
+        put(&mut self.0, index(id) as usize, word, content);
+    }
+
+    /// The check has to say this, and document 01's reading too, once what is worked out of the contents is written.
     fn expect(mut self, name: &str, expected: bool) -> Result<(), String> {
-        let slots = live_slots(&self.0);
-        write_finding(&mut self.0, &slots);
-        if judge(&mut self.0).map_err(|words| format!("{name}: {words}"))? == expected {
-            return Ok(());
-        }
-        Err(format!("{name}: the arena check says {}", !expected))
+        write_anew(&mut self.0);
+        expect(&mut self.0, name, expected)
     }
 }
 
-/// Each limit, met and passed by one. Answers how many cases there are.
+/// The check has to say this, and document 01's reading too.
+fn expect(lent: &mut Lent, name: &str, expected: bool) -> Result<(), String> {
+    if judge(lent).map_err(|words| format!("{name}: {words}"))? == expected {
+        return Ok(());
+    }
+    Err(format!("{name}: the arena check says {}", !expected))
+}
+
+/// Each limit, met and passed by one; and each word raised by one. Answers how many cases there are.
 pub fn edges() -> Result<u64, String> {
+    Ok(limits()? + raised()?)
+}
+
+fn limits() -> Result<u64, String> {
     let mut cases = 0;
-    let mut expect = |hand: Hand, name: &str, limit: u64, given: u64| {
+    let mut expect = |hand: Hand, name: &str, limit: u32, given: u32| {
         cases += 1;
         hand.expect(&format!("{name} {given}"), given <= limit)
     };
@@ -129,8 +195,8 @@ pub fn edges() -> Result<u64, String> {
     for holds in [MOST_HOLDS, MOST_HOLDS + 1] {
         let mut hand = Hand::new();
         let leaf = hand.leaf(5);
-        hand.put(leaf, HOLDS, holds.into());
-        expect(hand, "holds", MOST_HOLDS.into(), holds.into())?;
+        hand.put(leaf, HOLDS, holds);
+        expect(hand, "holds", MOST_HOLDS, holds)?;
     }
     for unused in 0..2 {
         let mut hand = Hand::new();
@@ -139,19 +205,15 @@ pub fn edges() -> Result<u64, String> {
         expect(hand, "nodes that nobody uses:", 0, unused)?;
     }
     for given in [GENERATIONS - 1, GENERATIONS, 0x7FFF] {
+        let most = u32::from(GENERATIONS) - 1;
         let mut hand = Hand::new();
         let leaf = hand.leaf(5);
-        hand.put(leaf, OWN, leaf | u64::from(given) << 32);
-        let most = u64::from(GENERATIONS) - 1;
+        put_own(&mut hand.0, 1, leaf | u64::from(given) << 32);
         expect(hand, "generation of a live slot", most, given.into())?;
 
         let mut hand = Hand::new();
         hand.leaf(5);
-        hand.leaf(6);
-        hand.0.arena.live = 1;
-        hand.0.arena.top = 2;
-        let freed = [u64::from(given) << 32, 0, 0, 0, 0, 0, 0];
-        hand.0.tables().facts[14..21].copy_from_slice(&freed);
+        hand.freed(given);
         expect(hand, "generation of a freed slot", most, given.into())?;
     }
     for twins in 0..2 {
@@ -159,6 +221,54 @@ pub fn edges() -> Result<u64, String> {
         hand.leaf(5);
         hand.leaf(6 - twins);
         expect(hand, "nodes of another's content:", 0, twins)?;
+    }
+    for slots in [15, 16] {
+        let mut hand = Hand::new();
+        for value in 1..=15 {
+            hand.leaf(value);
+        }
+        hand.0.arena.slots += slots - 15;
+        expect(hand, "slots given out:", 15, slots as u32)?;
+    }
+    for above in 0..2 {
+        let mut hand = Hand::new();
+        hand.leaf(5);
+        hand.0.arena.slots += above << 48;
+        expect(hand, "above the number of freed slots", 0, above as u32)?;
+    }
+    Ok(cases)
+}
+
+/// A leaf in slot 1, a branch over it, and a freed slot: each word of each row raised by one, of slot 0 and of slots never given out too.
+fn raised() -> Result<u64, String> {
+    let mut hand = Hand::new();
+    let leaf = hand.leaf(5);
+    hand.over(leaf);
+    hand.freed(7);
+    let mut lent = hand.0;
+    write_anew(&mut lent);
+    expect(&mut lent, "as written by hand", true)?;
+    let mut cases = 1;
+    for row in 0..lent.arena.capacity {
+        for word in 0..WORDS {
+            let is_well_formed = match word {
+                // The generation of a node that none names, and of a freed slot.
+                OWN_HIGH => row == 2 || row == 3,
+                // Nothing tells how many holds were granted.
+                HOLDS => row == 1 || row == 2,
+                // An entry above the only one.
+                ENTRY => row > 0,
+                _ => false,
+            };
+            let mut lent = lent.clone();
+            lent.tables().facts[WORDS * row + word] += 1;
+            expect(
+                &mut lent,
+                &format!("word {word} of row {row}"),
+                is_well_formed,
+            )?;
+            cases += 1;
+        }
     }
     Ok(cases)
 }
@@ -174,24 +284,34 @@ pub struct Outcome {
 
 type Change = fn(&mut Lent, &mut Random);
 
-pub const CHANGES: [(&str, Change); 20] = [
+pub const CHANGES: [(&str, Change); 27] = [
     ("a child", child),
-    ("an own word", fact::<OWN>),
-    ("a value", fact::<VALUE>),
-    ("a height", fact::<HEIGHT>),
-    ("holds", fact::<HOLDS>),
-    ("places", fact::<PLACES>),
-    ("a link", fact::<LINK>),
-    ("a spare word", fact::<SPARE>),
+    ("the low half of an own number", any_fact::<OWN_LOW>),
+    ("the high half of an own number", any_fact::<OWN_HIGH>),
+    ("a value", any_fact::<VALUE>),
+    ("a height", any_fact::<HEIGHT>),
+    ("a sum", any_fact::<SUM>),
+    ("a spare word", any_fact::<SPARE>),
+    ("a hash", any_fact::<HASH>),
+    ("a hash, and the finding table by it", hash_believed),
+    ("holds", any_fact::<HOLDS>),
+    ("places", any_fact::<PLACES>),
+    ("a mark", any_fact::<MARK>),
+    ("an entry of the freed slots", entry),
     ("a cell of the finding table", cell),
     ("two cells of the finding table exchanged", cells_exchanged),
     ("the finding table in another order", finding_reordered),
     ("the freed slots in another order", freed_reordered),
+    (
+        "two entries of the freed slots exchanged",
+        entries_exchanged,
+    ),
     ("a freed slot left out", freed_left_out),
+    ("a freed slot twice", freed_twice),
     ("a generation, in every place", generation_everywhere),
     ("a leaf's value for another's", value_copied),
     ("a child for another, with its place", child_for_another),
-    ("next, top or live", state),
+    ("next or freed", state),
     ("the capacity", capacity),
     ("a table's length", length),
     ("a node forgotten", forgotten),
@@ -203,36 +323,61 @@ fn any_slot(lent: &Lent, random: &mut Random) -> usize {
     if random.once_in(8) {
         return random.below(capacity);
     }
-    random.below((lent.arena.next + 1).min(capacity))
+    random.below((lent.arena.next() + 1).min(capacity))
 }
 
-/// Another word in place of this one: near it, a bit turned, a like one from elsewhere, or any.
-fn another(old: u64, like: u64, random: &mut Random) -> u64 {
+/// Another number of so many bits in place of this one: near it, a bit turned, a like one from elsewhere, or any.
+fn another(old: u64, like: u64, bits: usize, random: &mut Random) -> u64 {
     match random.below(6) {
         0 => old.wrapping_add(1),
         1 => old.wrapping_sub(1),
-        2 => old ^ 1 << random.below(64),
+        2 => old ^ 1 << random.below(bits),
         3 => like,
         4 => 0,
-        _ => word(random),
+        _ => word(random) >> random.one_of(&[0, 64 - bits]),
     }
 }
 
 fn child(lent: &mut Lent, random: &mut Random) {
     let at = 8 * any_slot(lent, random) + random.below(8);
     let like = match random.below(2) {
-        0 => lent.facts()[7 * any_slot(lent, random) + OWN],
+        0 => lent.view().own(any_slot(lent, random)),
         _ => random.one_of(lent.kids()),
     };
     let kids = lent.tables().kids;
-    kids[at] = another(kids[at], like, random);
+    kids[at] = another(kids[at], like, 64, random);
 }
 
-fn fact<const WORD: usize>(lent: &mut Lent, random: &mut Random) {
-    let at = 7 * any_slot(lent, random) + WORD;
-    let like = lent.facts()[7 * any_slot(lent, random) + WORD];
-    let facts = lent.tables().facts;
-    facts[at] = another(facts[at], like, random);
+fn any_fact<const WORD: usize>(lent: &mut Lent, random: &mut Random) {
+    let slot = any_slot(lent, random);
+    let like = fact(lent, any_slot(lent, random), WORD);
+    let old = fact(lent, slot, WORD);
+    let other = another(old.into(), like.into(), 32, random);
+    put(lent, slot, WORD, other as u32);
+}
+
+/// An entry of the stack, most often one that stands for a freed slot.
+fn entry(lent: &mut Lent, random: &mut Random) {
+    let freed = lent.arena.freed();
+    if freed == 0 || random.once_in(4) {
+        return any_fact::<ENTRY>(lent, random);
+    }
+    let number = random.below(freed);
+    let like = any_slot(lent, random) as u64;
+    let other = another(fact(lent, number, ENTRY).into(), like, 32, random);
+    put(lent, number, ENTRY, other as u32);
+}
+
+/// Another hash of a live node, and the finding table as a search by the hash words wants it.
+fn hash_believed(lent: &mut Lent, random: &mut Random) {
+    let slots = live_slots(lent);
+    if slots.is_empty() {
+        return;
+    }
+    let (slot, like) = (random.one_of(&slots), random.one_of(&slots));
+    let [old, like] = [slot, like].map(|slot| fact(lent, slot, HASH).into());
+    put(lent, slot, HASH, another(old, like, 32, random) as u32);
+    write_finding(lent, &slots);
 }
 
 /// A cell, most often one that names a slot.
@@ -250,7 +395,7 @@ fn cell(lent: &mut Lent, random: &mut Random) {
     let at = any_cell(lent, random);
     let like = lent.find()[any_cell(lent, random)];
     let find = lent.tables().find;
-    find[at] = another(find[at].into(), like.into(), random) as u16;
+    find[at] = another(find[at].into(), like.into(), 16, random) as u16;
 }
 
 fn cells_exchanged(lent: &mut Lent, random: &mut Random) {
@@ -269,27 +414,21 @@ fn finding_reordered(lent: &mut Lent, random: &mut Random) {
     write_finding(lent, &slots);
 }
 
-/// The freed slots of well-formed tables, the one freed last first.
-fn freed_slots(lent: &Lent) -> Vec<usize> {
-    let link = |slot: &usize| Some(lent.facts()[7 * slot + LINK] as usize);
-    std::iter::successors(Some(lent.arena.top), link)
-        .take_while(|slot| *slot != 0)
-        .collect()
-}
-
-fn write_freed(lent: &mut Lent, slots: &[usize]) {
-    let mut top = 0;
-    for slot in slots {
-        lent.tables().facts[7 * slot + LINK] = top as u64;
-        top = *slot;
-    }
-    lent.arena.top = top;
-}
-
 fn freed_reordered(lent: &mut Lent, random: &mut Random) {
     let mut slots = freed_slots(lent);
     random.shuffle(&mut slots);
     write_freed(lent, &slots);
+}
+
+/// Two entries of the freed slots, which keep their marks.
+fn entries_exchanged(lent: &mut Lent, random: &mut Random) {
+    let slots = freed_slots(lent);
+    if slots.is_empty() {
+        return;
+    }
+    let [one, other] = [(); 2].map(|()| random.below(slots.len()));
+    put(lent, one, ENTRY, slots[other] as u32);
+    put(lent, other, ENTRY, slots[one] as u32);
 }
 
 fn freed_left_out(lent: &mut Lent, random: &mut Random) {
@@ -298,8 +437,20 @@ fn freed_left_out(lent: &mut Lent, random: &mut Random) {
         return;
     }
     let gone = slots.remove(random.below(slots.len()));
-    lent.tables().facts[7 * gone + LINK] = 0;
+    put(lent, gone, MARK, 0);
     write_freed(lent, &slots);
+}
+
+/// A freed slot once more on top of the stack, and one more slot given out if there is one, so that the numbers agree.
+fn freed_twice(lent: &mut Lent, random: &mut Random) {
+    let slots = freed_slots(lent);
+    if slots.is_empty() {
+        return;
+    }
+    let again = random.one_of(&slots);
+    put(lent, slots.len(), ENTRY, again as u32);
+    let next = (lent.arena.next() + 1).min(lent.arena.capacity);
+    lent.arena.slots = slots_of(next, slots.len() + 1);
 }
 
 fn generation_everywhere(lent: &mut Lent, random: &mut Random) {
@@ -308,32 +459,29 @@ fn generation_everywhere(lent: &mut Lent, random: &mut Random) {
         return;
     }
     let slot = random.one_of(&slots);
-    let own = lent.facts()[7 * slot + OWN];
+    let own = lent.view().own(slot);
     let any = random.below(0x8000) as u16;
     let given = random.one_of(&[0, 1, 0x7FFD, 0x7FFE, 0x7FFF, any]);
     let other = own ^ u64::from(generation(own) ^ given) << 32;
-    let tables = lent.tables();
-    tables.facts[7 * slot + OWN] = other;
-    for id in tables.kids.iter_mut().filter(|id| **id == own) {
+    put_own(lent, slot, other);
+    for id in lent.tables().kids.iter_mut().filter(|id| **id == own) {
         *id = other;
     }
-    write_finding(lent, &slots);
+    write_anew(lent);
 }
 
 fn value_copied(lent: &mut Lent, random: &mut Random) {
     let leaves: Vec<usize> = (live_slots(lent).into_iter())
-        .filter(|slot| is_leaf(lent.facts()[7 * slot + OWN]))
+        .filter(|slot| is_leaf(lent.view().own(*slot)))
         .collect();
     if leaves.len() < 2 {
         return;
     }
     let one = random.below(leaves.len());
     let other = (one + 1 + random.below(leaves.len() - 1)) % leaves.len();
-    let (one, other) = (leaves[one], leaves[other]);
-    let facts = lent.tables().facts;
-    facts[7 * one + VALUE] = facts[7 * other + VALUE];
-    let slots = live_slots(lent);
-    write_finding(lent, &slots);
+    let value = fact(lent, leaves[other], VALUE);
+    put(lent, leaves[one], VALUE, value);
+    write_anew(lent);
 }
 
 /// One live child for another node, the places counted along.
@@ -346,41 +494,37 @@ fn child_for_another(lent: &mut Lent, random: &mut Random) {
         return;
     }
     let (at, slot) = (random.one_of(&named), random.one_of(&slots));
-    let tables = lent.tables();
-    let old = index(tables.kids[at]) as usize;
-    tables.kids[at] = tables.facts[7 * slot + OWN];
-    tables.facts[7 * old + PLACES] -= 1;
-    tables.facts[7 * slot + PLACES] += 1;
-    write_finding(lent, &slots);
+    let old = index(lent.kids()[at]) as usize;
+    lent.tables().kids[at] = lent.view().own(slot);
+    put(lent, old, PLACES, fact(lent, old, PLACES) - 1);
+    put(lent, slot, PLACES, fact(lent, slot, PLACES) + 1);
+    write_anew(lent);
 }
 
 fn state(lent: &mut Lent, random: &mut Random) {
     let arena = &mut lent.arena;
-    let (next, top, live) = (arena.next, arena.top, arena.live);
-    let field = random.below(3);
-    let (old, like) = [(next, live), (top, next), (live, next)][field];
-    let word = another(old as u64, like as u64, random) as usize;
-    *[&mut arena.next, &mut arena.top, &mut arena.live][field] = word;
+    let (next, freed) = (arena.next() as u64, arena.freed() as u64);
+    let both = slots_of(1, 1);
+    arena.slots = match random.below(4) {
+        0 => freed << 32 | another(next, freed, 32, random) & 0xFFFF_FFFF,
+        1 => another(freed, next, 32, random) << 32 | next,
+        // As many live as before.
+        2 => (arena.slots).wrapping_add(random.one_of(&[both, both.wrapping_neg()])),
+        _ => another(arena.slots, next, 64, random),
+    };
 }
 
 fn capacity(lent: &mut Lent, random: &mut Random) {
     let old = lent.arena.capacity as u64;
-    lent.arena.capacity = another(old, 65_537, random) as usize;
+    lent.arena.capacity = another(old, 65_537, 64, random) as usize;
 }
 
 fn length(lent: &mut Lent, random: &mut Random) {
-    let (mut kids, mut facts) = (lent.kids().to_vec(), lent.facts().to_vec());
-    let mut find = lent.find().to_vec();
     let which = random.below(3);
-    let old = [kids.len(), facts.len(), find.len()][which];
+    let old = [lent.kids().len(), lent.facts().len(), lent.find().len()][which];
     let any = random.below(2 * old);
     let length = random.one_of(&[0, old - 1, old + 1, any]);
-    match which {
-        0 => kids.resize(length, 0),
-        1 => facts.resize(length, 0),
-        _ => find.resize(length, 0),
-    }
-    *lent = Lent::new(lent.arena, &kids, &facts, &find);
+    *lent = lent.with_length(which, length, 0);
 }
 
 /// A live node's slot becomes a freed one, whoever names it.
@@ -390,16 +534,15 @@ fn forgotten(lent: &mut Lent, random: &mut Random) {
         return;
     }
     let slot = slots.remove(random.below(slots.len()));
+    for child in children(lent, slot).into_iter().filter(|id| *id != EMPTY) {
+        let below = index(child) as usize;
+        put(lent, below, PLACES, fact(lent, below, PLACES) - 1);
+    }
+    let tables = lent.tables();
+    tables.kids[8 * slot..8 * slot + 8].fill(EMPTY);
+    tables.facts[WORDS * slot..WORDS * slot + ENTRY].fill(0);
     let mut freed = freed_slots(lent);
     freed.push(slot);
-    let tables = lent.tables();
-    let children: Vec<u64> = tables.kids[8 * slot..8 * slot + 8].to_vec();
-    for child in children.into_iter().filter(|id| *id != EMPTY) {
-        tables.facts[7 * index(child) as usize + PLACES] -= 1;
-    }
-    tables.kids[8 * slot..8 * slot + 8].fill(EMPTY);
-    tables.facts[7 * slot..7 * slot + 7].fill(0);
-    lent.arena.live -= 1;
     write_freed(lent, &freed);
     write_finding(lent, &slots);
 }

@@ -10,7 +10,7 @@ use port::arena::Arena;
 use reference::Random;
 use reference::arena::{MOST_CAPACITY, MOST_HOLDS};
 use reference::document01::{EMPTY, INVALID, index};
-use reference::tables::{HOLDS, OWN, PLACES};
+use reference::tables::{HOLDS, PLACES, WORDS, lengths};
 
 /// How many calls run on each set of tables.
 const CALLS: usize = 24;
@@ -48,6 +48,11 @@ pub fn word(random: &mut Random) -> u64 {
     }
 }
 
+/// The low or the high half of such a word.
+pub fn half(random: &mut Random) -> u32 {
+    (word(random) >> random.one_of(&[0, 32])) as u32
+}
+
 /// An arena after some calls at random.
 pub fn well_formed(capacity: usize, random: &mut Random) -> Result<Lent, String> {
     let mut beside = Beside::fresh(capacity, Original::Absent);
@@ -61,36 +66,50 @@ pub fn well_formed(capacity: usize, random: &mut Random) -> Result<Lent, String>
     Ok(beside.port)
 }
 
+/// The number of a state with its next slot, its freed slots or both at random.
+fn another_state(slots: u64, random: &mut Random) -> u64 {
+    let [next, freed] = [half(random), half(random)].map(u64::from);
+    match random.below(3) {
+        0 => slots >> 32 << 32 | next,
+        1 => freed << 32 | slots & 0xFFFF_FFFF,
+        _ => freed << 32 | next,
+    }
+}
+
 /// Changes some words of the tables or of the state.
 fn damage(lent: &mut Lent, random: &mut Random) {
     for _ in 0..1 + random.below(4) {
-        let bits = word(random);
-        let turned = 1u64 << random.below(64);
         let is_turned = random.once_in(2);
-        let change = |old: u64| if is_turned { old ^ turned } else { bits };
         let which = random.below(8);
         let tables = lent.tables();
         match which {
             0..=2 => {
                 let at = random.below(tables.kids.len());
-                tables.kids[at] = change(tables.kids[at]);
+                tables.kids[at] = match is_turned {
+                    true => tables.kids[at] ^ 1 << random.below(64),
+                    false => word(random),
+                };
             }
             3..=5 => {
                 let at = random.below(tables.facts.len());
-                tables.facts[at] = change(tables.facts[at]);
+                tables.facts[at] = match is_turned {
+                    true => tables.facts[at] ^ 1 << random.below(32),
+                    false => half(random),
+                };
             }
             6 => {
                 let at = random.below(tables.find.len());
-                tables.find[at] = change(tables.find[at].into()) as u16;
+                tables.find[at] = match is_turned {
+                    true => tables.find[at] ^ 1 << random.below(16),
+                    false => word(random) as u16,
+                };
             }
             _ => {
-                let arena = &mut lent.arena;
-                let field = match random.below(3) {
-                    0 => &mut arena.next,
-                    1 => &mut arena.top,
-                    _ => &mut arena.live,
+                let slots = &mut lent.arena.slots;
+                *slots = match is_turned {
+                    true => *slots ^ 1 << random.below(64),
+                    false => another_state(*slots, random),
                 };
-                *field = change(*field as u64) as usize;
             }
         }
     }
@@ -104,16 +123,14 @@ fn words(length: usize, random: &mut Random) -> Vec<u64> {
 fn at_random(capacity: usize, lengths: [usize; 3], random: &mut Random) -> Lent {
     let arena = Arena {
         capacity,
-        next: word(random) as usize,
-        top: word(random) as usize,
-        live: word(random) as usize,
+        slots: another_state(word(random), random),
     };
     let find: Vec<u16> = words(lengths[2], random)
         .iter()
         .map(|x| *x as u16)
         .collect();
     let kids = words(lengths[0], random);
-    let facts = words(lengths[1], random);
+    let facts: Vec<u32> = (0..lengths[1]).map(|_| half(random)).collect();
     Lent::new(arena, &kids, &facts, &find)
 }
 
@@ -127,7 +144,7 @@ pub fn tables(
         1..10 => 4_096,
         _ => random.one_of(&[2, 3, 4, 8, 16, 40, 100]),
     };
-    let lengths = [8 * capacity, 7 * capacity, 3 * capacity];
+    let lengths = lengths(capacity);
     Ok(match random.below(8) {
         0..=3 => {
             let mut lent = well_formed(capacity, random)?;
@@ -138,8 +155,6 @@ pub fn tables(
         // One table is shorter or longer.
         6 => {
             let lent = well_formed(capacity, random)?;
-            let mut tables = [lent.kids().to_vec(), lent.facts().to_vec()];
-            let mut find = lent.find().to_vec();
             let which = random.below(3);
             let length = match random.below(4) {
                 0 => 0,
@@ -147,11 +162,7 @@ pub fn tables(
                 2 => lengths[which] + 1,
                 _ => random.below(2 * lengths[which]),
             };
-            match which {
-                2 => find.resize(length, 1),
-                _ => tables[which].resize(length, 1),
-            }
-            Lent::new(lent.arena, &tables[0], &tables[1], &find)
+            lent.with_length(which, length, 1)
         }
         // A capacity that is not the tables', or none at all.
         _ => {
@@ -182,9 +193,9 @@ pub fn id(lent: &Lent, random: &mut Random) -> u64 {
         1 => INVALID,
         2 => word(random),
         3 if !lent.kids().is_empty() => random.one_of(lent.kids()),
-        _ if lent.facts().len() >= 7 => {
-            let slot = random.below(lent.facts().len() / 7);
-            lent.facts()[7 * slot + OWN]
+        _ if lent.facts().len() >= WORDS => {
+            let slot = random.below(lent.facts().len() / WORDS);
+            lent.view().own(slot)
         }
         _ => random.bits(),
     }
@@ -222,14 +233,14 @@ fn defined(lent: &Lent, call: &Call<u64>) -> Option<(Answered, Option<usize>)> {
     let holds = lent.view().fact(slot, HOLDS);
     let places = lent.view().fact(slot, PLACES);
     match call {
-        Call::Hold(_) if holds >= MOST_HOLDS.into() => refused(10),
-        Call::Hold(_) => Some((Answered::made(0, EMPTY), Some(7 * slot + HOLDS))),
+        Call::Hold(_) if holds >= MOST_HOLDS => refused(10),
+        Call::Hold(_) => Some((Answered::made(0, EMPTY), Some(WORDS * slot + HOLDS))),
         _ => Some((
             Answered {
                 no: 0,
                 id: EMPTY,
-                holds,
-                places,
+                holds: holds.into(),
+                places: places.into(),
             },
             None,
         )),
@@ -280,19 +291,11 @@ fn judge_fresh(lent: &mut Lent, capacity: usize, damages: &mut Damages) -> Resul
     let is_fitting = lent.view().fit(capacity);
     let no = lent.make_fresh(capacity);
     damages.calls += 1;
-    let state = Arena {
-        capacity,
-        next: 1,
-        top: 0,
-        live: 0,
-    };
+    let state = Arena { capacity, slots: 1 };
     let is_right = if is_fitting {
         no == 0
-            && lent
-                .kids()
-                .iter()
-                .chain(lent.facts())
-                .all(|word| *word == 0)
+            && lent.kids().iter().all(|id| *id == EMPTY)
+            && lent.facts().iter().all(|word| *word == 0)
             && lent.find().iter().all(|cell| *cell == 0)
     } else {
         let mut unchanged = before.clone();

@@ -5,7 +5,7 @@ use port::compare::{self, Compared, List};
 use port::model::{self, Cell, Looked};
 use port::readings;
 use reference::document01::EMPTY;
-use reference::tables::Tables as View;
+use reference::tables::{Tables as View, WORDS, lengths};
 
 /// How many guard words stand on each side of a table.
 const GUARD: usize = 16;
@@ -46,45 +46,63 @@ impl<T: Copy + PartialEq> Guarded<T> {
 pub struct Lent {
     pub arena: Arena,
     kids: Guarded<u64>,
-    facts: Guarded<u64>,
+    facts: Guarded<u32>,
     find: Guarded<u16>,
 }
 
 impl Lent {
     /// Tables of these contents.
-    pub fn new(arena: Arena, kids: &[u64], facts: &[u64], find: &[u16]) -> Self {
+    pub fn new(arena: Arena, kids: &[u64], facts: &[u32], find: &[u16]) -> Self {
         Self {
             arena,
             kids: Guarded::new(kids, 0xA5A5_5A5A_C3C3_3C3C),
-            facts: Guarded::new(facts, 0x5A5A_A5A5_3C3C_C3C3),
+            facts: Guarded::new(facts, 0x5A5A_C3C3),
             find: Guarded::new(find, 0xA5C3),
         }
     }
 
+    /// Tables of these lengths, each element the low bits of one number.
+    pub fn full_of(arena: Arena, [kids, facts, find]: [usize; 3], number: u64) -> Self {
+        Self::new(
+            arena,
+            &vec![number; kids],
+            &vec![number as u32; facts],
+            &vec![number as u16; find],
+        )
+    }
+
     /// A fresh arena, made by the port on tables full of ones.
     pub fn fresh(capacity: usize) -> Self {
-        let arena = Arena {
-            capacity,
-            next: 0,
-            top: 0,
-            live: 0,
-        };
-        let mut lent = Self::new(
-            arena,
-            &vec![u64::MAX; 8 * capacity],
-            &vec![u64::MAX; 7 * capacity],
-            &vec![u16::MAX; 3 * capacity],
-        );
+        let arena = Arena { capacity, slots: 0 };
+        let mut lent = Self::full_of(arena, lengths(capacity), u64::MAX);
         assert_eq!(lent.make_fresh(capacity), 0);
         lent
+    }
+
+    /// The same with `kids` (0), `facts` (1) or `find` (2) cut, or longer by elements with the low bits of a number.
+    pub fn with_length(&self, table: usize, length: usize, number: u64) -> Self {
+        let mut kids = self.kids().to_vec();
+        let mut facts = self.facts().to_vec();
+        let mut find = self.find().to_vec();
+        match table {
+            0 => kids.resize(length, number),
+            1 => facts.resize(length, number as u32),
+            _ => find.resize(length, number as u16),
+        }
+        Self::new(self.arena, &kids, &facts, &find)
     }
 
     pub fn kids(&self) -> &[u64] {
         self.kids.inside()
     }
 
-    pub fn facts(&self) -> &[u64] {
+    pub fn facts(&self) -> &[u32] {
         self.facts.inside()
+    }
+
+    /// The words of `facts` that stand in the row of a slot.
+    pub fn row(&self, slot: usize) -> &[u32] {
+        &self.facts()[WORDS * slot..WORDS * (slot + 1)]
     }
 
     pub fn find(&self) -> &[u16] {
@@ -103,9 +121,7 @@ impl Lent {
     pub fn view(&self) -> View<'_> {
         View {
             capacity: self.arena.capacity,
-            next: self.arena.next,
-            top: self.arena.top,
-            live: self.arena.live,
+            slots: self.arena.slots,
             kids: self.kids(),
             facts: self.facts(),
             find: self.find(),
@@ -128,7 +144,10 @@ impl Lent {
     /// A fresh arena over these tables: the number of the refusal, or 0.
     pub fn make_fresh(&mut self, capacity: usize) -> u32 {
         let answer = arena::fresh(capacity, &mut self.tables());
-        self.arena = answer.arena;
+        self.arena = Arena {
+            capacity,
+            slots: answer.slots,
+        };
         answer.no
     }
 
@@ -141,22 +160,22 @@ impl Lent {
     pub fn call(&mut self, call: &Call<u64>) -> Answered {
         let state = self.arena;
         let mut tables = self.tables();
-        let (answered, state) = match *call {
+        let (answered, slots) = match *call {
             Call::Leaf(value) => {
                 let made = arena::intern_leaf(state, &mut tables, value);
-                (Answered::made(made.no, made.id), made.arena)
+                (Answered::made(made.no, made.id), made.slots)
             }
             Call::Branch(children) => {
                 let made = arena::intern_branch(state, &mut tables, children);
-                (Answered::made(made.no, made.id), made.arena)
+                (Answered::made(made.no, made.id), made.slots)
             }
             Call::Hold(id) => {
                 let answer = arena::hold(state, &mut tables, id);
-                (Answered::made(answer.no, EMPTY), answer.arena)
+                (Answered::made(answer.no, EMPTY), answer.slots)
             }
             Call::Release(id) => {
                 let answer = arena::release(state, &mut tables, id);
-                (Answered::made(answer.no, EMPTY), answer.arena)
+                (Answered::made(answer.no, EMPTY), answer.slots)
             }
             Call::Counts(id) => {
                 let counted = arena::counts(state, &mut tables, id);
@@ -167,17 +186,17 @@ impl Lent {
                         holds: counted.holds,
                         places: counted.places,
                     },
-                    state,
+                    state.slots,
                 )
             }
             Call::Edit(root, voxel) => {
                 let cell = cell_of(voxel.cell);
                 let made =
                     model::set_voxel(state, &mut tables, root, voxel.depth, cell, voxel.value);
-                (Answered::made(made.no, made.id), made.arena)
+                (Answered::made(made.no, made.id), made.slots)
             }
         };
-        self.arena = state;
+        self.arena.slots = slots;
         answered
     }
 
@@ -191,7 +210,7 @@ impl Lent {
             entry.edge,
             entry.record,
         );
-        self.arena = made.arena;
+        self.arena.slots = made.slots;
         Answered::made(made.no, made.id)
     }
 

@@ -4,7 +4,7 @@ use crate::call::{Answered, Call, Traced};
 use reference::Random;
 use reference::arena::{Arena, TALLEST};
 use reference::document01::{EMPTY, INVALID, index, is_leaf, new_leaf};
-use reference::tables::home;
+use reference::finding::{HOMES, home, leaf_hash};
 
 /// How many ids of recycled nodes are remembered.
 const REMEMBERED: usize = 64;
@@ -26,7 +26,7 @@ pub struct Sequence {
 /// The values of the leaves of one sequence.
 fn choose_values(capacity: usize, random: &mut Random) -> Vec<u16> {
     let many = 2 * capacity;
-    let home_of = |value: u16| home(capacity, &[EMPTY; 8], value.into());
+    let home_of = |value: u16| home(capacity, leaf_hash(value.into()));
     let any = |random: &mut Random| 1 + random.below(65_535) as u16;
     // In a large arena few values leave most slots unused.
     let kinds = if capacity <= 400 { 5 } else { 2 };
@@ -43,7 +43,7 @@ fn choose_values(capacity: usize, random: &mut Random) -> Vec<u16> {
         2 => vec![1, 2, 7, 8, 9, 0x7FFF, 0x8000, 65_534, 65_535],
         // Values whose search begins near the last cell that is a home.
         3 => {
-            let first = 2 * capacity - (capacity / 16).max(2);
+            let first = HOMES * capacity - (capacity / 16).max(2);
             let is_last = |value: &u16| home_of(*value) >= first;
             (1..=65_535).filter(is_last).take(many.max(4)).collect()
         }

@@ -26,12 +26,12 @@ impl Editing for Port {
         let cell = Cell { x, y, z };
         let made = model::set_voxel(state, &mut tables, root, voxel.depth, cell, voxel.value);
         assert_eq!(made.no, 0);
-        self.arena = made.arena;
+        self.arena.slots = made.slots;
         made.id
     }
 
     fn live(&self) -> usize {
-        self.arena.live
+        self.arena.live()
     }
 }
 

@@ -202,7 +202,7 @@ fn full() -> Port {
         .map(|value| port.leaf(*value))
         .collect();
     let mut random = Random::new(SEED);
-    while port.parts().0.live < CAPACITY - 1 {
+    while port.arena.live() < CAPACITY - 1 {
         let children = [(); 8].map(|()| random.one_of(&leaves));
         children.iter().for_each(|id| port.hold(*id));
         port.branch(&Branch::new(children));

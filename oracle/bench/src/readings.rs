@@ -53,7 +53,7 @@ fn by_reading(port: &mut Port, root: u64, drawn: &Drawn) -> u64 {
     let (state, mut tables) = port.parts();
     let made = readings::enter(state, &mut tables, root, DEPTH, EDGE, &drawn.record);
     assert_eq!(made.no, 0);
-    port.arena = made.arena;
+    port.arena.slots = made.slots;
     made.id
 }
 

@@ -4,12 +4,10 @@ use crate::{ROUNDS, alone};
 use port::arena::{self, Arena, Tables};
 
 /// Times a call on an arena of no slots, which every call refuses; the state that it answers goes into the next, as a user's does.
-fn row(name: &str, call: impl Fn(Arena, &mut Tables) -> (u32, Arena)) {
+fn row(name: &str, call: impl Fn(Arena, &mut Tables) -> (u32, u64)) {
     let mut state = Arena {
         capacity: 0,
-        next: 1,
-        top: 0,
-        live: 0,
+        slots: 1,
     };
     let mut tables = Tables {
         kids: &mut [],
@@ -19,9 +17,9 @@ fn row(name: &str, call: impl Fn(Arena, &mut Tables) -> (u32, Arena)) {
     alone(name, ROUNDS, || {
         timed(BATCH, || {
             for _ in 0..BATCH {
-                let (no, after) = call(state, &mut tables);
+                let (no, slots) = call(state, &mut tables);
                 assert_eq!(no, 1);
-                state = after;
+                state.slots = slots;
             }
         })
     });
@@ -30,18 +28,18 @@ fn row(name: &str, call: impl Fn(Arena, &mut Tables) -> (u32, Arena)) {
 pub fn rows() {
     row("intern leaf, refused with 1", |state, tables| {
         let made = arena::intern_leaf(state, tables, 1);
-        (made.no, made.arena)
+        (made.no, made.slots)
     });
     row("intern branch, refused with 1", |state, tables| {
         let made = arena::intern_branch(state, tables, [0; 8]);
-        (made.no, made.arena)
+        (made.no, made.slots)
     });
     row("hold, refused with 1", |state, tables| {
         let answer = arena::hold(state, tables, 0);
-        (answer.no, answer.arena)
+        (answer.no, answer.slots)
     });
     row("release, refused with 1", |state, tables| {
         let answer = arena::release(state, tables, 0);
-        (answer.no, answer.arena)
+        (answer.no, answer.slots)
     });
 }

@@ -1,5 +1,6 @@
 //! The port's arena and the original's behind one set of calls, so that one driver times both.
 use port::arena::{self, Arena, Tables};
+use reference::tables::lengths;
 use voxelis::{BlockId, VoxInterner};
 
 /// A branch to be interned. The original wants the two bytes from its caller; the port works them out.
@@ -34,7 +35,7 @@ pub trait Store {
 pub struct Port {
     pub arena: Arena,
     kids: Vec<u64>,
-    facts: Vec<u64>,
+    facts: Vec<u32>,
     find: Vec<u16>,
 }
 
@@ -52,19 +53,15 @@ impl Port {
 
 impl Store for Port {
     fn fresh(capacity: usize) -> Self {
+        let [kids, facts, find] = lengths(capacity);
         let mut port = Self {
-            arena: Arena {
-                capacity,
-                next: 0,
-                top: 0,
-                live: 0,
-            },
-            kids: vec![0; 8 * capacity],
-            facts: vec![0; 7 * capacity],
-            find: vec![0; 3 * capacity],
+            arena: Arena { capacity, slots: 0 },
+            kids: vec![0; kids],
+            facts: vec![0; facts],
+            find: vec![0; find],
         };
         let (_, mut tables) = port.parts();
-        port.arena = arena::fresh(capacity, &mut tables).arena;
+        port.arena.slots = arena::fresh(capacity, &mut tables).slots;
         port
     }
 
@@ -73,7 +70,7 @@ impl Store for Port {
         let (state, mut tables) = self.parts();
         let made = arena::intern_leaf(state, &mut tables, value);
         assert_eq!(made.no, 0);
-        self.arena = made.arena;
+        self.arena.slots = made.slots;
         made.id
     }
 
@@ -82,7 +79,7 @@ impl Store for Port {
         let (state, mut tables) = self.parts();
         let made = arena::intern_branch(state, &mut tables, branch.children);
         assert_eq!(made.no, 0);
-        self.arena = made.arena;
+        self.arena.slots = made.slots;
         made.id
     }
 
@@ -99,7 +96,7 @@ impl Store for Port {
         let (state, mut tables) = self.parts();
         let answer = arena::release(state, &mut tables, id);
         assert_eq!(answer.no, 0);
-        self.arena = answer.arena;
+        self.arena.slots = answer.slots;
     }
 }
 

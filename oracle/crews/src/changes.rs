@@ -126,14 +126,14 @@ fn answers(seen: &mut Seen) -> Told {
     Ok(())
 }
 
-/// The live count, as the library's check sees it alone; and, beside document 01, a bit of any word of the tables.
+/// The state's two numbers, as the library's check sees them alone; and, beside document 01, a bit of any word of the tables.
 fn tables(seen: &mut Seen) -> Told {
     let mut site = Site::fresh(12);
     site.accept_list(EMPTY, DEPTH, &list())?;
-    live_count(&mut site, seen)?;
+    state(&mut site, seen)?;
     let mut site = Site::documented(12);
     site.accept_list(EMPTY, DEPTH, &list())?;
-    live_count(&mut site, seen)?;
+    state(&mut site, seen)?;
     let [kids, facts] = [site.port().kids().len(), site.port().facts().len()];
     for at in 0..kids {
         site.port_mut().tables().kids[at] ^= 1;
@@ -145,15 +145,22 @@ fn tables(seen: &mut Seen) -> Told {
         seen.by(site.well_formed(), "a fact")?;
         site.port_mut().tables().facts[at] ^= 1;
     }
+    for at in 0..site.port().find().len() {
+        site.port_mut().tables().find[at] ^= 1;
+        seen.by(site.well_formed(), "a cell of the finding table")?;
+        site.port_mut().tables().find[at] ^= 1;
+    }
     site.well_formed()
 }
 
-fn live_count(site: &mut Site, seen: &mut Seen) -> Told {
-    let live = site.live();
-    for other in [live - 1, live + 1] {
-        site.port_mut().arena.live = other;
-        seen.by(site.well_formed(), "the live count")?;
+fn state(site: &mut Site, seen: &mut Seen) -> Told {
+    let slots = site.port().arena.slots;
+    for by in [1, 1 << 32] {
+        for other in [slots.wrapping_sub(by), slots.wrapping_add(by)] {
+            site.port_mut().arena.slots = other;
+            seen.by(site.well_formed(), "the state")?;
+        }
     }
-    site.port_mut().arena.live = live;
+    site.port_mut().arena.slots = slots;
     site.well_formed()
 }

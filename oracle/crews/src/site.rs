@@ -66,7 +66,7 @@ impl Site {
     }
 
     pub fn live(&self) -> usize {
-        self.port().arena.live
+        self.port().arena.live()
     }
 
     pub fn capacity(&self) -> usize {
@@ -82,7 +82,7 @@ impl Site {
     pub fn height(&self, id: u64) -> u32 {
         match id {
             EMPTY => 0,
-            id => self.port().view().fact(index(id) as usize, HEIGHT) as u32,
+            id => self.port().view().fact(index(id) as usize, HEIGHT),
         }
     }
 

@@ -7,6 +7,7 @@ use arena::lent::Lent;
 use port::arena::Arena;
 use reference::arena::{GENERATIONS, MOST_CAPACITY, MOST_HOLDS};
 use reference::document01::{EMPTY, INVALID, generation, text};
+use reference::tables::lengths;
 
 type Told = Result<(), String>;
 
@@ -235,21 +236,14 @@ fn sizes(tally: &mut Tally) -> Told {
         (MOST_CAPACITY, 0),
         (MOST_CAPACITY + 1, 1),
     ] {
-        let state = Arena {
-            capacity,
-            next: 1,
-            top: 0,
-            live: 0,
-        };
+        let state = Arena { capacity, slots: 1 };
         // No table, or one of the three, is one word too long.
         for (long, no) in [(3, no), (0, 1), (1, 1), (2, 1)] {
-            let length = |table: usize, each: usize| each * capacity + usize::from(long == table);
-            let mut lent = Lent::new(
-                state,
-                &vec![0; length(0, 8)],
-                &vec![0; length(1, 7)],
-                &vec![0; length(2, 3)],
-            );
+            let mut lengths = lengths(capacity);
+            if let Some(length) = lengths.get_mut(long) {
+                *length += 1;
+            }
+            let mut lent = Lent::full_of(state, lengths, 0);
             let before = lent.clone();
             let answered = lent.call(&edit(EMPTY, 0, [0, 0, 0], 5));
             let is_right = match no {

@@ -129,12 +129,12 @@ pub fn see_changes(plan: &Plan, changes: u32) -> Result<u32, String> {
     models.new_model()?;
     for change in 0..changes {
         let before = models.beside.port.clone();
-        let bit = 1 << models.random.below(16);
+        let bit: u16 = 1 << models.random.below(16);
         let tables = models.beside.port.tables();
         match change % 3 {
-            0 => tables.kids[models.random.below(tables.kids.len())] ^= bit,
-            1 => tables.facts[models.random.below(tables.facts.len())] ^= bit,
-            _ => tables.find[models.random.below(tables.find.len())] ^= bit as u16,
+            0 => tables.kids[models.random.below(tables.kids.len())] ^= u64::from(bit),
+            1 => tables.facts[models.random.below(tables.facts.len())] ^= u32::from(bit),
+            _ => tables.find[models.random.below(tables.find.len())] ^= bit,
         }
         if models.same_everywhere().is_ok() {
             return Err(format!("change {change} of a table is not seen"));
@@ -142,11 +142,11 @@ pub fn see_changes(plan: &Plan, changes: u32) -> Result<u32, String> {
         models.beside.port = before;
         let at = models.random.below(models.models.len());
         let cell = models.random.below(models.models[at].cube.len());
-        models.models[at].cube[cell] ^= bit as u16;
+        models.models[at].cube[cell] ^= bit;
         if models.same_cubes().is_ok() {
             return Err(format!("change {change} of a plain array is not seen"));
         }
-        models.models[at].cube[cell] ^= bit as u16;
+        models.models[at].cube[cell] ^= bit;
     }
     models.same_cubes()?;
     models.same_everywhere()?;

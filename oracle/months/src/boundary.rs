@@ -7,6 +7,7 @@ use arena::edit::Voxel;
 use arena::lent::Lent;
 use reference::document01::{EMPTY, INVALID};
 use reference::months::{Comparison, Differences, Differing};
+use reference::tables::lengths;
 
 type Case = fn(&Places, &mut Tally) -> Told;
 
@@ -113,17 +114,12 @@ fn lowest(flaws: u32) -> u32 {
 
 /// The tables with one table, or none, a word too long or too short.
 fn with_length(lent: &Lent, table: Option<usize>, is_longer: bool) -> Lent {
-    let mut kids = lent.kids().to_vec();
-    let mut facts = lent.facts().to_vec();
-    let mut find = lent.find().to_vec();
-    let other = |length: usize| if is_longer { length + 1 } else { length - 1 };
-    match table {
-        Some(0) => kids.resize(other(kids.len()), 0),
-        Some(1) => facts.resize(other(facts.len()), 0),
-        Some(_) => find.resize(other(find.len()), 0),
-        None => {}
-    }
-    Lent::new(lent.arena, &kids, &facts, &find)
+    let Some(table) = table else {
+        return lent.clone();
+    };
+    let length = lengths(lent.arena.capacity)[table];
+    let other = if is_longer { length + 1 } else { length - 1 };
+    lent.with_length(table, other, 0)
 }
 
 /// Two roots of height 2 and two of height 3, in one arena.

@@ -1,14 +1,14 @@
 //! Comparison on tables that no arena ever left. Every call has to end, to stay inside and to change no table; its answer is document 02's on what stands there.
 use crate::sides::{Places, Sides, Told};
 use crate::tally::Tally;
-use arena::damage::{id, tables, well_formed, word};
+use arena::damage::{half, id, tables, well_formed, word};
 use arena::lent::Lent;
 use port::arena::Arena;
 use reference::Random;
 use reference::document01::{EMPTY, INVALID};
 use reference::months::Comparison;
 use reference::reading::DEEPEST;
-use reference::tables::{FLOOR, HEIGHT, OWN};
+use reference::tables::{FLOOR, HEIGHT, OWN_HIGH, OWN_LOW, WORDS, halves, lengths, slots_of};
 
 /// How many pairs are compared on each set of tables.
 const PAIRS: usize = 8;
@@ -26,7 +26,8 @@ fn any_id(slot: usize, random: &mut Random) -> u64 {
 fn tangle(random: &mut Random) -> Lent {
     let capacity = random.one_of(&[2, 3, 5, 8, 20]);
     let ids: Vec<u64> = (0..capacity).map(|slot| any_id(slot, random)).collect();
-    let kids: Vec<u64> = (0..8 * capacity)
+    let [kids, facts, find] = lengths(capacity);
+    let kids: Vec<u64> = (0..kids)
         .map(|_| match random.below(12) {
             0 | 1 => EMPTY,
             2 => word(random),
@@ -36,22 +37,18 @@ fn tangle(random: &mut Random) -> Lent {
             _ => random.one_of(&ids),
         })
         .collect();
-    let few = [random.bits(), random.bits(), 0];
-    let facts: Vec<u64> = (0..7 * capacity)
-        .map(|at| match (at % 7, random.below(8)) {
-            (OWN, 1..) => ids[at / 7],
-            (HEIGHT, 1..) => random.below(5) as u64,
-            (_, 0) => word(random),
+    let few = [random.bits() as u32, random.bits() as u32, 0];
+    let facts: Vec<u32> = (0..facts)
+        .map(|at| match (at % WORDS, random.below(12)) {
+            (OWN_LOW, 1..) => halves(ids[at / WORDS])[0],
+            (OWN_HIGH, 1..) => halves(ids[at / WORDS])[1],
+            (HEIGHT, 1..) => random.below(5) as u32,
+            (_, 0) => half(random),
             _ => random.one_of(&few),
         })
         .collect();
-    let arena = Arena {
-        capacity,
-        next: capacity,
-        top: 0,
-        live: capacity - 1,
-    };
-    Lent::new(arena, &kids, &facts, &vec![0; 3 * capacity])
+    let slots = slots_of(capacity, 0);
+    Lent::new(Arena { capacity, slots }, &kids, &facts, &vec![0; find])
 }
 
 /// An id that the tables name, most often a live one.

@@ -1,30 +1,48 @@
 //! The arena's calls, as crates/capi_arena exports them, on tables that the caller lends.
 
-/// An arena's state, which goes by value beside its tables.
+/// An arena's state, which goes by value beside its tables: its capacity, and the lowest slot never given out with 2^32 times how many are freed.
 #[repr(C)]
 #[derive(Clone, Copy, Debug, PartialEq, Eq)]
 pub struct Arena {
     pub capacity: usize,
-    pub next: usize,
-    pub top: usize,
-    pub live: usize,
+    pub slots: u64,
 }
 
-/// The answer of a call that makes a node.
+impl Arena {
+    /// The lowest slot never given out.
+    #[inline]
+    pub fn next(self) -> usize {
+        self.slots as u32 as usize
+    }
+
+    /// How many slots are freed.
+    #[inline]
+    pub fn freed(self) -> usize {
+        (self.slots >> 32) as usize
+    }
+
+    /// How many slots of a well-formed arena are live.
+    #[inline]
+    pub fn live(self) -> usize {
+        self.next() - 1 - self.freed()
+    }
+}
+
+/// The answer of a call that makes a node, with the state's slots afterwards.
 #[repr(C)]
 #[derive(Clone, Copy, Debug, PartialEq, Eq)]
 pub struct Made {
     pub no: u32,
     pub id: u64,
-    pub arena: Arena,
+    pub slots: u64,
 }
 
-/// The answer of a call that answers no id.
+/// The answer of a call that answers no id, with the state's slots afterwards.
 #[repr(C)]
 #[derive(Clone, Copy, Debug, PartialEq, Eq)]
 pub struct Answer {
     pub no: u32,
-    pub arena: Arena,
+    pub slots: u64,
 }
 
 #[repr(C)]
@@ -43,7 +61,7 @@ struct Children {
 /// The three lent tables.
 pub struct Tables<'a> {
     pub kids: &'a mut [u64],
-    pub facts: &'a mut [u64],
+    pub facts: &'a mut [u32],
     pub find: &'a mut [u16],
 }
 
@@ -53,7 +71,7 @@ unsafe extern "C" {
         capacity: usize,
         kids: *mut u64,
         kids_len: usize,
-        facts: *mut u64,
+        facts: *mut u32,
         facts_len: usize,
         find: *mut u16,
         find_len: usize,
@@ -62,7 +80,7 @@ unsafe extern "C" {
         arena: Arena,
         kids: *mut u64,
         kids_len: usize,
-        facts: *mut u64,
+        facts: *mut u32,
         facts_len: usize,
         find: *mut u16,
         find_len: usize,
@@ -72,7 +90,7 @@ unsafe extern "C" {
         arena: Arena,
         kids: *mut u64,
         kids_len: usize,
-        facts: *mut u64,
+        facts: *mut u32,
         facts_len: usize,
         find: *mut u16,
         find_len: usize,
@@ -82,7 +100,7 @@ unsafe extern "C" {
         arena: Arena,
         kids: *mut u64,
         kids_len: usize,
-        facts: *mut u64,
+        facts: *mut u32,
         facts_len: usize,
         find: *mut u16,
         find_len: usize,
@@ -92,7 +110,7 @@ unsafe extern "C" {
         arena: Arena,
         kids: *mut u64,
         kids_len: usize,
-        facts: *mut u64,
+        facts: *mut u32,
         facts_len: usize,
         find: *mut u16,
         find_len: usize,
@@ -102,7 +120,7 @@ unsafe extern "C" {
         arena: Arena,
         kids: *const u64,
         kids_len: usize,
-        facts: *const u64,
+        facts: *const u32,
         facts_len: usize,
         find: *const u16,
         find_len: usize,

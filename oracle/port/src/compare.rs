@@ -23,7 +23,7 @@ unsafe extern "C" {
         arena: Arena,
         kids: *const u64,
         kids_len: usize,
-        facts: *const u64,
+        facts: *const u32,
         facts_len: usize,
         find: *const u16,
         find_len: usize,

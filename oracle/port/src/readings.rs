@@ -21,7 +21,7 @@ unsafe extern "C" {
         arena: Arena,
         kids: *mut u64,
         kids_len: usize,
-        facts: *mut u64,
+        facts: *mut u32,
         facts_len: usize,
         find: *mut u16,
         find_len: usize,

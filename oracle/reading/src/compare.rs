@@ -7,7 +7,6 @@ use port::model::Looked;
 use reference::Random;
 use reference::document01::{EMPTY, INVALID, generation, new_leaf};
 use reference::reading::{DEEPEST, cells, expansion, expansion_refusal, lookup};
-use reference::tables::OWN;
 
 /// What a lent cube has in it before an expansion.
 const BEFORE: u16 = 0xBEEF;
@@ -104,7 +103,7 @@ pub fn plain(
 /// An id that is most often neither EMPTY nor live.
 fn odd_id(model: &Model, live: &[u64], random: &mut Random) -> u64 {
     let capacity = model.port.arena.capacity;
-    let own = |slot: usize| model.port.facts()[7 * slot + OWN];
+    let own = |slot: usize| model.port.view().own(slot);
     match random.below(8) {
         0 => INVALID,
         1 => random.bits(),

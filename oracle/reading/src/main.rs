@@ -46,7 +46,7 @@ fn read(
     for depth in 0..=DEEPEST {
         compare::whole(model, root, depth, counts)?;
         let slot = index(root) as usize;
-        counts.taller += u64::from(model.port.view().fact(slot, HEIGHT) > depth.into());
+        counts.taller += u64::from(model.port.view().fact(slot, HEIGHT) > depth);
         if let Some(cube) = made_of.filter(|cube| cube.depth <= depth) {
             compare::plain(model, root, depth, cube, counts)?;
         }

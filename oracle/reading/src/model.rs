@@ -10,7 +10,7 @@ use arena::tally::Tally;
 use glam::IVec3;
 use reference::arena::MOST_CAPACITY;
 use reference::document01::{EMPTY, index, is_leaf, mask, types};
-use reference::tables::{FLOOR, HEIGHT, OWN, VALUE};
+use reference::tables::{FLOOR, HEIGHT, VALUE, WORDS, own_of};
 use reference::{Random, answer_or_panic};
 use voxelis::utils::common::{get_at_depth, to_vec};
 use voxelis::{BlockId, MaxDepth, TraversalDepth, VoxInterner};
@@ -161,8 +161,8 @@ impl Model {
 
     /// The ids of all nodes.
     pub fn live(&self) -> Vec<u64> {
-        let owns = self.port.facts().iter().skip(OWN).step_by(7);
-        owns.copied().filter(|own| *own >= FLOOR).collect()
+        let owns = self.port.facts().chunks(WORDS).map(own_of);
+        owns.filter(|own| *own >= FLOOR).collect()
     }
 
     /// The original's id of an EMPTY or live id.
@@ -203,11 +203,11 @@ fn mirror(port: &Lent) -> (VoxInterner<u16>, Vec<u64>) {
     let mut original = original_of(view.capacity);
     let mut twins = vec![EMPTY; view.capacity];
     let mut slots: Vec<usize> = (0..view.capacity)
-        .filter(|slot| view.fact(*slot, OWN) >= FLOOR)
+        .filter(|slot| view.own(*slot) >= FLOOR)
         .collect();
     slots.sort_by_key(|slot| view.fact(*slot, HEIGHT));
     for slot in slots {
-        let own = view.fact(slot, OWN);
+        let own = view.own(slot);
         let twin = if is_leaf(own) {
             original.get_or_create_leaf(view.fact(slot, VALUE) as u16)
         } else {

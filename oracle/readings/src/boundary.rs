@@ -7,6 +7,7 @@ use arena::lent::Lent;
 use reference::Random;
 use reference::arena::MOST_HOLDS;
 use reference::document01::{EMPTY, INVALID};
+use reference::tables::lengths;
 
 type Case = fn(&mut Tally) -> Told;
 
@@ -98,13 +99,7 @@ fn sizes(tally: &mut Tally) -> Told {
         for flaws in [0, 1, 4, 16, 32, 64, 128, 255] {
             for is_bar in [false, true] {
                 let made = Lent::fresh(9);
-                let length = |table: usize, words: usize| words + usize::from(long == table);
-                let mut lent = Lent::new(
-                    made.arena,
-                    &vec![0; length(0, 8 * 9)],
-                    &vec![0; length(1, 7 * 9)],
-                    &vec![0; length(2, 3 * 9)],
-                );
+                let mut lent = made.with_length(long, lengths(9)[long] + 1, 0);
                 let before = lent.clone();
                 let (root, depth, edge, record) = flawed(flaws, EMPTY, is_bar, 7);
                 let record = if flaws == 4 { &record[1..] } else { &record };

@@ -156,7 +156,7 @@ fn judge(
     if made.no == 0 {
         lent.call(&Call::Release(made.id));
     }
-    if is_right && lent.arena.live == 0 && lent.is_intact() {
+    if is_right && lent.arena.live() == 0 && lent.is_intact() {
         return Ok(());
     }
     Err(format!("{made:x?}, not {refusal:?} or cell {cell:?}"))

@@ -7,7 +7,7 @@ use arena::lent::Lent;
 use reference::document01::INVALID;
 use reference::reading::DEEPEST;
 use reference::survey::{self, FINEST, Reading};
-use reference::tables::{FLOOR, OWN};
+use reference::tables::{ENTRY, FLOOR, WORDS, own_of};
 
 pub type Told = Result<(), String>;
 
@@ -137,12 +137,12 @@ impl<'a> Sides<'a> {
     }
 }
 
-/// Of each slot with a live node, its number, the words of its facts and its children.
-fn live_nodes(lent: &Lent) -> Vec<(usize, &[u64], &[u64])> {
-    let slots = lent.facts().chunks(7).zip(lent.kids().chunks(8));
+/// Of each slot with a live node, its number, the words of its own in its row of facts, and its children.
+fn live_nodes(lent: &Lent) -> Vec<(usize, &[u32], &[u64])> {
+    let slots = lent.facts().chunks(WORDS).zip(lent.kids().chunks(8));
     (slots.enumerate())
-        .filter(|(_, (facts, _))| facts[OWN] >= FLOOR)
-        .map(|(slot, (facts, kids))| (slot, facts, kids))
+        .filter(|(_, (facts, _))| own_of(facts) >= FLOOR)
+        .map(|(slot, (facts, kids))| (slot, &facts[..ENTRY], kids))
         .collect()
 }
 

@@ -1,6 +1,8 @@
 //! The arena as document 01 has it, written from that paper alone: contents looked up in maps, counts kept apart, and every refusal. A switch turns
-//! only the order in which one release frees nodes.
+//! only the order in which one release frees nodes. What docs/TABLES.md writes down besides goes along and decides nothing: sums, hashes, the stack of freed slots
+//! with what is left above it, and the finding table.
 use crate::document01::{EMPTY, INVALID, index, is_leaf, new_branch, new_leaf};
+use crate::finding::{Finding, branch_hash, leaf_hash};
 use std::collections::{HashMap, VecDeque};
 
 /// A caller's holds on one node are at most this many.
@@ -22,15 +24,20 @@ pub enum Order {
     BreadthFirst,
 }
 
-/// What document 01 knows of one slot. A slot without a node has id EMPTY and is cleared but for its generation.
+/// What is known of one slot. A slot without a node has id EMPTY and is cleared but for its generation and its mark.
 #[derive(Clone, Debug, Default, PartialEq, Eq)]
 pub struct Slot {
     pub id: u64,
     pub generation: u16,
     pub value: u16,
     pub height: u8,
+    /// The sum of the children's stored values.
+    pub sum: u32,
+    pub hash: u32,
     pub holds: u32,
     pub places: u32,
+    /// The number of a freed slot on the stack.
+    pub mark: u32,
     pub children: [u64; 8],
 }
 
@@ -38,11 +45,13 @@ pub struct Slot {
 pub struct Arena {
     order: Order,
     slots: Vec<Slot>,
-    /// The freed slots, the last one freed at the end.
-    freed: Vec<u32>,
+    /// The stack of freed slots: so many entries from the first on, the last one freed at the end. The others keep what was last written there.
+    freed: usize,
+    entries: Vec<u32>,
     next: u32,
     leaves: HashMap<u16, u32>,
     branches: HashMap<[u64; 8], u32>,
+    finding: Finding,
     pub(crate) touched: Vec<u32>,
 }
 
@@ -55,10 +64,12 @@ impl Arena {
         Ok(Self {
             order,
             slots: vec![Slot::default(); capacity],
-            freed: vec![],
+            freed: 0,
+            entries: vec![0; capacity],
             next: 1,
             leaves: HashMap::new(),
             branches: HashMap::new(),
+            finding: Finding::fresh(capacity),
             touched: vec![],
         })
     }
@@ -73,7 +84,17 @@ impl Arena {
 
     /// The freed slots, the last one freed at the end.
     pub fn freed(&self) -> &[u32] {
-        &self.freed
+        &self.entries[..self.freed]
+    }
+
+    /// Every entry of the stack of freed slots, those too that no longer stand for one.
+    pub fn entries(&self) -> &[u32] {
+        &self.entries
+    }
+
+    /// The cells of the finding table.
+    pub fn finding(&self) -> &[u16] {
+        self.finding.cells()
     }
 
     /// The lowest slot never given out.
@@ -82,7 +103,7 @@ impl Arena {
     }
 
     pub fn live(&self) -> usize {
-        self.next() - 1 - self.freed.len()
+        self.next() - 1 - self.freed
     }
 
     pub fn is_full(&self) -> bool {
@@ -143,10 +164,13 @@ impl Arena {
 
     /// Fresh slot: the last one freed, else the lowest never used.
     fn give_out(&mut self) -> u32 {
-        let slot = self.freed.pop().unwrap_or(self.next);
-        if slot == self.next {
+        let slot = if self.freed > 0 {
+            self.freed -= 1;
+            self.entries[self.freed]
+        } else {
             self.next += 1;
-        }
+            self.next - 1
+        };
         self.touched.push(slot);
         slot
     }
@@ -167,16 +191,16 @@ impl Arena {
         let slot = self.give_out();
         let generation = self.slots[slot as usize].generation;
         let (_, id) = new_leaf(slot, generation);
+        let hash = leaf_hash(value.into());
         self.slots[slot as usize] = Slot {
             id,
             generation,
             value,
-            height: 0,
-            holds: 0,
-            places: 0,
-            children: [EMPTY; 8],
+            hash,
+            ..Slot::default()
         };
         self.leaves.insert(value, slot);
+        self.finding.insert(slot, hash);
         id
     }
 
@@ -193,16 +217,19 @@ impl Arena {
         let slot = self.give_out();
         let generation = self.slots[slot as usize].generation;
         let (_, id) = new_branch(slot, generation, types, mask);
+        let hash = branch_hash(&children);
         self.slots[slot as usize] = Slot {
             id,
             generation,
             value: (sum / 8) as u16,
             height: tallest.unwrap() + 1,
-            holds: 0,
-            places: 0,
+            sum,
+            hash,
             children,
+            ..Slot::default()
         };
         self.branches.insert(children, slot);
+        self.finding.insert(slot, hash);
         id
     }
 
@@ -313,7 +340,7 @@ impl Arena {
         self.node(id).holds == 0 && self.node(id).places == 0
     }
 
-    /// Clears the slot of a node that nobody uses, and answers the children that it had.
+    /// Clears the slot of a node that nobody uses, puts it on top of the freed ones, and answers the children that the node had.
     fn recycle(&mut self, id: u64) -> [u64; 8] {
         let slot = index(id);
         let node = std::mem::take(self.node_mut(id));
@@ -322,11 +349,18 @@ impl Arena {
         } else {
             self.branches.remove(&node.children);
         }
-        self.slots[slot as usize].generation = match node.generation + 1 {
-            GENERATIONS => 0,
-            generation => generation,
+        let hash_of = |named: u16| self.slots[usize::from(named)].hash;
+        self.finding.remove(slot, node.hash, hash_of);
+        self.slots[slot as usize] = Slot {
+            generation: match node.generation + 1 {
+                GENERATIONS => 0,
+                generation => generation,
+            },
+            mark: self.freed as u32,
+            ..Slot::default()
         };
-        self.freed.push(slot);
+        self.entries[self.freed] = slot;
+        self.freed += 1;
         node.children
     }
 

@@ -2,6 +2,7 @@
 pub mod arena;
 pub mod document01;
 mod edit;
+pub mod finding;
 pub mod months;
 mod panics;
 mod random;

@@ -59,7 +59,7 @@ impl Nodes for Tables<'_> {
     fn height(&self, id: u64) -> u64 {
         match id {
             EMPTY => 0,
-            id => self.fact(index(id) as usize, HEIGHT),
+            id => self.fact(index(id) as usize, HEIGHT).into(),
         }
     }
 

@@ -1,53 +1,108 @@
 //! The port's tables, as docs/TABLES.md lays them out, and what document 01 calls well formed, read from that paper.
-use crate::arena::{GENERATIONS, LEAST_CAPACITY, MOST_CAPACITY, MOST_HOLDS, TALLEST};
+use crate::arena::{GENERATIONS, LEAST_CAPACITY, MOST_CAPACITY, MOST_HOLDS, Slot, TALLEST};
 use crate::document01::{EMPTY, generation, index, is_leaf, new_branch, new_leaf};
+use crate::finding::{CELLS, hash, home};
 use std::collections::{HashMap, HashSet};
 
-/// A live node's own word is at least this; a generation alone is below it.
+/// A live node's own number is at least this; a generation alone is below it.
 pub const FLOOR: u64 = 1 << 47;
 
-/// Numbers of words in `facts`.
-pub const OWN: usize = 0;
-pub const VALUE: usize = 1;
-pub const HEIGHT: usize = 2;
-pub const HOLDS: usize = 3;
-pub const PLACES: usize = 4;
-pub const LINK: usize = 5;
-pub const SPARE: usize = 6;
+/// Numbers of words in a row of `facts`.
+pub const OWN_LOW: usize = 0;
+pub const OWN_HIGH: usize = 1;
+pub const VALUE: usize = 2;
+pub const HEIGHT: usize = 3;
+pub const SUM: usize = 4;
+pub const SPARE: usize = 5;
+pub const HASH: usize = 6;
+pub const HOLDS: usize = 7;
+pub const PLACES: usize = 8;
+pub const MARK: usize = 9;
+pub const ENTRY: usize = 10;
+/// How many words a row has. The last is an entry of the stack of freed slots, and none of the slot's own.
+pub const WORDS: usize = 11;
+
+/// The lengths of `kids`, `facts` and `find` for so many slots.
+pub fn lengths(capacity: usize) -> [usize; 3] {
+    [8, WORDS, CELLS].map(|each| each * capacity)
+}
+
+/// The two halves of an own number, the low one first.
+pub fn halves(own: u64) -> [u32; 2] {
+    [own as u32, (own >> 32) as u32]
+}
+
+/// The own number of a row of `facts`: the whole id of a live node, else the generation times 2^32.
+pub fn own_of(row: &[u32]) -> u64 {
+    u64::from(row[OWN_HIGH]) << 32 | u64::from(row[OWN_LOW])
+}
+
+/// The row of `facts` of a slot, with the entry of the stack of freed slots that stands there.
+pub fn row_of(slot: &Slot, entry: u32) -> [u32; WORDS] {
+    let own = if slot.id == EMPTY {
+        u64::from(slot.generation) << 32
+    } else {
+        slot.id
+    };
+    let [low, high] = halves(own);
+    [
+        low,
+        high,
+        slot.value.into(),
+        slot.height.into(),
+        slot.sum,
+        0,
+        slot.hash,
+        slot.holds,
+        slot.places,
+        slot.mark,
+        entry,
+    ]
+}
+
+/// The state's number: the lowest slot never given out, and 2^32 times how many are freed.
+pub fn slots_of(next: usize, freed: usize) -> u64 {
+    next as u64 + ((freed as u64) << 32)
+}
 
 /// The state of an arena and its three tables.
 #[derive(Clone, Copy)]
 pub struct Tables<'a> {
     pub capacity: usize,
-    pub next: usize,
-    pub top: usize,
-    pub live: usize,
+    pub slots: u64,
     pub kids: &'a [u64],
-    pub facts: &'a [u64],
+    pub facts: &'a [u32],
     pub find: &'a [u16],
-}
-
-/// The first cell in which the port's search looks for a content, by crates/find_hash. No answer depends on it, but whether a search finds a node does.
-pub fn home(capacity: usize, children: &[u64], value: u64) -> usize {
-    let mix = |hash: u64, child: &u64| hash.wrapping_mul(37).wrapping_add(*child);
-    let low = children[..4].iter().fold(value, mix);
-    let high = children[4..].iter().fold(0, mix);
-    let hash = mix(low, &mix(high, &high));
-    let spread = (hash as u32).wrapping_mul(0x9E37_79B1);
-    ((u64::from(spread) * 2 * capacity as u64) >> 32) as usize
 }
 
 impl<'a> Tables<'a> {
     /// Not refusal 1.
     pub fn fit(&self, capacity: usize) -> bool {
         (LEAST_CAPACITY..=MOST_CAPACITY).contains(&capacity)
-            && self.kids.len() == 8 * capacity
-            && self.facts.len() == 7 * capacity
-            && self.find.len() == 3 * capacity
+            && [self.kids.len(), self.facts.len(), self.find.len()] == lengths(capacity)
     }
 
-    pub fn fact(&self, slot: usize, word: usize) -> u64 {
-        self.facts[7 * slot + word]
+    /// The lowest slot never given out.
+    fn next(&self) -> usize {
+        self.slots as u32 as usize
+    }
+
+    /// How many slots are freed.
+    fn freed(&self) -> usize {
+        (self.slots >> 32) as usize
+    }
+
+    fn row(&self, slot: usize) -> &'a [u32] {
+        &self.facts[WORDS * slot..WORDS * (slot + 1)]
+    }
+
+    pub fn fact(&self, slot: usize, word: usize) -> u32 {
+        self.row(slot)[word]
+    }
+
+    /// The whole id of a live node in the slot, else the generation times 2^32.
+    pub fn own(&self, slot: usize) -> u64 {
+        own_of(self.row(slot))
     }
 
     fn children(&self, slot: usize) -> &'a [u64] {
@@ -55,13 +110,13 @@ impl<'a> Tables<'a> {
     }
 
     fn is_live_slot(&self, slot: usize) -> bool {
-        self.fact(slot, OWN) >= FLOOR
+        self.own(slot) >= FLOOR
     }
 
     /// An id is live exactly if it is, in all 64 bits, the id of a node now in the arena.
     pub fn is_live(&self, id: u64) -> bool {
         let slot = index(id) as usize;
-        id >= FLOOR && slot < self.capacity && self.fact(slot, OWN) == id
+        id >= FLOOR && slot < self.capacity && self.own(slot) == id
     }
 
     /// The child of that number in the slot that a branch's id names. On tables that are not well formed, EMPTY where there is no such slot.
@@ -75,7 +130,7 @@ impl<'a> Tables<'a> {
         if id == EMPTY {
             return 0;
         }
-        let at = 7 * index(id) as usize + VALUE;
+        let at = WORDS * index(id) as usize + VALUE;
         self.facts.get(at).copied().unwrap_or(0) as u16
     }
 
@@ -92,7 +147,8 @@ impl<'a> Tables<'a> {
         let mut contents = HashSet::new();
         let mut live = 0;
         for slot in 0..self.capacity {
-            if generation(self.fact(slot, OWN)) >= GENERATIONS {
+            let own = self.own(slot);
+            if generation(own) >= GENERATIONS {
                 return Err(format!("slot {slot}: generation"));
             }
             if self.fact(slot, SPARE) != 0 {
@@ -104,69 +160,72 @@ impl<'a> Tables<'a> {
             }
             live += 1;
             self.node(slot)?;
-            let own = self.fact(slot, OWN);
-            if self.fact(slot, PLACES) != tally.get(&own).copied().unwrap_or(0) {
+            if u64::from(self.fact(slot, PLACES)) != tally.get(&own).copied().unwrap_or(0) {
                 return Err(format!("slot {slot}: places are not the tally"));
             }
             if !contents.insert((self.children(slot), self.fact(slot, VALUE))) {
                 return Err(format!("slot {slot}: content of another"));
             }
         }
-        if live != self.live {
-            return Err(format!("{live} live, not {}", self.live));
+        if self.freed() + live + 1 != self.next() {
+            return Err(format!(
+                "{} freed and {live} live, and {} is next",
+                self.freed(),
+                self.next()
+            ));
         }
-        self.found_once()
+        self.found_once(live)
     }
 
-    /// The links run from the top through every slot of 1 to next - 1 that is not live, once; slot 0 and the slots from next on were never given out.
+    /// The entries of the stack name slots of 1 to next - 1 that are not live, each of which has the entry's number as its mark; no other slot has a mark, and
+    /// every other slot of 1 to next - 1 is live. Slot 0 and the slots from next on were never given out.
     fn freed_once(&self) -> Result<(), String> {
-        if !(1..=self.capacity).contains(&self.next) {
-            return Err("next".to_string());
+        if !(1..=self.capacity).contains(&self.next()) || self.freed() >= self.next() {
+            return Err("next or freed".to_string());
         }
         let mut freed = HashSet::new();
-        let mut at = self.top;
-        while at != 0 {
-            let is_freed = at < self.next && !self.is_live_slot(at);
-            if !is_freed || !freed.insert(at) {
-                return Err(format!("the links run to slot {at}"));
+        for number in 0..self.freed() {
+            let slot = self.fact(number, ENTRY) as usize;
+            let is_freed = (1..self.next()).contains(&slot) && !self.is_live_slot(slot);
+            if !is_freed || self.fact(slot, MARK) as usize != number || !freed.insert(slot) {
+                return Err(format!("entry {number} is slot {slot}"));
             }
-            at = self.fact(at, LINK) as usize;
         }
         for slot in 0..self.capacity {
-            let was_given = (1..self.next).contains(&slot);
-            let own = self.fact(slot, OWN);
+            let was_given = (1..self.next()).contains(&slot);
+            let own = self.own(slot);
             if !was_given && own != 0 {
                 return Err(format!("slot {slot} was never given out"));
             }
             if was_given && own < FLOOR && !freed.contains(&slot) {
                 return Err(format!("slot {slot} is neither live nor freed"));
             }
-            if self.fact(slot, LINK) != 0 && !freed.contains(&slot) {
-                return Err(format!("slot {slot} is linked and not freed"));
+            if self.fact(slot, MARK) != 0 && !freed.contains(&slot) {
+                return Err(format!("slot {slot} is marked and not freed"));
             }
         }
         Ok(())
     }
 
-    /// Value 0, children EMPTY, both counts 0; the own word is a generation alone.
+    /// Value 0, children EMPTY, both counts 0, and so what is kept with them; the own number is a generation alone.
     fn cleared(&self, slot: usize) -> Result<(), String> {
-        let is_cleared = [VALUE, HEIGHT, HOLDS, PLACES]
+        let is_cleared = [VALUE, HEIGHT, SUM, HASH, HOLDS, PLACES]
             .iter()
             .all(|word| self.fact(slot, *word) == 0)
             && self.children(slot).iter().all(|id| *id == EMPTY)
-            && index(self.fact(slot, OWN)) == 0;
+            && index(self.own(slot)) == 0;
         if is_cleared {
             return Ok(());
         }
         Err(format!("slot {slot} is not cleared"))
     }
 
-    /// Id, value, height and counts of a live node.
+    /// Id, value, height, sum, hash and counts of a live node.
     fn node(&self, slot: usize) -> Result<(), String> {
         let broken = |rule: &str| Err(format!("slot {slot}: {rule}"));
-        let own = self.fact(slot, OWN);
+        let own = self.own(slot);
         let children = self.children(slot);
-        let (value, height) = (self.fact(slot, VALUE), self.fact(slot, HEIGHT));
+        let [value, height, sum] = [VALUE, HEIGHT, SUM].map(|word| self.fact(slot, word));
         let of_child = |id: u64, word: usize| match id {
             EMPTY => 0,
             id => self.fact(index(id) as usize, word),
@@ -175,8 +234,8 @@ impl<'a> Tables<'a> {
             if own != new_leaf(slot as u32, generation(own)).1 {
                 return broken("id of a leaf");
             }
-            if value == 0 || height != 0 || children.iter().any(|id| *id != EMPTY) {
-                return broken("value, height or children of a leaf");
+            if value == 0 || height != 0 || sum != 0 || children.iter().any(|id| *id != EMPTY) {
+                return broken("value, height, sum or children of a leaf");
             }
         } else {
             if children.iter().any(|id| *id != EMPTY && !self.is_live(*id)) {
@@ -189,20 +248,21 @@ impl<'a> Tables<'a> {
             if mask == 0 || own != new_branch(slot as u32, generation(own), types, mask).1 {
                 return broken("id of a branch");
             }
-            let sum: u128 = children
-                .iter()
-                .map(|id| u128::from(of_child(*id, VALUE)))
-                .sum();
-            if u128::from(value) != sum / 8 {
-                return broken("stored value");
+            let values = children.iter().map(|id| u64::from(of_child(*id, VALUE)));
+            let all: u64 = values.sum();
+            if u64::from(sum) != all || u64::from(value) != all / 8 {
+                return broken("sum or stored value");
             }
             let tallest = children.iter().map(|id| of_child(*id, HEIGHT)).max();
             if Some(height) != tallest.unwrap().checked_add(1) || height > TALLEST.into() {
                 return broken("height");
             }
         }
+        if self.fact(slot, HASH) != hash(own, children, value) {
+            return broken("hash");
+        }
         let (holds, places) = (self.fact(slot, HOLDS), self.fact(slot, PLACES));
-        if value > 0xFFFF || holds > MOST_HOLDS.into() {
+        if value > 0xFFFF || holds > MOST_HOLDS {
             return broken("value or holds too large");
         }
         if holds == 0 && places == 0 {
@@ -211,8 +271,8 @@ impl<'a> Tables<'a> {
         Ok(())
     }
 
-    /// The finding table names live slots only, each once, with no empty cell from the home of its content up to it.
-    fn found_once(&self) -> Result<(), String> {
+    /// The finding table names live slots only, each once, with no empty cell from the home of its content up to it. So many are live.
+    fn found_once(&self, live: usize) -> Result<(), String> {
         let mut named = HashSet::new();
         let mut first_of_row = 0;
         for (at, &cell) in self.find.iter().enumerate() {
@@ -224,12 +284,12 @@ impl<'a> Tables<'a> {
             if slot >= self.capacity || !self.is_live_slot(slot) || !named.insert(slot) {
                 return Err(format!("cell {at} names slot {slot}"));
             }
-            let home = home(self.capacity, self.children(slot), self.fact(slot, VALUE));
-            if !(first_of_row..=at).contains(&home) {
+            let hash = hash(self.own(slot), self.children(slot), self.fact(slot, VALUE));
+            if !(first_of_row..=at).contains(&home(self.capacity, hash)) {
                 return Err(format!("no search finds slot {slot} in cell {at}"));
             }
         }
-        if named.len() != self.live {
+        if named.len() != live {
             return Err("a live node is not named".to_string());
         }
         Ok(())

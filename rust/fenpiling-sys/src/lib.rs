@@ -1,13 +1,11 @@
 //! The functions of libfenpiling.a, as `include/fenpiling.h` declares and describes them. A slice goes as its address and its length.
 
-/// An arena's state, which goes by value beside its tables.
+/// An arena's state, which goes by value beside its tables: its capacity, and the lowest slot never given out plus 2^32 times the number of freed slots.
 #[repr(C)]
 #[derive(Clone, Copy, Debug, PartialEq, Eq)]
 pub struct Arena {
     pub capacity: usize,
-    pub next: usize,
-    pub top: usize,
-    pub live: usize,
+    pub slots: u64,
 }
 
 /// The place of a cell.
@@ -26,21 +24,21 @@ pub struct Children {
     pub ids: [u64; 8],
 }
 
-/// A call that answers no id.
+/// A call that answers no id, with the state's slots to pass next, accepted or refused.
 #[repr(C)]
 #[derive(Clone, Copy, Debug, PartialEq, Eq)]
 pub struct Answer {
     pub no: u32,
-    pub arena: Arena,
+    pub slots: u64,
 }
 
-/// A call that answers a node.
+/// A call that answers a node, with the state's slots to pass next, accepted or refused.
 #[repr(C)]
 #[derive(Clone, Copy, Debug, PartialEq, Eq)]
 pub struct Made {
     pub no: u32,
     pub id: u64,
-    pub arena: Arena,
+    pub slots: u64,
 }
 
 /// The two counts of a node.
@@ -123,7 +121,7 @@ unsafe extern "C" {
         capacity: usize,
         kids: *mut u64,
         kids_length: usize,
-        facts: *mut u64,
+        facts: *mut u32,
         facts_length: usize,
         find: *mut u16,
         find_length: usize,
@@ -132,7 +130,7 @@ unsafe extern "C" {
         arena: Arena,
         kids: *mut u64,
         kids_length: usize,
-        facts: *mut u64,
+        facts: *mut u32,
         facts_length: usize,
         find: *mut u16,
         find_length: usize,
@@ -142,7 +140,7 @@ unsafe extern "C" {
         arena: Arena,
         kids: *mut u64,
         kids_length: usize,
-        facts: *mut u64,
+        facts: *mut u32,
         facts_length: usize,
         find: *mut u16,
         find_length: usize,
@@ -152,7 +150,7 @@ unsafe extern "C" {
         arena: Arena,
         kids: *const u64,
         kids_length: usize,
-        facts: *mut u64,
+        facts: *mut u32,
         facts_length: usize,
         find: *const u16,
         find_length: usize,
@@ -162,7 +160,7 @@ unsafe extern "C" {
         arena: Arena,
         kids: *mut u64,
         kids_length: usize,
-        facts: *mut u64,
+        facts: *mut u32,
         facts_length: usize,
         find: *mut u16,
         find_length: usize,
@@ -172,7 +170,7 @@ unsafe extern "C" {
         arena: Arena,
         kids: *const u64,
         kids_length: usize,
-        facts: *const u64,
+        facts: *const u32,
         facts_length: usize,
         find: *const u16,
         find_length: usize,
@@ -182,7 +180,7 @@ unsafe extern "C" {
         arena: Arena,
         kids: *const u64,
         kids_length: usize,
-        facts: *mut u64,
+        facts: *mut u32,
         facts_length: usize,
         find: *const u16,
         find_length: usize,
@@ -191,7 +189,7 @@ unsafe extern "C" {
         arena: Arena,
         kids: *const u64,
         kids_length: usize,
-        facts: *const u64,
+        facts: *const u32,
         facts_length: usize,
         find: *const u16,
         find_length: usize,
@@ -203,7 +201,7 @@ unsafe extern "C" {
         arena: Arena,
         kids: *const u64,
         kids_length: usize,
-        facts: *const u64,
+        facts: *const u32,
         facts_length: usize,
         find: *const u16,
         find_length: usize,
@@ -216,7 +214,7 @@ unsafe extern "C" {
         arena: Arena,
         kids: *mut u64,
         kids_length: usize,
-        facts: *mut u64,
+        facts: *mut u32,
         facts_length: usize,
         find: *mut u16,
         find_length: usize,
@@ -229,7 +227,7 @@ unsafe extern "C" {
         arena: Arena,
         kids: *const u64,
         kids_length: usize,
-        facts: *const u64,
+        facts: *const u32,
         facts_length: usize,
         find: *const u16,
         find_length: usize,
@@ -248,7 +246,7 @@ unsafe extern "C" {
         arena: Arena,
         kids: *mut u64,
         kids_length: usize,
-        facts: *mut u64,
+        facts: *mut u32,
         facts_length: usize,
         find: *mut u16,
         find_length: usize,

@@ -4,7 +4,7 @@ use std::cell::RefCell;
 use std::fmt;
 use std::rc::Rc;
 
-/// A store of nodes with a fixed number of slots, of 126 bytes each. A clone is the same store, which stays as long as it or any of its roots does.
+/// A store of nodes with a fixed number of slots, of 118 bytes each. A clone is the same store, which stays as long as it or any of its roots does.
 ///
 /// ```
 /// use fenpiling::{Arena, Refusal};

@@ -6,7 +6,7 @@ use fenpiling_sys as library;
 pub(crate) struct Tables {
     state: library::Arena,
     kids: Box<[u64]>,
-    facts: Box<[u64]>,
+    facts: Box<[u32]>,
     find: Box<[u16]>,
 }
 
@@ -36,30 +36,25 @@ impl Tables {
     pub(crate) fn fresh(capacity: usize) -> Result<Tables, Refusal> {
         let slots = if capacity <= 65_536 { capacity } else { 0 };
         let mut tables = Tables {
-            state: library::Arena {
-                capacity: 0,
-                next: 0,
-                top: 0,
-                live: 0,
-            },
+            state: library::Arena { capacity, slots: 0 },
             kids: vec![0; 8 * slots].into(),
-            facts: vec![0; 7 * slots].into(),
-            find: vec![0; 3 * slots].into(),
+            facts: vec![0; 11 * slots].into(),
+            find: vec![0; 5 * slots].into(),
         };
         let answer = call!(fenpiling_fresh(capacity, tables));
         tables.accept(answer)?;
         Ok(tables)
     }
 
-    /// Takes over the state that a call answers.
+    /// Takes over the slots that a call answers, of a refused one too.
     fn accept(&mut self, answer: library::Answer) -> Result<(), Refusal> {
-        self.state = answer.arena;
+        self.state.slots = answer.slots;
         Refusal::accept(answer.no)
     }
 
-    /// Takes over the state that a call answers, of a refused one too, and the node it made.
+    /// Takes over the slots that a call answers, of a refused one too, and the node it made.
     fn made(&mut self, made: library::Made) -> Result<Id, Refusal> {
-        self.state = made.arena;
+        self.state.slots = made.slots;
         Refusal::accept(made.no)?;
         Ok(Id::from_raw(made.id))
     }
@@ -68,8 +63,10 @@ impl Tables {
         self.state.capacity
     }
 
+    /// The slots given out, slot 0 not among them, without those that are freed.
     pub(crate) fn live(&self) -> usize {
-        self.state.live
+        let (next, freed) = (self.state.slots as u32, self.state.slots >> 32);
+        next as usize - 1 - freed as usize
     }
 
     pub(crate) fn intern_leaf(&mut self, value: u16) -> Result<Id, Refusal> {

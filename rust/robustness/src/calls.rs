@@ -10,6 +10,18 @@ use fenpiling_sys::{
 /// The bytes of a record and some more; as many of them are lent as a round's records are long.
 pub type Record = [u8; 48];
 
+/// The words of a row of facts, and some of their numbers.
+pub const WORDS: usize = 11;
+pub const OWN_LOW: usize = 0;
+pub const OWN_HIGH: usize = 1;
+const VALUE: usize = 2;
+pub const HEIGHT: usize = 3;
+pub const HASH: usize = 6;
+pub const HOLDS: usize = 7;
+pub const PLACES: usize = 8;
+pub const MARK: usize = 9;
+pub const ENTRY: usize = 10;
+
 /// A call with its arguments beside the arena.
 #[derive(Clone, Copy, Debug)]
 pub enum Call {
@@ -99,7 +111,7 @@ impl Call {
 /// What is lent to calls.
 pub struct Tables {
     pub kids: Lent<u64>,
-    pub facts: Lent<u64>,
+    pub facts: Lent<u32>,
     pub find: Lent<u16>,
     pub cube: Lent<u16>,
     pub list: List,
@@ -116,7 +128,7 @@ pub struct List {
 /// What was lent, before a call.
 pub struct Copied {
     kids: Vec<u64>,
-    facts: Vec<u64>,
+    facts: Vec<u32>,
     find: Vec<u16>,
     cube: Vec<u16>,
     codes: Vec<u32>,
@@ -124,10 +136,10 @@ pub struct Copied {
     rights: Vec<u16>,
 }
 
-/// What a call answers: its number (of the check: 0 for yes, 1 for no), the state, and the id or what stands for it.
+/// What a call answers: its number (of the check: 0 for yes, 1 for no), the state's slots, and the id or what stands for it.
 pub struct Outcome {
     pub no: u32,
-    pub arena: Arena,
+    pub slots: u64,
     pub id: Option<u64>,
     /// The value of the cell that it looked up.
     pub value: u16,
@@ -321,15 +333,36 @@ impl Tables {
     }
 }
 
-/// The slots that have a live node, with their facts and children.
+/// The slots that have a live node, with their own words of the facts, and their children. The last word of a row is an entry of the stack of freed slots.
 fn live_nodes<'a>(
-    facts: &'a [u64],
+    facts: &'a [u32],
     kids: &'a [u64],
-) -> impl Iterator<Item = (usize, (&'a [u64], &'a [u64]))> {
-    let slots = facts.chunks(7).zip(kids.chunks(8));
-    slots
+) -> impl Iterator<Item = (usize, (&'a [u32], &'a [u64]))> {
+    let rows = facts.chunks_exact(WORDS).map(|row| &row[..ENTRY]);
+    rows.zip(kids.chunks(8))
         .enumerate()
-        .filter(|(_, (facts, _))| facts[0] >= 1 << 47)
+        .filter(|(_, (facts, _))| facts[OWN_HIGH] >= 1 << 15)
+}
+
+/// The hash of what stands in a row of facts and in its row of kids, as docs/TABLES.md has it.
+pub fn hash(facts: &[u32], kids: &[u64]) -> u32 {
+    const FACTORS: [u32; 8] = [
+        0x9E37_79B1,
+        0x85EB_CA77,
+        0xC2B2_AE3D,
+        0x27D4_EB2F,
+        0x1656_67B1,
+        0xD6E8_FEB9,
+        0xA136_AAAD,
+        0x7FEB_352D,
+    ];
+    if facts[OWN_HIGH] >= 1 << 31 {
+        return facts[VALUE].wrapping_mul(FACTORS[0]);
+    }
+    let terms = kids.iter().zip(FACTORS);
+    terms
+        .map(|(id, factor)| (*id as u32).wrapping_mul(factor))
+        .fold(0, u32::wrapping_add)
 }
 
 /// Is all of the reading 0 but its number?
@@ -341,7 +374,7 @@ fn says_nothing(reading: &Reading) -> bool {
 fn made(made: Made) -> Outcome {
     Outcome {
         no: made.no,
-        arena: made.arena,
+        slots: made.slots,
         id: Some(made.id),
         value: 0,
         listed: 0,
@@ -352,7 +385,7 @@ fn made(made: Made) -> Outcome {
 fn answered(answer: Answer) -> Outcome {
     Outcome {
         no: answer.no,
-        arena: answer.arena,
+        slots: answer.slots,
         id: None,
         value: 0,
         listed: 0,
@@ -363,7 +396,7 @@ fn answered(answer: Answer) -> Outcome {
 fn read(arena: Arena, no: u32, nothing: bool) -> Outcome {
     Outcome {
         no,
-        arena,
+        slots: arena.slots,
         id: None,
         value: 0,
         listed: 0,

@@ -1,8 +1,14 @@
 //! A round: tables made and damaged, and calls on them, each watched.
-use crate::calls::{Call, KINDS, List, Record, Tables};
+use crate::calls::{
+    Call, ENTRY, HASH, HEIGHT, HOLDS, KINDS, List, MARK, OWN_HIGH, OWN_LOW, PLACES, Record, Tables,
+    WORDS, hash,
+};
 use crate::lent::{Lent, Placing, Word};
 use crate::numbers::Numbers;
 use fenpiling_sys::{Arena, Cell};
+
+/// The low half of a state's slots, which is the lowest slot never given out.
+const LOW: u64 = 0xFFFF_FFFF;
 
 /// How many calls of each kind answered each number.
 pub type Seen = [[u64; 16]; KINDS.len()];
@@ -48,7 +54,7 @@ pub fn play(seed: u64, heap: bool, seen: &mut Seen) -> Result<(), String> {
         Ground::Noise,
         Ground::Unfit,
     ]);
-    let mut lengths = [8 * capacity, 7 * capacity, 3 * capacity];
+    let mut lengths = [8 * capacity, WORDS * capacity, 5 * capacity];
     if ground == Ground::Unfit {
         let table = numbers.below(3);
         lengths[table] = match numbers.below(4) {
@@ -96,12 +102,7 @@ pub fn play(seed: u64, heap: bool, seen: &mut Seen) -> Result<(), String> {
             },
             record: Lent::new(record, placing),
         },
-        arena: Arena {
-            capacity,
-            next: 1,
-            top: 0,
-            live: 0,
-        },
+        arena: Arena { capacity, slots: 1 },
         ids: vec![0],
         seen,
     };
@@ -127,8 +128,8 @@ fn damage<T: Word + Into<u64>>(numbers: &mut Numbers, words: &mut [T]) {
         let at = numbers.below(words.len());
         let other = numbers.below(words.len());
         words[at] = match numbers.below(3) {
-            0 => T::cut(words[at].into() ^ (1 << numbers.below(64))),
-            1 => T::cut(numbers.odd()),
+            0 => T::cut(words[at].into() ^ (1 << numbers.below(8 * size_of::<T>()))),
+            1 => T::cut(numbers.odd() >> numbers.of(&[0, 32])),
             _ => words[other],
         };
     }
@@ -178,7 +179,7 @@ impl Round<'_> {
         if exact && outcome.spoils {
             return fault("refused and answered something");
         }
-        let is_state_kept = matches!(call, Call::Fresh(_)) || outcome.arena == self.arena;
+        let is_state_kept = matches!(call, Call::Fresh(_)) || outcome.slots == self.arena.slots;
         if exact && refused && !call.may_have_moved(outcome.no) && !is_state_kept {
             return fault("refused and changed the state");
         }
@@ -221,7 +222,10 @@ impl Round<'_> {
         }
         self.seen[call.kind()][outcome.no as usize] += 1;
         if !refused || call.may_have_moved(outcome.no) {
-            self.arena = outcome.arena;
+            self.arena.slots = outcome.slots;
+            if let Call::Fresh(capacity) = call {
+                self.arena.capacity = capacity;
+            }
         }
         if !refused {
             self.ids.extend(outcome.id);
@@ -364,13 +368,11 @@ impl Round<'_> {
         match self.numbers.below(8) {
             0 => self.numbers.odd(),
             1 => self.tables.kids.words().get(8 * slot).copied().unwrap_or(1),
-            2 | 3 => self
-                .tables
-                .facts
-                .words()
-                .get(7 * slot)
-                .copied()
-                .unwrap_or(1),
+            2 | 3 => {
+                let facts = self.tables.facts.words();
+                let half = |word| facts.get(WORDS * slot + word).copied().unwrap_or(1);
+                u64::from(half(OWN_HIGH)) << 32 | u64::from(half(OWN_LOW))
+            }
             _ => self.numbers.of(&self.ids),
         }
     }
@@ -411,16 +413,17 @@ impl Round<'_> {
             // As many holds as a node can have.
             3 => {
                 let facts = self.tables.facts.words();
-                let slot = numbers.below(facts.len() / 7);
-                facts[7 * slot + 3] = 1_000_000;
+                let slot = numbers.below(facts.len() / WORDS);
+                facts[WORDS * slot + HOLDS] = 1_000_000;
             }
             _ => {
-                let odd = numbers.odd() as usize;
+                let slots = self.arena.slots;
+                let (next, freed) = (numbers.odd() & LOW, numbers.odd() << 32);
                 match numbers.below(8) {
-                    0 => self.arena.capacity = odd,
-                    1..4 => self.arena.next = odd,
-                    4..6 => self.arena.top = odd,
-                    _ => self.arena.live = odd,
+                    0 => self.arena.capacity = numbers.odd() as usize,
+                    1..4 => self.arena.slots = slots & !LOW | next,
+                    4..7 => self.arena.slots = freed | slots & LOW,
+                    _ => self.arena.slots = freed | next,
                 }
             }
         }
@@ -442,21 +445,27 @@ impl Round<'_> {
         };
         self.tables.kids.words().fill_with(|| number(numbers));
         for (at, word) in self.tables.facts.words().iter_mut().enumerate() {
-            *word = match at % 7 {
-                0 => number(numbers) & !0xFFFF | (at / 7) as u64,
-                2 => numbers.below(8) as u64,
-                3 | 4 => numbers.below(3) as u64,
-                5 => numbers.below(capacity) as u64,
-                _ => numbers.odd(),
+            *word = match at % WORDS {
+                OWN_LOW => number(numbers) as u32 & !0xFFFF | (at / WORDS) as u32,
+                OWN_HIGH => (number(numbers) >> 32) as u32,
+                HEIGHT => numbers.below(8) as u32,
+                HOLDS | PLACES => numbers.below(3) as u32,
+                MARK | ENTRY => numbers.below(capacity) as u32,
+                _ => numbers.odd() as u32,
             };
+        }
+        // Most rows have the hash of what stands there, so that searches end at them.
+        let kids = self.tables.kids.words().chunks_exact(8);
+        let rows = self.tables.facts.words().chunks_exact_mut(WORDS);
+        for (row, kids) in rows.zip(kids) {
+            if !numbers.once_in(4) {
+                row[HASH] = hash(row, kids);
+            }
         }
         let find = self.tables.find.words();
         find.fill_with(|| numbers.below(capacity + capacity / 8) as u16);
-        self.arena = Arena {
-            capacity,
-            next: numbers.below(capacity + 2),
-            top: numbers.below(capacity + 1),
-            live: numbers.below(capacity + 1),
-        };
+        let (next, freed) = (numbers.below(capacity + 2), numbers.below(capacity + 1));
+        let slots = (freed as u64) << 32 | next as u64;
+        self.arena = Arena { capacity, slots };
     }
 }

@@ -5,6 +5,4 @@ use Rattle.arena.proofs.more.Tie as tie
 
 pub more-spec : {M : Type 1} → statement M
 unfolding moreOf
-more-spec =
-    tie.close
-    (tie.spec (λ c κs. search needs) (λ c. search needs))
+more-spec = tie.close (tie.spec (λ c. search needs) (λ c. search needs) (λ c. search needs))

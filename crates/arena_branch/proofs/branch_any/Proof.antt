@@ -1,28 +1,32 @@
 use borrow.Author.Needs.{needs}
-use mathlib.Core.Path.{_≡_, refl, sym, _∙_}
+use mathlib.Core.Path.{_≡_, sym, _∙_}
+use mathlib.Core.Bool.{Bool, true, false}
 use mathlib.Core.List.{List}
 use Prim.Native.Nat.{ℕ}
-use borrow.Author.Tests.{eq-eqb, ne-eqb}
-use Rattle.basics.specs.Limits.{deepest, cubeKids}
-use Rattle.arena.specs.Calls.{Out, refused}
-use Rattle.arena.specs.Models.{branchLow, internBranchBy, kidsNo}
-use Rattle.arena.specs.Tables.{tables}
-use Rattle.arena.specs.declared.Arena.{Arena}
-use Rattle.arena.proofs.Outs.{said-path}
+use lib.ListN.{length}
+use Rattle.basics.specs.Limits.{cubeKids, deepest}
+use Rattle.arena.specs.Calls.{Out, fitOf, noneOf, refused}
+use Rattle.arena.specs.Models.{branchBy, internBranchBy}
+use Rattle.arena.specs.Tables.{State, tables}
 use Rattle.arena_branch.proofs.branch_any.Statement.{statement}
 use Rattle.arena_branch.proofs.branch_any.Tie as tie
 
-module _ (a : Arena) (k f e ks : List ℕ) (x : ℕ) (ex : x ≡ kidsNo (tables a k f e) ks) where
-  refusal : (x ≡ 0 → ⊥) → refused x (tables a k f e) ≡ internBranchBy cubeKids deepest (tables a k f e) ks
+module _ (a : State) (k f e ks : List ℕ) (r : Bool) (er : r ≡ fitOf (a .capacity) (length k) (length f) (length e)) where
+  unsized : r ≡ false → refused 1 (tables a k f e) ≡ internBranchBy cubeKids deepest (tables a k f e) ks
   unfolding internBranchBy
-  refusal d = rw (ne-eqb (kidsNo (tables a k f e) ks) 0 (λ y. d (ex ∙ y))) (said-path _ _ _ _ _ _ ex refl refl)
+  unsized z = rw (sym er ∙ z)
 
-  fine : (w : Out) → x ≡ 0 → w ≡ branchLow cubeKids deepest (tables a k f e) ks → w ≡ internBranchBy cubeKids deepest (tables a k f e) ks
+  none : (b : Bool) → r ≡ true → b ≡ noneOf ks → b ≡ true → refused 7 (tables a k f e) ≡ internBranchBy cubeKids deepest (tables a k f e) ks
   unfolding internBranchBy
-  fine w z h = rw (eq-eqb (kidsNo (tables a k f e) ks) 0 (sym ex ∙ z)) h
+  none b z eb y = rw (sym er ∙ z, sym eb ∙ y)
+
+  some : (b : Bool) (x : Out) → r ≡ true → b ≡ noneOf ks → b ≡ false → x ≡ branchBy cubeKids deepest (tables a k f e) ks → x ≡ internBranchBy cubeKids deepest (tables a k f e) ks
+  unfolding internBranchBy
+  some b x z eb y ex = rw (sym er ∙ z, sym eb ∙ y) ex
+
+ruleset mine = (unsized, none, some)
 
 pub branch-any-spec : {M : Type 1} → statement M
 branch-any-spec =
     tie.close
-    (tie.spec (λ c κs. search needs) (λ c. search needs) (λ c. search needs) (λ c. search needs) (λ c. search refusal)
-    (λ c κs. search needs) (λ c. search needs) (λ c. search needs) (λ c. search needs) (λ c. search fine))
+    (tie.spec (λ c κs. search needs) (λ c κs. search needs) (λ c. search mine) (λ c κs. search needs) (λ c. search needs) (λ c. search needs) (λ c. search needs) (λ c. search mine) (λ c. search mine))

@@ -7,13 +7,12 @@ use borrow.Author.Tests.{eq-eqb, ne-eqb}
 use Rattle.basics.specs.Pick.{pick}
 use Rattle.nodes.specs.Words.{factOf, holds, places, slot, wordOf}
 use Rattle.arena.specs.Calls.{Numbers, countsOf, numbers, thereNo}
-use Rattle.arena.specs.Tables.{Tables, W, tables}
-use Rattle.arena.specs.declared.Arena.{Arena}
+use Rattle.arena.specs.Tables.{State, Tables, W, tables}
 use Rattle.arena.proofs.Fits.{there-law}
 use Rattle.arena_hold.proofs.counts.Statement.{statement}
 use Rattle.arena_hold.proofs.counts.Tie as tie
 
-module _ (a : Arena) (k f e : List ℕ) (id x : ℕ) (ex : x ≡ thereNo (tables a k f e) id) where
+module _ (a : State) (k f e : List ℕ) (id x : ℕ) (ex : x ≡ thereNo (tables a k f e) id) where
   abbrev t : Tables
   t = tables a k f e
 
@@ -40,5 +39,5 @@ ruleset mine = (refusal, nothing, alive)
 pub counts-spec : {M : Type 1} → statement M
 counts-spec =
     tie.close
-    (tie.spec (λ c κs. search needs) (λ c. search mine) (λ c. search mine) (λ c κs. search needs) (λ c κs. search needs)
-    (λ c κs. search needs) (λ c. search mine))
+    (tie.spec (λ c κs. search needs) (λ c. search mine) (λ c. search mine) (λ c κs. search needs) (λ c κs. search needs) (λ c. search needs)
+    (λ c κs. search needs) (λ c. search needs) (λ c. search mine))

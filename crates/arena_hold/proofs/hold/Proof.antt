@@ -10,14 +10,13 @@ use Rattle.basics.specs.Pick.{pick}
 use Rattle.nodes.specs.Words.{Nodes, nodes, factOf, holds, slot, wordOf}
 use Rattle.arena.specs.Calls.{did, fullOf, heldAt, holdNo, holdOf, thereNo}
 use Rattle.arena.specs.Models.{bumped}
-use Rattle.arena.specs.Tables.{Tables, W, tables, tablesOf}
-use Rattle.arena.specs.declared.Arena.{Arena}
+use Rattle.arena.specs.Tables.{State, Tables, W, tables, tablesOf}
 use Rattle.arena.proofs.Fits.{there-law}
 use Rattle.arena.proofs.Places.{bumped-is}
 use Rattle.arena_hold.proofs.hold.Statement.{statement}
 use Rattle.arena_hold.proofs.hold.Tie as tie
 
-module _ (a : Arena) (k f e : List ℕ) (id x : ℕ) (ex : x ≡ thereNo (tables a k f e) id) where
+module _ (a : State) (k f e : List ℕ) (id x : ℕ) (ex : x ≡ thereNo (tables a k f e) id) where
   abbrev t : Tables
   t = tables a k f e
 
@@ -47,7 +46,7 @@ module _ (a : Arena) (k f e : List ℕ) (id x : ℕ) (ex : x ≡ thereNo (tables
       unfolding fullOf holdOf wordOf
       full l = let q = here in rw (held-as true (le-leb 1000000 (factOf f (slot id) holds) (omega arith)))
 
-      -- the code's sum, which runs over at 2^64, is the definition's: a node that takes one more hold has fewer than 1,000,000
+      -- the code's sum, which runs over at 2^32, is the definition's: a node that takes one more hold has fewer than 1,000,000
       held : (m : List ℕ) → h < 1000000 → m ≡ bumped holds f id → did 0 (tables a k m e) ≡ holdOf t id
       unfolding fullOf heldAt holdOf wordOf
       held m l em =

@@ -5,14 +5,14 @@ use mathlib.Core.Path.{_≡_, refl}
 use Prim.Native.Nat.{ℕ, _+_, _-_, _*_, _≤_, _<_}
 use lib.ListN.{length, drop}
 use Rattle.nodes.proofs.children.Reads as children-reads
+use Rattle.nodes.proofs.fact.Reads as fact-reads
+use Rattle.nodes_write.proofs.put_children.Reads as put-children-reads
 use Rattle.arena.specs.Calls.{each}
-use Rattle.arena.specs.Models.{dropPlace}
-use Rattle.arena.specs.Tables.{tables}
+use Rattle.arena.specs.Models.{goneBy, dropPlace}
+use Rattle.arena.specs.Tables.{stateIn, tables}
 use Rattle.arena.proofs.Eight.{each-end}
-use Rattle.arena.proofs.all_empty.Reads as all-empty-reads
 use Rattle.arena.proofs.slot_of.Reads as slot-of-reads
-use Rattle.arena_release.specs.Drop.{arenaOf}
-use Rattle.arena_release.proofs.Dropping.{again-last, again-taken, slot-all, slot-bare, slot-none}
+use Rattle.arena_release.proofs.Dropping.{again-last, again-taken, slot-all, slot-leaf, slot-none}
 use Rattle.arena_release.proofs.drop_all.Reads as drop-all
 use Rattle.arena_release.proofs.drop_all.Kinds as drop-all-kinds
 use Rattle.arena_release.proofs.drop_slot.Reads as drop-slot
@@ -45,13 +45,13 @@ slot-below t = and 3 drop-slot-kinds.ps (falls 3 drop-slot-kinds.ps _<_ μ-slot 
 
 -- invariant: the ids from i on, dropped from the tables as they are, leave what all eight, dropped from the tables as they were, leave
 abbrev Inv-loop : all-lts.InvT-loop
-Inv-loop capacity kids₀ facts₀ find₀ levels ids b₀ i₀ kids facts find b i =
+Inv-loop capacity slots kids₀ facts₀ find₀ levels ids gone₀ i₀ kids facts find gone i =
     (i ≤ 8) × (length ids ≡ 8) × (length kids ≡ length kids₀) × (length facts ≡ length facts₀) × (length find ≡ length find₀)
-    × (each (dropPlace (levels + 1)) (tables (arenaOf capacity (b₀ .next) (b₀ .top) (b₀ .live)) kids₀ facts₀ find₀) ids
-    ≡ each (dropPlace (levels + 1)) (tables (arenaOf capacity (b .next) (b .top) (b .live)) kids facts find) (drop i ids))
+    × (each (dropPlace goneBy (levels + 1)) (tables (stateIn capacity slots) kids₀ facts₀ find₀) ids
+    ≡ each (dropPlace goneBy (levels + 1)) (tables (stateIn capacity gone) kids facts find) (drop i ids))
 
 abbrev μ-loop : all-lts.MeasureT-loop
-μ-loop capacity kids₀ facts₀ find₀ levels ids b₀ i₀ kids facts find b i = 8 - i
+μ-loop capacity slots kids₀ facts₀ find₀ levels ids gone₀ i₀ kids facts find gone i = 8 - i
 
 pub +drop-all+drop-slot-spec : {M : Type 1} → statement M
 +drop-all+drop-slot-spec = close μ-all μ-slot (λ t. all-lts.spec (
@@ -72,17 +72,19 @@ pub +drop-all+drop-slot-spec : {M : Type 1} → statement M
     (λ c. (search needs, search needs, search needs, search needs, search needs, search again-taken)) (λ c. search needs) (λ c. search needs)
     (λ c. search needs) (λ c. search each-end))
     λ t. slot-lts.spec (
-      children-reads.Asked,
-      children-reads.Learnt,
+      fact-reads.Asked,
+      fact-reads.Learnt,
       recycle-reads.Asked,
       recycle-reads.Learnt,
-      all-empty-reads.Asked,
-      all-empty-reads.Learnt,
+      children-reads.Asked,
+      children-reads.Learnt,
+      put-children-reads.Asked,
+      put-children-reads.Learnt,
       all-below t,
       drop-all.Post,
     )
     (slot-at t)
     drop-slot.Post
-    (λ c κs. search needs) (λ c κs. search needs) (λ c κs. search needs) (λ c. search needs) (λ c. search needs) (λ c. search needs)
-    (λ c. search slot-bare) (λ c. search needs) (λ c. search needs) (λ c. search needs) (λ c. search slot-none) (λ c. search needs)
-    (λ c κs. search needs) (λ c. search needs) (λ c. search needs) (λ c. search needs) (λ c. search slot-all)
+    (λ c κs. search needs) (λ c κs. search needs) (λ c. search needs) (λ c. search needs) (λ c. search slot-leaf) (λ c κs. search needs) (λ c κs. search needs)
+    (λ c. search needs) (λ c. search needs) (λ c. search needs) (λ c. search slot-none) (λ c. search needs) (λ c κs. search needs)
+    (λ c. search needs) (λ c. search needs) (λ c. search needs) (λ c. search slot-all)

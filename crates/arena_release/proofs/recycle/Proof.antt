@@ -1,32 +1,27 @@
 use borrow.Author.Needs.{needs}
 use mathlib.Core.Path.{_≡_, refl, ap, _∙_}
 use mathlib.Core.List.{List}
-use Prim.Native.Nat.{ℕ, _-_}
-use lib.Dec.{eqb}
-use Rattle.nodes.specs.Tally.{kidsOf}
-use Rattle.nodes.specs.Words.{factOf, kidOf, nodes, own, value, wordOf, written}
-use Rattle.find_hash.specs.Hash.{homeFor}
-use Rattle.find.specs.Cells.{erase, probe, remove}
+use Prim.Native.Nat.{ℕ, _%_, _^_}
+use Rattle.nodes.specs.Words.{factOf, factPut, factsPut, own, entry, wordOf}
+use Rattle.nodes.proofs.Access.{nodes-path}
+use Rattle.find.specs.Cells.{remove}
 use Rattle.find.specs.Content.{homeAt}
-use Rattle.arena.specs.Calls.{deadFacts, empties, recycled}
-use Rattle.arena.specs.Tables.{Tables, tables}
-use Rattle.arena.proofs.Outs.{arena-path, tables-path}
-use Rattle.arena_release.specs.Drop.{arenaOf}
-use Rattle.arena_release.proofs.Dropping.{home-known}
+use Rattle.arena.specs.Calls.{deadFacts}
+use Rattle.arena.specs.Models.{moreOf, recycledBy}
+use Rattle.arena.specs.Tables.{nextIn, freedIn, stateIn, tables}
+use Rattle.arena.proofs.Outs.{state-path, tables-path}
 use Rattle.arena_release.proofs.recycle.Statement.{statement}
 use Rattle.arena_release.proofs.recycle.Tie as tie
 
-done : (c n t v : ℕ) (k f e b k′ f′ e′ : List ℕ) (s w from l : ℕ) → b ≡ kidsOf 8 (kidOf k) s → w ≡ factOf f s value → from ≡ homeFor c b w
-    → e′ ≡ erase (homeAt c (wordOf (nodes k f))) e (probe (eqb s) e from)
-    → nodes k′ f′ ≡ written (nodes k f) s empties (deadFacts (factOf f s own) t) → l ≡ v - 1
-    → _≡_ {A = Tables} (tables (arenaOf c n s l) k′ f′ e′) (recycled (tables (arenaOf c n t v) k f e) s)
-unfolding recycled wordOf remove
-done c n t v k f e b k′ f′ e′ s w from l eb ew eh ee em el =
-    tables-path _ _ _ _ _ _ (arena-path _ _ _ _ _ _ _ _ refl refl refl el) em
-    (ee ∙ ap (λ (h : ℕ). erase (homeAt c (wordOf (nodes k f))) e (probe (eqb s) e h)) (home-known c s k f b w from eb ew eh))
+done : (c w r g n v s : ℕ) (f e f′ e′ : List ℕ) → g ≡ freedIn w → e′ ≡ remove (homeAt c (factOf f)) e s
+    → f′ ≡ factPut (factsPut f s (deadFacts (factOf f s own) g)) g entry (s % 2 ^ 32) → n ≡ nextIn w → v ≡ moreOf g
+    → (nextIn r ≡ n) × (freedIn r ≡ v) → (k : List ℕ) → tables (stateIn c r) k f′ e′ ≡ recycledBy (tables (stateIn c w) k f e) s
+unfolding recycledBy wordOf homeAt
+done c w r g n v s f e f′ e′ eg ee em en ev er k =
+    tables-path _ _ _ _ _ _ (state-path _ _ _ _ _ _ refl (er .0 ∙ en) (er .1 ∙ ev ∙ ap moreOf eg))
+    (nodes-path _ _ _ _ refl (em ∙ ap (λ (x : ℕ). factPut (factsPut f s (deadFacts (factOf f s own) x)) x entry (s % 2 ^ 32)) eg)) ee
 
 pub recycle-spec : {M : Type 1} → statement M
 recycle-spec =
     tie.close
-    (tie.spec (λ c κs. search needs) (λ c κs. search needs) (λ c κs. search needs) (λ c κs. search needs) (λ c κs. search needs) (λ c. search needs) (λ c. search needs)
-    (λ c. search needs) (λ c. search done))
+    (tie.spec (λ c κs. search needs) (λ c κs. search needs) (λ c κs. search needs) (λ c κs. search needs) (λ c κs. search needs) (λ c κs. search needs) (λ c. search needs) (λ c. search needs) (λ c. search done))

@@ -9,15 +9,14 @@ use Rattle.basics.specs.Pick.{pick}
 use Rattle.nodes.specs.Words.{factOf, holds, slot, wordOf}
 use Rattle.arena.specs.Calls.{did, releaseNo, thereNo}
 use Rattle.arena.specs.Models.{releaseAny, releaseBy}
-use Rattle.arena.specs.Tables.{Tables, W, tables}
-use Rattle.arena.specs.declared.Arena.{Arena}
+use Rattle.arena.specs.Tables.{stateIn, Tables, W, tables}
 use Rattle.arena.proofs.Fits.{there-law}
 use Rattle.arena_release.proofs.release_any.Statement.{statement}
 use Rattle.arena_release.proofs.release_any.Tie as tie
 
-module _ (a : Arena) (k f e : List ℕ) (id x : ℕ) (ex : x ≡ thereNo (tables a k f e) id) where
+module _ (c slots : ℕ) (k f e : List ℕ) (id x : ℕ) (ex : x ≡ thereNo (tables (stateIn c slots) k f e) id) where
   abbrev t : Tables
-  t = tables a k f e
+  t = tables (stateIn c slots) k f e
 
   number : releaseNo t id ≡ pick (eqb x 0) (pick (eqb id 0) 0 (pick (eqb (W t (slot id) holds) 0) 5 0)) x
   unfolding releaseNo
@@ -38,17 +37,16 @@ module _ (a : Arena) (k f e : List ℕ) (id x : ℕ) (ex : x ≡ thereNo (tables
       here : h ≡ factOf f (slot id) holds
       here = eh ∙ ap (λ (y : ℕ). factOf f y holds) es
 
-      unheld : (k′ f′ e′ : List ℕ) → k′ ≡ k → f′ ≡ f → e′ ≡ e → h ≡ 0 → did 5 (tables a k′ f′ e′) ≡ releaseAny deepest t id
+      unheld : (k′ f′ e′ : List ℕ) → k′ ≡ k → f′ ≡ f → e′ ≡ e → h ≡ 0 → did 5 (tables (stateIn c slots) k′ f′ e′) ≡ releaseAny deepest t id
       unfolding releaseAny wordOf
       unheld k′ f′ e′ ek ef ee n = rw (ek, ef, ee, number, eq-eqb x 0 z, ne-eqb id 0 d, eq-eqb (factOf f (slot id) holds) 0 (sym here ∙ n))
 
-      freed : (b : Arena) (k′ f′ e′ : List ℕ) → (h ≡ 0 → ⊥) → tables b k′ f′ e′ ≡ releaseBy deepest t id → did 0 (tables b k′ f′ e′) ≡ releaseAny deepest t id
+      freed : (w : ℕ) (k′ f′ e′ : List ℕ) → (h ≡ 0 → ⊥) → tables (stateIn c w) k′ f′ e′ ≡ releaseBy deepest t id → did 0 (tables (stateIn c w) k′ f′ e′) ≡ releaseAny deepest t id
       unfolding releaseAny wordOf
-      freed b k′ f′ e′ n eu = rw (number, eq-eqb x 0 z, ne-eqb id 0 d, ne-eqb (factOf f (slot id) holds) 0 (λ y. n (here ∙ y))) (ap (did 0) eu)
+      freed w k′ f′ e′ some eu = rw (number, eq-eqb x 0 z, ne-eqb id 0 d, ne-eqb (factOf f (slot id) holds) 0 (λ y. some (here ∙ y))) (ap (did 0) eu)
 
 pub release-any-spec : {M : Type 1} → statement M
 release-any-spec =
     tie.close
-    (tie.spec (λ c κs. search needs) (λ c. search needs) (λ c. search needs) (λ c. search needs) (λ c. search refusal) (λ c. search needs)
-    (λ c. search needs) (λ c. search needs) (λ c. search nothing) (λ c κs. search needs) (λ c κs. search needs) (λ c. search needs) (λ c. search needs)
-    (λ c. search needs) (λ c. search unheld) (λ c κs. search needs) (λ c. search needs) (λ c. search needs) (λ c. search needs) (λ c. search freed))
+    (tie.spec (λ c κs. search needs) (λ c. search needs) (λ c. search needs) (λ c. search needs) (λ c. search refusal) (λ c. search needs) (λ c. search needs) (λ c. search needs) (λ c. search nothing) (λ c κs. search needs) (λ c κs. search needs) (λ c. search needs) (λ c. search needs) (λ c. search needs) (λ c. search unheld)
+    (λ c κs. search needs) (λ c. search needs) (λ c. search needs) (λ c. search needs) (λ c. search freed))

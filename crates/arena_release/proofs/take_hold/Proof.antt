@@ -6,5 +6,4 @@ use Rattle.arena_release.proofs.take_hold.Tie as tie
 pub take-hold-spec : {M : Type 1} → statement M
 take-hold-spec =
     tie.close
-    (tie.spec (λ c κs. search needs) (λ c κs. search needs) (λ c κs. search needs) (λ c κs. search needs)
-    (λ c. search needs) (λ c. search needs) (λ c. search needs) (λ c. search hold-goes) (λ c. search needs) (λ c. search hold-stays))
+    (tie.spec (λ c κs. search needs) (λ c κs. search needs) (λ c κs. search needs) (λ c κs. search needs) (λ c. search needs) (λ c. search needs) (λ c. search needs) (λ c. search hold-goes) (λ c. search needs) (λ c. search hold-stays))

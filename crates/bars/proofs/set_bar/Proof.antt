@@ -10,7 +10,7 @@ returns c =
     let start = c .before .before .before .before .before .before .before .before .before .before .before .before .before .before .before .before .before .before .before .before .before .before .before .before in
     let first = c .before .before .before .before .before .before .before .before .before .before .before .before .before .before .before .before .set-voxel in
     let rest = c .before .before .before .before .before .before .onward in
-    bar-law (start .args .arena) _ _ _ _ _ _ _ _ _ _ (omega (arith, start .fits .value .fits)) _ (c .before .before .before .before .before .before .before .before .before .before .before .before .before .before .before .before .before .before .before .before .cell .ensures) (first .result) _ _ _ (first .ensures) (madeOf (rest .result) _ _ _) (rest .ensures)
+    bar-law (start .args .arena) _ _ _ _ _ _ _ _ _ _ (omega (arith, start .fits .value .fits)) _ (c .before .before .before .before .before .before .before .before .before .before .before .before .before .before .before .before .before .before .before .before .cell .ensures) (first .result) _ _ _ (first .ensures) (madeOf (start .args .arena .capacity) (rest .result) _ _ _) (rest .ensures)
 
 pub set-bar-spec : {M : Type 1} → statement M
 set-bar-spec =

@@ -8,10 +8,10 @@ use Rattle.check_arena.proofs.slots_fine.Tie as tie
 
 -- invariant: every slot is fine if those from s on are
 abbrev Inv-loop : tie.InvT-loop
-Inv-loop kids facts arena s₀ s = Passed (slotFine kids facts (arena .capacity) (arena .next)) 0 s (arena .capacity)
+Inv-loop kids facts capacity next s₀ s = Passed (slotFine kids facts capacity next) 0 s capacity
 
 abbrev μ-loop : tie.MeasureT-loop
-μ-loop kids facts arena s₀ s = (arena .capacity) - s
+μ-loop kids facts capacity next s₀ s = capacity - s
 
 pub slots-fine-spec : {M : Type 1} → statement M
 slots-fine-spec =

@@ -3,7 +3,7 @@ use Prim.Native.Nat.{ℕ, _-_, _≤_}
 use mathlib.Core.Path.{_≡_}
 use mathlib.Core.List.{List}
 use lib.ListN.{length}
-use Rattle.nodes.specs.Words.{kidOf, link}
+use Rattle.nodes.specs.Words.{kidOf, mark}
 use Rattle.nodes.specs.Tally.{kidsOf}
 use Rattle.arena.specs.Calls.{each}
 use Rattle.arena.specs.Models.{bumped}
@@ -12,7 +12,7 @@ use Rattle.check_freed.proofs.Passes.{turn-first, turn-next, turn-last}
 use Rattle.check_places.proofs.count_all.Statement.{statement}
 use Rattle.check_places.proofs.count_all.Tie as tie
 
-turn : (k l m ks : List ℕ) (s : ℕ) → ks ≡ kidsOf 8 (kidOf k) s → m ≡ each (bumped link) l ks → m ≡ kidsBumped k l s
+turn : (k l m ks : List ℕ) (s : ℕ) → ks ≡ kidsOf 8 (kidOf k) s → m ≡ each (bumped mark) l ks → m ≡ kidsBumped k l s
 unfolding kidsBumped
 turn k l m ks s q d = rw (d, q)
 

@@ -8,8 +8,7 @@ use Rattle.basics.proofs.Rungs.{eq-via, ne-via}
 use Rattle.nodes.specs.Words.{factOf, wordOf, nodes}
 use Rattle.nodes.specs.Values.{heightAt}
 use Rattle.paths.specs.declared.Cell.{Cell}
-use Rattle.arena.specs.Tables.{tables}
-use Rattle.arena.specs.declared.Arena.{Arena}
+use Rattle.arena.specs.Tables.{State, tables}
 use Rattle.read_cell.specs.Models.{lookNoAt}
 use Rattle.edit.specs.Models.{editNoAt}
 use Rattle.edit.proofs.early_no.Statement.{statement}
@@ -19,7 +18,7 @@ height-facts : (k f : List ℕ) (id : ℕ) → heightAt (factOf f) id ≡ height
 unfolding heightAt wordOf
 height-facts k f id = refl
 
-module _ (a : Arena) (k f e : List ℕ) (root : ℕ) (c : Cell) where
+module _ (a : State) (k f e : List ℕ) (root : ℕ) (c : Cell) where
   refused : (o : ℕ) → o ≡ lookNoAt (tables a k f e) root c → (o ≡ 0 → ⊥) → o ≡ editNoAt (tables a k f e) root c
   unfolding editNoAt
   refused o eo n = rw (ne-via o (lookNoAt (tables a k f e) root c) 0 eo n) eo
@@ -41,4 +40,4 @@ ruleset mine = (refused, low, tall)
 pub early-no-spec : {M : Type 1} → statement M
 early-no-spec =
     tie.close
-    (tie.spec (λ c κs. search needs) (λ c. search mine) (λ c κs. search needs) (λ c. search needs) (λ c. search mine) (λ c. search mine))
+    (tie.spec (λ c κs. search needs) (λ c. search mine) (λ c κs. search needs) (λ c. search mine) (λ c. search mine))

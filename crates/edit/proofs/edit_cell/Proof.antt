@@ -5,15 +5,14 @@ use Prim.Native.Nat.{ℕ}
 use Rattle.basics.proofs.Rungs.{eq-via, ne-via}
 use Rattle.paths.specs.declared.Cell.{Cell}
 use Rattle.arena.specs.Calls.{Out, refused}
-use Rattle.arena.specs.Tables.{tables}
-use Rattle.arena.specs.declared.Arena.{Arena}
+use Rattle.arena.specs.Tables.{State, tables}
 use Rattle.edit_plan.specs.Models.{resultBy}
 use Rattle.edit_plan.specs.declared.Plan.{Plan}
 use Rattle.edit.specs.Models.{editNoAt, editPast, editBy}
 use Rattle.edit.proofs.edit_cell.Statement.{statement}
 use Rattle.edit.proofs.edit_cell.Tie as tie
 
-module _ (a : Arena) (k f e : List ℕ) (root v : ℕ) (c : Cell) (o : ℕ) (eo : o ≡ editNoAt (tables a k f e) root c) where
+module _ (a : State) (k f e : List ℕ) (root v : ℕ) (c : Cell) (o : ℕ) (eo : o ≡ editNoAt (tables a k f e) root c) where
   no-edit : (o ≡ 0 → ⊥) → refused o (tables a k f e) ≡ editBy (tables a k f e) root c v
   unfolding editBy
   no-edit n = rw (ne-via o (editNoAt (tables a k f e) root c) 0 eo n) (ap (λ (i : ℕ). refused i (tables a k f e)) eo)

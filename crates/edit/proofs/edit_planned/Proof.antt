@@ -5,14 +5,13 @@ use Prim.Native.Nat.{ℕ}
 use Rattle.basics.proofs.Rungs.{eq-via, ne-via}
 use Rattle.paths.specs.declared.Cell.{Cell}
 use Rattle.arena.specs.Calls.{Out, refused}
-use Rattle.arena.specs.Tables.{tables}
-use Rattle.arena.specs.declared.Arena.{Arena}
+use Rattle.arena.specs.Tables.{State, tables}
 use Rattle.edit.specs.Models.{grantBy, answerBy, editPast}
 use Rattle.edit_plan.specs.declared.Plan.{Plan}
 use Rattle.edit.proofs.edit_planned.Statement.{statement}
 use Rattle.edit.proofs.edit_planned.Tie as tie
 
-module _ (a : Arena) (k f e : List ℕ) (v root : ℕ) (c : Cell) (b : Plan) (o : ℕ) (eo : o ≡ grantBy (tables a k f e) b) where
+module _ (a : State) (k f e : List ℕ) (v root : ℕ) (c : Cell) (b : Plan) (o : ℕ) (eo : o ≡ grantBy (tables a k f e) b) where
   no-hold : (o ≡ 0 → ⊥) → refused o (tables a k f e) ≡ editPast (tables a k f e) v c root b
   unfolding editPast
   no-hold n = rw (ne-via o (grantBy (tables a k f e) b) 0 eo n) (ap (λ (i : ℕ). refused i (tables a k f e)) eo)

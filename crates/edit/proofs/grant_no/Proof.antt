@@ -6,14 +6,13 @@ use native.Mathlib.Omega.{arith}
 use borrow.Author.Tests.{eq-eqb, ne-eqb, le-leb, lt-leb}
 use Rattle.nodes.specs.Words.{factOf, wordOf, nodes, holds, slot}
 use Rattle.arena.specs.Calls.{fullOf}
-use Rattle.arena.specs.Tables.{tables}
-use Rattle.arena.specs.declared.Arena.{Arena}
+use Rattle.arena.specs.Tables.{State, liveIn, tables}
 use Rattle.edit.specs.Models.{grantBy}
 use Rattle.edit_plan.specs.declared.Plan.{Plan}
 use Rattle.edit.proofs.grant_no.Statement.{statement}
 use Rattle.edit.proofs.grant_no.Tie as tie
 
-module _ (a : Arena) (k f e : List ℕ) (p : Plan) where
+module _ (a : State) (k f e : List ℕ) (p : Plan) where
   nothing : p .new ≡ 0 → p .id ≡ 0 → 0 ≡ grantBy (tables a k f e) p
   unfolding grantBy
   nothing z q = rw (eq-eqb (p .new) 0 z, eq-eqb (p .id) 0 q)
@@ -34,13 +33,13 @@ module _ (a : Arena) (k f e : List ℕ) (p : Plan) where
       let r = word s w es ew in
       rw (eq-eqb (p .new) 0 z, ne-eqb (p .id) 0 q, lt-leb 1000000 (wordOf (nodes k f) (slot (p .id)) holds) (omega arith))
 
-  room : (r : ℕ) → (p .new ≡ 0 → ⊥) → r ≡ a .capacity - 1 - a .live → p .new ≤ r → 0 ≡ grantBy (tables a k f e) p
+  room : (r : ℕ) → (p .new ≡ 0 → ⊥) → r ≡ a .capacity - 1 - liveIn a → p .new ≤ r → 0 ≡ grantBy (tables a k f e) p
   unfolding grantBy
-  room r z er h = rw (ne-eqb (p .new) 0 z, le-leb (p .new) (a .capacity - 1 - a .live) (omega arith))
+  room r z er h = rw (ne-eqb (p .new) 0 z, le-leb (p .new) (a .capacity - 1 - liveIn a) (omega arith))
 
-  short : (r : ℕ) → (p .new ≡ 0 → ⊥) → r ≡ a .capacity - 1 - a .live → r < p .new → 11 ≡ grantBy (tables a k f e) p
+  short : (r : ℕ) → (p .new ≡ 0 → ⊥) → r ≡ a .capacity - 1 - liveIn a → r < p .new → 11 ≡ grantBy (tables a k f e) p
   unfolding grantBy
-  short r z er h = rw (ne-eqb (p .new) 0 z, lt-leb (p .new) (a .capacity - 1 - a .live) (omega arith))
+  short r z er h = rw (ne-eqb (p .new) 0 z, lt-leb (p .new) (a .capacity - 1 - liveIn a) (omega arith))
 
 ruleset mine = (nothing, full, held, room, short)
 
@@ -48,4 +47,4 @@ pub grant-no-spec : {M : Type 1} → statement M
 grant-no-spec =
     tie.close
     (tie.spec (λ c. search mine) (λ c κs. search needs) (λ c κs. search needs) (λ c. search mine) (λ c. search mine)
-    (λ c κs. search needs) (λ c. search mine) (λ c. search mine))
+    (λ c. search needs) (λ c κs. search needs) (λ c. search mine) (λ c. search mine))

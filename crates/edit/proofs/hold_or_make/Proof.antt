@@ -7,15 +7,14 @@ use Rattle.paths.specs.declared.Cell.{Cell}
 use Rattle.nodes.specs.Words.{holds}
 use Rattle.arena.specs.Calls.{Out, said}
 use Rattle.arena.specs.Models.{bumped}
-use Rattle.arena.specs.Tables.{tables}
-use Rattle.arena.specs.declared.Arena.{Arena}
+use Rattle.arena.specs.Tables.{State, tables}
 use Rattle.edit_make.specs.Models.{makeAt}
 use Rattle.edit.specs.Models.{answerBy}
 use Rattle.edit_plan.specs.declared.Plan.{Plan}
 use Rattle.edit.proofs.hold_or_make.Statement.{statement}
 use Rattle.edit.proofs.hold_or_make.Tie as tie
 
-module _ (a : Arena) (k f e : List ℕ) (v root : ℕ) (c : Cell) (b : Plan) where
+module _ (a : State) (k f e : List ℕ) (v root : ℕ) (c : Cell) (b : Plan) where
   there : (g : List ℕ) → b .new ≡ 0 → g ≡ bumped holds f (b .id) → said 0 (b .id) (tables a k g e) ≡ answerBy (tables a k f e) v c root b
   unfolding answerBy
   there g n eg = rw (eq-eqb (b .new) 0 n) (ap (λ (i : List ℕ). said 0 (b .id) (tables a k i e)) eg)

@@ -4,9 +4,13 @@ use borrow.Fn.Kinds.{In}
 use borrow.Fn.PlainCycle.{Measures, is, falls, and}
 use Rattle.paths.proofs.octant.Reads as octant-reads
 use Rattle.arena.proofs.bump.Reads as bump-reads
+use Rattle.new_value.proofs.value_at.Reads as value-at-reads
+use Rattle.new_value.proofs.height_at.Reads as height-at-reads
 use Rattle.edit_plan.proofs.parts.Reads as parts-reads
 use Rattle.edit_make.proofs.Steps.{make-deep, make-none, make-end, make-step, make-up}
 use Rattle.edit_make.proofs.branch_over.Reads as branch-over-reads
+use Rattle.edit_make.proofs.hash_over.Reads as hash-over-reads
+use Rattle.edit_make.proofs.sum_over.Reads as sum-over-reads
 use Rattle.edit_make.proofs.leaf_anew.Reads as leaf-anew-reads
 use Rattle.edit_make.proofs.make.Reads as make
 use Rattle.edit_make.proofs.make.Kinds as make-kinds
@@ -55,6 +59,14 @@ pub +make+make-over-spec : {M : Type 1} → statement M
       parts-reads.Learnt,
       octant-reads.Asked,
       octant-reads.Learnt,
+      hash-over-reads.Asked,
+      hash-over-reads.Learnt,
+      sum-over-reads.Asked,
+      sum-over-reads.Learnt,
+      value-at-reads.Asked,
+      value-at-reads.Learnt,
+      height-at-reads.Asked,
+      height-at-reads.Learnt,
       make-below t,
       make.Post,
       branch-over-reads.Asked,
@@ -62,12 +74,19 @@ pub +make+make-over-spec : {M : Type 1} → statement M
     )
     (make-over-at t)
     make-over.Post
-    (λ c κs. search needs) (λ c. search needs) (λ c κs. search needs) (λ c. search needs) (λ c. search needs) (λ c. search needs)
+    (λ c κs. search needs) (λ c. search needs) (λ c κs. search needs) (λ c. search needs) (λ c κs. search needs) (λ c κs. search needs)
+    (λ c. search needs) (λ c. search needs) (λ c κs. search needs) (λ c κs. search needs) (λ c. search needs) (λ c. search needs)
     (λ c κs. search needs) (λ c κs. search needs) (λ c. search needs) (λ c. search needs) (λ c. search needs)
     (λ c.
     let start = c .before .before .before .before .before .before .before .before .before .before .before .before .before .before .before .before in
+    let over = c .before .before .before .before .before .before .branch-over .ensures in
     let made = start .make .ensures in
-    let octant = start .before .before .before .before .before .octant .ensures in
-    let parts = start .before .before .before .before .before .before .before .parts .ensures in
-    let asked = start .before .before .before .before .before .before .before .before .before .before .before .before .pre .1 in
-    search make-step)
+    let tall = start .before .before .before .before .height-at .ensures in
+    let worth = start .before .before .before .before .before .before .value-at .ensures in
+    let kept = start .before .before .before .before .before .before .before .before in
+    let summed = kept .sum-over .ensures in
+    let hashed = kept .before .before .hash-over .ensures in
+    let octant = kept .before .before .before .before .before .octant .ensures in
+    let parts = kept .before .before .before .before .before .before .before .parts .ensures in
+    let asked = kept .before .before .before .before .before .before .before .before .before .before .before .before .pre .1 in
+    make-step _ _ _ _ _ _ _ _ _ _ _ _ _ _ _ _ _ _ (asked .0) (asked .1) (asked .2) parts (octant .0) (octant .1) made hashed summed worth tall over)

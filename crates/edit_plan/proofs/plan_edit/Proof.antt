@@ -11,8 +11,7 @@ use Rattle.paths.specs.declared.Cell.{Cell}
 use Rattle.tree.specs.Tree as tree
 use Rattle.tree.specs.Cells.{pathTo}
 use Rattle.nodes.specs.Values.{valueAt}
-use Rattle.arena.specs.Tables.{tables}
-use Rattle.arena.specs.declared.Arena.{Arena}
+use Rattle.arena.specs.Tables.{State, tables}
 use Rattle.read_cell.specs.declared.End.{End}
 use Rattle.read_cell.specs.Reading.{descent, endOf}
 use Rattle.read_cell.proofs.Ends.{look-descent, end-kids}
@@ -22,7 +21,7 @@ use Rattle.edit_plan.proofs.Plans.{value-facts}
 use Rattle.edit_plan.proofs.plan_edit.Statement.{statement}
 use Rattle.edit_plan.proofs.plan_edit.Tie as tie
 
-module _ (a : Arena) (k f e : List ℕ) (root v : ℕ) (c : Cell) where
+module _ (a : State) (k f e : List ℕ) (root v : ℕ) (c : Cell) where
   deep : deepest < c .depth → planned 0 invalid ≡ resultBy (tables a k f e) v c root
   unfolding resultBy
   deep l = rw (lt-leb (c .depth) deepest l)

@@ -5,7 +5,7 @@ use mathlib.Core.Path.{_≡_, sym, _∙_}
 use mathlib.Core.List.{List}
 use lib.ListN.{length, getD, set}
 use Rattle.find_remove.proofs.erase_at.Tie as tie
-use Rattle.nodes.specs.Words.{nodes, wordOf}
+use Rattle.nodes.specs.Words.{factOf}
 use Rattle.find.specs.Cells.{shift, erase}
 use Rattle.find.specs.Content.{homeAt}
 use Rattle.find.proofs.Steps.{shift-end, shift-empty, shift-move, shift-skip, erase-start, erase-out}
@@ -32,10 +32,10 @@ module _ (home : ℕ → ℕ) (u : List ℕ) (t : List ℕ) (i j : ℕ) (e : u �
 
 -- invariant: taking the cell out leaves what moving the entries from j on down into the hole leaves
 abbrev Inv-loop : tie.InvT-loop
-Inv-loop find₀ kids facts capacity at hole₀ j₀ find hole j = (hole < j) × (hole < length find) × (length find ≡ length find₀) × (erase (homeAt capacity (wordOf (nodes kids facts))) find₀ at ≡ shift (homeAt capacity (wordOf (nodes kids facts))) find hole j)
+Inv-loop find₀ facts capacity at hole₀ j₀ find hole j = (hole < j) × (hole < length find) × (length find ≡ length find₀) × (erase (homeAt capacity (factOf facts)) find₀ at ≡ shift (homeAt capacity (factOf facts)) find hole j)
 
 abbrev μ-loop : tie.MeasureT-loop
-μ-loop find₀ kids facts capacity at hole₀ j₀ find hole j = length find₀ - j
+μ-loop find₀ facts capacity at hole₀ j₀ find hole j = length find₀ - j
 
 pub erase-at-spec : {M : Type 1} → statement M
 erase-at-spec =

@@ -1,29 +1,34 @@
 use borrow.Author.Needs.{needs}
-use mathlib.Core.Path.{_≡_, ap, _∙_}
-use mathlib.Core.List.{List}
+use mathlib.Core.Path.{_≡_, refl, ap, ap₂, _∙_}
+use mathlib.Core.List.{List, [], _∷_}
 use Prim.Native.Nat.{ℕ, _%_, _^_}
+use lib.ListN.{set}
 use Rattle.ids.specs.Ids.{generationOf, newBranch}
-use Rattle.nodes.specs.Words.{factOf, wordOf, own}
-use Rattle.arena.specs.Calls.{Out, freshSlot}
-use Rattle.arena.specs.Models.{freshAt, branchFresh}
+use Rattle.nodes.specs.Words.{factOf, factsPut, rowPut, wordOf, own, written}
+use Rattle.nodes.proofs.Access.{nodes-path}
+use Rattle.arena.specs.Calls.{freshFacts, freshSlot, givenBy, said}
+use Rattle.arena.specs.Models.{moreOf, freshAt, branchFresh}
 use Rattle.arena.specs.Node.{kidTypes, kidMask}
-use Rattle.arena.specs.Tables.{tables}
-use Rattle.arena.specs.declared.Arena.{Arena}
+use Rattle.arena.specs.Tables.{stateIn, tables}
+use Rattle.arena.proofs.Outs.{said-path, tables-path}
 use Rattle.new_node.proofs.fresh_branch.Statement.{statement}
 use Rattle.new_node.proofs.fresh_branch.Tie as tie
 
-done : (a : Arena) (k f e ks : List ℕ) (at v up h q s w id : ℕ) (r : Out) → s ≡ freshSlot a → w ≡ factOf f s own
-    → id ≡ newBranch (s % 2 ^ 32) (generationOf w) (kidTypes ks) (kidMask ks)
-    → r ≡ freshAt (tables a k f e) id ks v up h q at → r ≡ branchFresh (tables a k f e) ks v up h q at
-unfolding branchFresh wordOf
-done a k f e ks at v up h q s w id r es ew ei er =
-    let i : id ≡ newBranch (freshSlot a % 2 ^ 32) (generationOf (factOf f (freshSlot a) own)) (kidTypes ks) (kidMask ks) =
-    ei ∙ ap (λ (x : ℕ). newBranch (s % 2 ^ 32) (generationOf x) (kidTypes ks) (kidMask ks)) ew
-    ∙ ap (λ (x : ℕ). newBranch (x % 2 ^ 32) (generationOf (factOf f x own)) (kidTypes ks) (kidMask ks)) es in
-    er ∙ ap (λ (x : ℕ). freshAt (tables a k f e) x ks v up h q at) i
+done : (c slots : ℕ) (k f e ks : List ℕ) (at v up sm kh h q s w id r : ℕ) (k′ f′ e′ : List ℕ) → s ≡ freshSlot (stateIn c slots) (factOf f) → w ≡ factOf f s own
+    → id ≡ newBranch (s % 2 ^ 32) (generationOf w) (kidTypes ks) (kidMask ks) → k′ ≡ rowPut 8 k s ks → f′ ≡ factsPut f s (id ∷ v ∷ up ∷ sm ∷ 0 ∷ kh ∷ h ∷ q ∷ 0 ∷ [])
+    → e′ ≡ set e at (s % 65536) → ((c : ℕ) → stateIn c r ≡ givenBy moreOf (stateIn c slots))
+    → said 0 id (tables (stateIn c r) k′ f′ e′) ≡ branchFresh (tables (stateIn c slots) k f e) ks v up sm kh h q at
+unfolding branchFresh freshAt freshSlot wordOf freshFacts written
+done c slots k f e ks at v up sm kh h q s w id r k′ f′ e′ es ew ei ek ef ee eb =
+    let spot = freshSlot (stateIn c slots) (factOf f) in
+    let i : id ≡ newBranch (spot % 2 ^ 32) (generationOf (factOf f spot own)) (kidTypes ks) (kidMask ks) =
+    ei ∙ ap (λ (x : ℕ). newBranch (s % 2 ^ 32) (generationOf x) (kidTypes ks) (kidMask ks)) ew ∙ ap (λ (x : ℕ). newBranch (x % 2 ^ 32) (generationOf (factOf f x own)) (kidTypes ks) (kidMask ks)) es in
+    said-path _ _ _ _ _ _ refl i
+    (tables-path _ _ _ _ _ _ (eb c)
+    (nodes-path _ _ _ _ (ek ∙ ap (λ (x : ℕ). rowPut 8 k x ks) es) (ef ∙ ap₂ (λ (x y : ℕ). factsPut f x (y ∷ v ∷ up ∷ sm ∷ 0 ∷ kh ∷ h ∷ q ∷ 0 ∷ [])) es i))
+    (ee ∙ ap (λ (x : ℕ). set e at (x % 65536)) es))
 
 pub fresh-branch-spec : {M : Type 1} → statement M
 fresh-branch-spec =
     tie.close
-    (tie.spec (λ c κs. search needs) (λ c κs. search needs) (λ c κs. search needs) (λ c κs. search needs) (λ c. search needs)
-    (λ c. search needs) (λ c. search needs) (λ c. search done))
+    (tie.spec (λ c κs. search needs) (λ c κs. search needs) (λ c κs. search needs) (λ c κs. search needs) (λ c κs. search needs) (λ c κs. search needs) (λ c κs. search needs) (λ c. search needs) (λ c. search needs) (λ c. search needs) (λ c. search done))

@@ -1,27 +1,25 @@
 use borrow.Author.Needs.{needs}
-use mathlib.Core.Path.{_≡_, refl}
-use mathlib.Core.List.{List}
-use Prim.Native.Nat.{ℕ}
+use mathlib.Core.Path.{_≡_, refl, sym, _∙_}
+use Prim.Native.Nat.{ℕ, _-_}
+use native.Mathlib.Omega.{arith}
 use borrow.Author.Tests.{eq-eqb, ne-eqb}
-use Rattle.nodes.specs.Words.{factOf, link}
 use Rattle.arena.specs.Calls.{givenBy}
 use Rattle.arena.specs.Models.{moreOf}
-use Rattle.arena.specs.declared.Arena.{Arena}
-use Rattle.arena.proofs.Outs.{arena-path}
+use Rattle.arena.specs.Tables.{nextIn, freedIn, stateIn}
+use Rattle.arena.proofs.Outs.{state-path}
 use Rattle.new_node.proofs.give.Statement.{statement}
 use Rattle.new_node.proofs.give.Tie as tie
 
-module _ (a : Arena) (f : List ℕ) (l : ℕ) (el : l ≡ moreOf (a .live)) where
-  up : (x : ℕ) → a .top ≡ 0 → x ≡ moreOf (a .next) → _≡_ {A = Arena} (record { capacity = a .capacity; next = x; top = 0; live = l }) (givenBy moreOf a (factOf f))
-  up x z e = rw (eq-eqb (a .top) 0 z) (arena-path _ _ _ _ _ _ _ _ refl e refl el)
+module _ (slots n f r : ℕ) (en : n ≡ nextIn slots) (ef : f ≡ freedIn slots) where
+  up : (x : ℕ) → f ≡ 0 → x ≡ moreOf n → (nextIn r ≡ x) × (freedIn r ≡ 0) → (c : ℕ) → stateIn c r ≡ givenBy moreOf (stateIn c slots)
+  up x z ex p c =
+      let d : freedIn r ≡ freedIn slots - 1 = (let q = p .1 in omega arith) in
+      rw (eq-eqb (freedIn slots) 0 (sym ef ∙ z)) (state-path _ _ _ _ _ _ refl (p .0 ∙ ex ∙ rw en) d)
 
-  down : (x : ℕ) → (a .top ≡ 0 → ⊥) → x ≡ factOf f (a .top) link → _≡_ {A = Arena} (record { capacity = a .capacity; next = a .next; top = x; live = l }) (givenBy moreOf a (factOf f))
-  down x z e = rw (ne-eqb (a .top) 0 z) (arena-path _ _ _ _ _ _ _ _ refl refl e el)
-
-ruleset mine = (up, down)
+  down : (f ≡ 0 → ⊥) → (nextIn r ≡ n) × (freedIn r ≡ f - 1) → (c : ℕ) → stateIn c r ≡ givenBy moreOf (stateIn c slots)
+  down d p c = rw (ne-eqb (freedIn slots) 0 (λ z. d (ef ∙ z))) (state-path _ _ _ _ _ _ refl (p .0 ∙ en) (p .1 ∙ rw ef))
 
 pub give-spec : {M : Type 1} → statement M
 give-spec =
     tie.close
-    (tie.spec (λ c κs. search needs) (λ c κs. search needs) (λ c. search mine) (λ c κs. search needs) (λ c κs. search needs)
-    (λ c. search mine))
+    (tie.spec (λ c κs. search needs) (λ c κs. search needs) (λ c κs. search needs) (λ c κs. search needs) (λ c. search up) (λ c. search needs) (λ c κs. search needs) (λ c. search down))

@@ -8,15 +8,16 @@ use Rattle.nodes.specs.Words.{nodes, wordOf, slot}
 use Rattle.nodes.proofs.kid.Reads as kid-reads
 use Rattle.arena.proofs.slot_of.Reads as slot-of-reads
 use Rattle.read_cube.specs.Models.{partsTo}
-use Rattle.read_cube.proofs.Parts.{parts-none, parts-step, parts-all, parts-done, cell-done, none-done, end-done, half-pow, cell-fits, cells-done, cells-fit, parts-fits, part-fits}
+use Rattle.read_cube.proofs.Parts.{parts-none, parts-step, parts-all, parts-done, cell-done, none-done, end-done, half-pow, cell-fits, cells-done, cells-fit, smalls-done, smalls-fit, parts-fits, part-fits}
 use Rattle.read_cube.proofs.fill_octant.Reads as fill-octant
 use Rattle.read_cube.proofs.fill_octant.Kinds as fill-octant-kinds
 use Rattle.read_cube.proofs.+fill_octant+fill_octants.Lts-fill_octant as fill-octant-lts
 use Rattle.read_cube.proofs.fill_octants.Reads as fill-octants
 use Rattle.read_cube.proofs.fill_octants.Kinds as fill-octants-kinds
 use Rattle.read_cube.proofs.+fill_octant+fill_octants.Lts-fill_octants as fill-octants-lts
-use Rattle.read_cube.proofs.fill_block.Reads as fill-block-reads
+use Rattle.read_cube.proofs.fill_leaf.Reads as fill-leaf-reads
 use Rattle.read_cube.proofs.fill_cells.Reads as fill-cells-reads
+use Rattle.read_cube.proofs.fill_smalls.Reads as fill-smalls-reads
 use Rattle.read_cube.proofs.offset.Reads as offset-reads
 use Rattle.read_cell.proofs.value.Reads as value-reads
 use Rattle.read_cube.proofs.+fill_octant+fill_octants.{statement}
@@ -53,10 +54,12 @@ pub +fill-octant+fill-octants-spec : {M : Type 1} → statement M
 +fill-octant+fill-octants-spec = close μ-one μ-all (λ t. fill-octant-lts.spec (
   value-reads.Asked,
   value-reads.Learnt,
-  fill-block-reads.Asked,
-  fill-block-reads.Learnt,
+  fill-leaf-reads.Asked,
+  fill-leaf-reads.Learnt,
   fill-cells-reads.Asked,
   fill-cells-reads.Learnt,
+  fill-smalls-reads.Asked,
+  fill-smalls-reads.Learnt,
   all-below t,
   fill-octants.Post,
 )
@@ -75,6 +78,9 @@ pub +fill-octant+fill-octants-spec : {M : Type 1} → statement M
     (λ c κs. search cells-fit)
     (λ c. search needs)
     (λ c. search cells-done)
+    (λ c κs. (search needs, search smalls-fit))
+    (λ c. search needs)
+    (λ c. search smalls-done)
     (λ c. search needs)
     (λ c κs. (search needs, ((search half-pow, search needs, search needs, search needs), search parts-fits)))
     (λ c. search needs)
