@@ -112,11 +112,11 @@ module _ {n tallest : ℕ} {t : Tables} (m : n ≤ 8) (w : WellFormed n tallest 
       rw (← leaf a, z, none, zero-div (2 ^ i)))
       (λ b. ap (bit i) (branch b) ∙ kids-bit (W t) (slot y) p i l)
 
-  mask-kids : isLeaf y ≡ false → maskOf y ≡ kidMask (kidsOf 8 (W t) (slot y))
+  pub mask-kids : isLeaf y ≡ false → maskOf y ≡ kidMask (kidsOf 8 (W t) (slot y))
   unfolding maskField
   mask-kids b = sym (mask-branch y (isLeaf y) refl b) ∙ branch-fields b .mask
 
-  types-kids : isLeaf y ≡ false → typesOf y ≡ kidTypes (kidsOf 8 (W t) (slot y))
+  pub types-kids : isLeaf y ≡ false → typesOf y ≡ kidTypes (kidsOf 8 (W t) (slot y))
   unfolding typesField
   types-kids b = sym (types-branch y (isLeaf y) refl b) ∙ branch-fields b .types
 

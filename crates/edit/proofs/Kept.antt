@@ -1,35 +1,43 @@
 -- What a node keeps of its parts, on well-formed tables, and what becomes of it when one part changes: the hash, the sum of the values, the height.
-use mathlib.Core.Path.{_≡_, sym, ap, _∙_}
-use mathlib.Core.Logic.{inl, inr}
-use mathlib.Core.Bool.{true, false}
+use mathlib.Core.Path.{_≡_, sym, ap, _∙_, subst}
+use mathlib.Core.Logic.{_≢_, inl, inr}
+use mathlib.Core.Bool.{true, false, not}
 use mathlib.Core.List.{List, [], _∷_}
 use Prim.Native.Nat.{ℕ, _+_, _-_, _*_, _%_, _^_, _≤_, _<_}
 use native.Mathlib.Decide.{ℕ-discrete, decLt}
 use native.Mathlib.Omega.{arith}
-use lib.ListN.{length, getD, set}
-use borrow.Author.Tests.{eq-eqb, ne-eqb, le-leb, lt-leb, lt-ltb, le-ltb}
+use lib.Dec.{eqb}
+use lib.ListN.{length, getD, set, replicate}
+use borrow.Author.Tests.{eq-eqb, ne-eqb, le-leb, lt-leb, leb-true, lt-ltb, le-ltb}
 use Rattle.basics.specs.Limits.{cubeKids, kidWords, largestValue}
 use Rattle.basics.specs.Sums.{sumTo}
-use Rattle.ids.specs.Ids.{isLeaf, leafFlag}
-use Rattle.nodes.specs.Words.{Words, slot}
+use Rattle.ids.specs.Ids.{isLeaf, leafFlag, maskOf}
+use Rattle.nodes.specs.Words.{Words, sum, hash, places, mark, slot}
 use Rattle.nodes.specs.Tally.{tabFrom, kidsOf}
 use Rattle.nodes.specs.Values.{valueAt, heightAt, maxTo}
 use Rattle.nodes.proofs.Counts.{live-nonzero}
 use Rattle.nodes.proofs.Sums.{cases, sumTo-ext, tabFrom-ext, tabFrom-length}
 use Rattle.find_hash.specs.Hash.{kidsHash, rekidsHash}
 use Rattle.find_hash.proofs.Hashes.{sum-set, rehash-set, even}
-use Rattle.tree.specs.Tree.{LiveOr0, Flat, Branch, Kind, empty, leaf, branch, kind}
+use Rattle.tree.specs.Tree.{LiveOr0, Flat, Branch, Kind, empty, leaf, branch, kind, WellMade}
 use Rattle.tree.specs.Anew.{part}
 use Rattle.tree.proofs.Canon.{live, le-maxTo}
+use Rattle.tree.proofs.Grow.{extends-keeps, value-later, height-later}
 use Rattle.tree.proofs.Making.{part-flat, part-branch}
-use Rattle.arena.specs.Models.{moreOf, topFor, sumBy}
-use Rattle.arena.specs.Node.{BranchNode, sumFor, heightFor}
+use Rattle.arena.specs.Calls.{each}
+use Rattle.arena.specs.Models.{moreOf, bumped, topFor, sumBy}
+use Rattle.arena.specs.Node.{BranchNode, bitsOf, kidMask, sumFor, heightFor}
 use Rattle.arena.specs.Tables.{Tables, cap, W, LiveSlot, WellFormed}
+use Rattle.arena.proofs.Bits.{bits-below, mask-kids}
+use Rattle.arena.proofs.Fresh.{Grown}
 use Rattle.arena.proofs.Ids.{node-branch}
+use Rattle.arena.proofs.Inv.{sized-within}
 use Rattle.arena.proofs.Places.{more-few}
-use Rattle.edit_plan.specs.Models.{eightParts}
-use Rattle.edit_plan.proofs.Plans.{tab-get}
-use Rattle.edit_make.specs.Models.{isEnd, hashOver, sumOver, heightOver, resum}
+use Rattle.edit_way.specs.Models.{isEnd, eightParts, hashOver}
+use Rattle.edit_way.proofs.Words.{parts-at}
+use Rattle.edit_make.specs.Models.{sumOver, heightOver, resum, placedWhere, otherBits, sevenPlaced, placedOver}
+use Rattle.edit.proofs.Growing.{grown-live, grown-extends}
+use Rattle.edit.proofs.Placing.{where-placed, seven-placed, none-placed}
 use Rattle.edit.proofs.Upward.{set-at, set-other, max-under}
 
 -- ---- the eight parts
@@ -39,10 +47,6 @@ module _ (U : Words) (a : ℕ) where
   unfolding eightParts
   parts-length = tabFrom-length kidWords 0 (part U a)
 
-  part-get : (i : ℕ) → i < kidWords → getD (eightParts U a) i 0 ≡ part U a i
-  unfolding eightParts
-  part-get i l = let z : 0 + i ≡ i = omega arith in tab-get kidWords 0 (part U a) i l ∙ ap (part U a) z
-
   parts-flat : Flat a → eightParts U a ≡ a ∷ a ∷ a ∷ a ∷ a ∷ a ∷ a ∷ a ∷ []
   unfolding eightParts tabFrom
   parts-flat f = tabFrom-ext 8 0 (part U a) (λ i. a) (λ j p q. part-flat U a j f)
@@ -51,10 +55,14 @@ module _ (U : Words) (a : ℕ) where
   unfolding eightParts kidsOf
   parts-branch b = tabFrom-ext 8 0 (part U a) (U (slot a)) (λ j p q. part-branch U a j b)
 
-end-flat : (a : ℕ) → Flat a → isEnd a ≡ true
+pub end-flat : (a : ℕ) → Flat a → isEnd a ≡ true
 unfolding isEnd
 end-flat a (inl e) = rw (eq-eqb a 0 e)
 end-flat a (inr h) = rw (ne-eqb a 0 (omega arith), le-leb (2 ^ 63) a h)
+
+pub end-is : (a : ℕ) → isEnd a ≡ true → a ≢ 0 → 2 ^ 63 ≤ a
+unfolding isEnd
+end-is a e d = leb-true (2 ^ 63) a (rw (ne-eqb a 0 d) at e)
 
 end-branch : (a : ℕ) → Branch a → isEnd a ≡ false
 unfolding isEnd
@@ -127,8 +135,10 @@ module _ (U U′ : Words) (a c y : ℕ) (l : c < cubeKids) where
   abbrev ks : List ℕ
   ks = set (eightParts U a) c y
 
-  pub hash-set : (k : ℕ) → k ≡ kidsHash (eightParts U a) → rekidsHash k c (getD (eightParts U a) c 0) y ≡ kidsHash ks
-  hash-set k e = ap (λ (h : ℕ). rekidsHash h c (getD (eightParts U a) c 0) y) e ∙ rehash-set (eightParts U a) c y (parts-length U a) l
+  pub hash-set : (k : ℕ) → k ≡ kidsHash (eightParts U a) → rekidsHash k c (part U a c) y ≡ kidsHash ks
+  hash-set k e =
+      ap (λ (h : ℕ). rekidsHash h c (part U a c) y) e ∙ sym (ap (λ (x : ℕ). rekidsHash (kidsHash (eightParts U a)) c x y) (parts-at U a c l))
+      ∙ rehash-set (eightParts U a) c y (parts-length U a) l
 
   pub resum-set : (s : ℕ) → s ≡ sumTo cubeKids (λ j. valueAt U (part U a j)) → ((i : ℕ) → i < cubeKids → valueAt U′ (part U a i) ≡ valueAt U (part U a i))
       → sumFor cubeKids U′ ks < 2 ^ 32 → valueAt U (part U a c) ≤ largestValue → resum s (valueAt U (part U a c)) (valueAt U′ y) ≡ sumFor cubeKids U′ ks
@@ -136,8 +146,8 @@ module _ (U U′ : Words) (a c y : ℕ) (l : c < cubeKids) where
   resum-set s e same fits few =
       let q = sum-set 8 (λ j k. valueAt U′ k) (eightParts U a) c y (parts-length U a) l in
       let p : sumTo 8 (λ j. valueAt U′ (getD (eightParts U a) j 0)) ≡ s =
-      sumTo-ext 8 (λ j. valueAt U′ (getD (eightParts U a) j 0)) (λ j. valueAt U (part U a j)) (λ i h. ap (valueAt U′) (part-get U a i h) ∙ same i h) ∙ sym e in
-      let z : valueAt U′ (getD (eightParts U a) c 0) ≡ valueAt U (part U a c) = ap (valueAt U′) (part-get U a c l) ∙ same c l in
+      sumTo-ext 8 (λ j. valueAt U′ (getD (eightParts U a) j 0)) (λ j. valueAt U (part U a j)) (λ i h. ap (valueAt U′) (parts-at U a i h) ∙ same i h) ∙ sym e in
+      let z : valueAt U′ (getD (eightParts U a) c 0) ≡ valueAt U (part U a c) = ap (valueAt U′) (parts-at U a c l) ∙ same c l in
       round s (sumTo 8 (λ j. valueAt U′ (getD ks j 0))) (valueAt U (part U a c)) (valueAt U′ y) (omega arith) fits few
 
   pub height-set : ((i : ℕ) → i < cubeKids → heightAt U′ (part U a i) ≤ heightAt U a - 1) → heightFor cubeKids U′ ks ≤ 1000
@@ -163,4 +173,85 @@ module _ (U U′ : Words) (a c y : ℕ) (l : c < cubeKids) where
       under : heightAt U a ≤ heightAt U′ y + 1 → (i : ℕ) → i < 8 → f i ≤ heightAt U′ y
       under g i h = cases (ℕ-discrete i c)
           (λ (e : i ≡ c). let q : f i ≡ f c = ap f e in omega (arith, at-c))
-          (λ d. let q : f i ≡ heightAt U′ (part U a i) = ap (heightAt U′) (set-other (eightParts U a) c y i d ∙ part-get U a i h) in let z = low i h in omega arith)
+          (λ d. let q : f i ≡ heightAt U′ (part U a i) = ap (heightAt U′) (set-other (eightParts U a) c y i d ∙ parts-at U a i h) in let z = low i h in omega arith)
+
+-- ---- what is kept stays while nodes are made
+
+module _ {n tallest : ℕ} {t u : Tables} {d : List ℕ} {k : ℕ} (m : n ≤ kidWords) (made : WellMade n (cap t) (W t)) (g : Grown n tallest t u d k) (a : ℕ) (l : LiveOr0 (cap t) (W t) a) where
+  word-stays : (f : ℕ) → Branch a → f ≤ mark → f ≢ places → W u (slot a) f ≡ W t (slot a) f
+  word-stays f b h q = g .old a f (live l (b .0)) h q
+
+  pub part-stays : (i : ℕ) → i < kidWords → part (W u) a i ≡ part (W t) a i
+  part-stays i h = go (kind a)
+    where
+      flat : Flat a → part (W u) a i ≡ part (W t) a i
+      flat f = part-flat (W u) a i f ∙ sym (part-flat (W t) a i f)
+
+      go : Kind a → part (W u) a i ≡ part (W t) a i
+      go (empty e) = flat (inl e)
+      go (leaf e) = flat (inr e)
+      go (branch b) = part-branch (W u) a i b ∙ word-stays i b (omega arith) (omega arith) ∙ sym (part-branch (W t) a i b)
+
+  pub parts-stay : eightParts (W u) a ≡ eightParts (W t) a
+  unfolding eightParts
+  parts-stay = tabFrom-ext kidWords 0 (part (W u) a) (part (W t) a) (λ i p q. part-stays i q)
+
+  pub hash-stays : hashOver (W u) a ≡ hashOver (W t) a
+  unfolding hashOver
+  hash-stays = go (kind a)
+    where
+      go : Kind a → hashOver (W u) a ≡ hashOver (W t) a
+      go (empty e) = rw (end-flat a (inl e))
+      go (leaf e) = rw (end-flat a (inr e))
+      go (branch b) = rw (end-branch a b) (word-stays hash b (omega arith) (omega arith))
+
+  pub value-stays : (y : ℕ) → LiveOr0 (cap t) (W t) y → valueAt (W u) y ≡ valueAt (W t) y
+  value-stays y ly = sym (value-later n (cap t) (W t) (W u) made y ly (extends-keeps (grown-extends g m) y))
+
+  pub height-stays : heightAt (W u) a ≡ heightAt (W t) a
+  height-stays = sym (height-later n (cap t) (W t) (W u) made a l (extends-keeps (grown-extends g m) a))
+
+  pub sum-stays : sumOver (W u) a ≡ sumOver (W t) a
+  unfolding sumOver
+  sum-stays = go (kind a)
+    where
+      flat : Flat a → sumOver (W u) a ≡ sumOver (W t) a
+      flat f = rw (end-flat a f) (ap (λ (x : ℕ). 8 * x % 2 ^ 32) (value-stays a l))
+
+      go : Kind a → sumOver (W u) a ≡ sumOver (W t) a
+      go (empty e) = flat (inl e)
+      go (leaf e) = flat (inr e)
+      go (branch b) = rw (end-branch a b) (word-stays sum b (omega arith) (omega arith))
+
+-- ---- the places of the other parts
+
+module _ {tallest : ℕ} {t u : Tables} {d : List ℕ} {k : ℕ} (w : WellFormed cubeKids tallest t) (g : Grown cubeKids tallest t u d k) (a c : ℕ) (l : LiveOr0 (cap t) (W t) a) (h : c < cubeKids) where
+  masked : maskOf a ≡ kidMask (eightParts (W t) a)
+      → placedWhere (u .nodes .facts) (eightParts (W t) a) (otherBits (maskOf a) c) ≡ each (bumped places) (u .nodes .facts) (set (eightParts (W t) a) c 0)
+  unfolding kidMask
+  masked e =
+      let n = parts-length (W t) a in
+      let small = bits-below (λ y. not (eqb y 0)) (eightParts (W t) a) in
+      where-placed (u .nodes .facts) (eightParts (W t) a) c (maskOf a) e (omega (arith, ap (λ (i : ℕ). 2 ^ i) n)) (omega arith)
+
+  pub others-placed : placedOver (u .nodes .facts) (eightParts (W t) a) a c ≡ each (bumped places) (u .nodes .facts) (set (eightParts (W t) a) c 0)
+  unfolding placedOver
+  others-placed = go (kind a)
+    where
+      eight : Flat a → replicate 8 a ≡ eightParts (W t) a
+      eight f = sym (parts-flat (W t) a f)
+
+      flat : (f : Flat a) → sevenPlaced (u .nodes .facts) a ≡ each (bumped places) (u .nodes .facts) (set (replicate 8 a) c 0)
+          → placedOver (u .nodes .facts) (eightParts (W t) a) a c ≡ each (bumped places) (u .nodes .facts) (set (eightParts (W t) a) c 0)
+      flat f e = rw (end-flat a f) (e ∙ ap (λ (ks : List ℕ). each (bumped places) (u .nodes .facts) (set ks c 0)) (eight f))
+
+      go : Kind a → placedOver (u .nodes .facts) (eightParts (W t) a) a c ≡ each (bumped places) (u .nodes .facts) (set (eightParts (W t) a) c 0)
+      go (empty e) = flat (inl e) (subst (λ (x : ℕ). sevenPlaced (u .nodes .facts) x ≡ each (bumped places) (u .nodes .facts) (set (replicate 8 x) c 0)) (sym e) (none-placed (u .nodes .facts) c h))
+      go (leaf e) =
+          let v = live l (λ z. omega arith) in
+          let low = grown-live g a v .low in
+          flat (inr e) (seven-placed (u .nodes .kids) (u .nodes .facts) a (live-nonzero v) (sized-within (slot a) (g .inv .sized) low) c h)
+      go (branch b) =
+          let v = live l (b .0) in
+          let mask = mask-kids (omega arith) w a v (low-flag a (b .1)) ∙ ap kidMask (sym (parts-branch (W t) a b)) in
+          rw (end-branch a b) (masked mask)

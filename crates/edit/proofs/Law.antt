@@ -30,10 +30,13 @@ use Rattle.read_cell.proofs.Calls.{look-no-same, cell-same}
 use Rattle.read_cell.proofs.Laws.{there-live, well-small}
 use Rattle.read_cell.proofs.Plain.{cell-whole}
 use Rattle.edit.specs.Edit.{planOf, resultOf, makeOf, grantNo, granted, answerOf, cellNo, editCell, cellAt, editOf}
-use Rattle.edit_plan.specs.Models.{planned, planBy, rootPlan, resultBy}
+use Rattle.edit_way.specs.Models.{wayOf}
+use Rattle.edit_way.specs.declared.Way.{Way}
+use Rattle.edit_plan.specs.Models.{planned, planOn, planBy, rootPlan, resultBy}
+use Rattle.edit_plan.proofs.Plans.{plan-way}
 use Rattle.edit_plan.specs.declared.Plan as planning
-use Rattle.edit_make.specs.Models.{makeBy, makeAt}
-use Rattle.edit_make.proofs.Steps.{make-path}
+use Rattle.edit_make.specs.Models.{makeOn, makeBy}
+use Rattle.edit_make.proofs.Steps.{make-way}
 use Rattle.edit.specs.Models.{grantBy, answerBy, editPast, editNoAt, editBy}
 use Rattle.edit.proofs.Mirror.{Agree, agree-have, agree-lack, plan-agree, make-same}
 
@@ -78,9 +81,10 @@ module _ (t : Tables) (root d v : ℕ) (p : IVec3) where
   unfolding editBy editOf editNoAt editCell cellNo
   tall-same n h = rw (no-same, eq-eqb (lookNo t root d p) 0 n, h)
 
-  low-by : lookNo t root d p ≡ 0 → leb (heightAt (W t) root) d ≡ true → editBy t root (toCell p d) v ≡ editPast t v (toCell p d) root (resultBy t v (toCell p d) root)
+  low-by : lookNo t root d p ≡ 0 → leb (heightAt (W t) root) d ≡ true
+      → editBy t root (toCell p d) v ≡ editPast t v (wayOf (W t) (toCell p d) root) d (resultBy t v (toCell p d) root)
   unfolding editBy editNoAt
-  low-by n h = rw (no-same, eq-eqb (lookNo t root d p) 0 n, h)
+  low-by n h = rw (no-same, eq-eqb (lookNo t root d p) 0 n, h) (ap (editPast t v (wayOf (W t) (toCell p d) root) d) (plan-way t v root (toCell p d)))
 
 -- the definition, once the first refusals are past, as a function of the result r
 abbrev ended : Tables → Need → Out → Out
@@ -105,16 +109,16 @@ grant-few t r e d = split (fullOf (W t) (slot r))
     (λ f. absurd (let z : _≡_ {A = ℕ} 10 0 = (rw (ne-eqb r 0 d, f) at e) in omega arith))
     (λ f. full-few t (slot r) f)
 
-have-end : (t : Tables) (v : ℕ) (c : Cell) (r root : ℕ) (new : Out) → editPast t v c root (planned 0 r) ≡ ended t (have r) new
+have-end : (t : Tables) (v : ℕ) (w : Way) (d r : ℕ) (new : Out) → editPast t v w d (planned 0 r) ≡ ended t (have r) new
 unfolding editPast grantBy grantNo answerBy answerOf
-have-end t v c r root new = cases (ℕ-discrete (grantNo t (have r)) 0)
+have-end t v w d r new = cases (ℕ-discrete (grantNo t (have r)) 0)
     (λ e. ap (λ (u : Tables). pick (eqb (grantNo t (have r)) 0) (said 0 r u) (refused (grantNo t (have r)) t)) (grant-same t r (grant-few t r e)))
     (λ e. rw (ne-eqb (grantNo t (have r)) 0 e))
 
-lack-end : (t : Tables) (v : ℕ) (c : Cell) (k s root : ℕ) (new : Out) → 1 ≤ k → (k ≤ cap t - 1 - liveIn (t .arena) → makeAt t v c root (planned k s) 1 0 ≡ new)
-    → editPast t v c root (planned k s) ≡ ended t (lack k) new
+lack-end : (t : Tables) (v : ℕ) (w : Way) (d k s : ℕ) (new : Out) → 1 ≤ k → (k ≤ cap t - 1 - liveIn (t .arena) → makeOn t v w d (planned k s) ≡ new)
+    → editPast t v w d (planned k s) ≡ ended t (lack k) new
 unfolding editPast grantBy grantNo answerBy answerOf
-lack-end t v c k s root new one h = cases (decLe k (cap t - 1 - liveIn (t .arena)))
+lack-end t v w d k s new one h = cases (decLe k (cap t - 1 - liveIn (t .arena)))
     (λ l. rw (ne-eqb k 0 (omega arith), le-leb k (cap t - 1 - liveIn (t .arena)) l) (h l))
     (λ l. rw (ne-eqb k 0 (omega arith), lt-leb k (cap t - 1 - liveIn (t .arena)) (omega arith)))
 
@@ -125,30 +129,31 @@ module _ (t : Tables) (root d v : ℕ) (p : IVec3) (high : v ≤ largestValue) w
   C = cellFrom d (whole (p .x)) (whole (p .y)) (whole (p .z))
 
   result-same : WellFormed cubeKids deepest t → lookNo t root d p ≡ 0 → heightAt (W t) root ≤ d
-      → editPast t v C root (resultBy t v C root) ≡ ended t (resultOf cubeKids t v (cellAt d p) root) (makeOf cubeKids t v (cellAt d p) root 1 0)
+      → editPast t v (wayOf (W t) C root) d (resultBy t v C root) ≡ ended t (resultOf cubeKids t v (cellAt d p) root) (makeOf cubeKids t v (cellAt d p) root 1 0)
   unfolding resultBy rootPlan resultOf
   result-same w n low =
       let l = le-leb d deepest (deep t root d p n) in
       let whole-look : look (W t) (cellAt d p) root % 2 ^ 16 ≡ look (W t) (cellAt d p) root = cell-whole (W t) (well-small w) d root (C .x) (C .y) (C .z) in
       cases (ℕ-discrete (look (W t) (cellAt d p) root) v)
-      (λ z. rw (l, whole-look, eq-eqb (look (W t) (cellAt d p) root) v z) (have-end t v C root root (makeOf cubeKids t v (cellAt d p) root 1 0)))
+      (λ z. rw (l, whole-look, eq-eqb (look (W t) (cellAt d p) root) v z) (have-end t v (wayOf (W t) C root) d root (makeOf cubeKids t v (cellAt d p) root 1 0)))
       (λ z. rw (l, whole-look, ne-eqb (look (W t) (cellAt d p) root) v z)
       (go w n low (planBy t v (cellAt d p) root) (planOf cubeKids t v (cellAt d p) root) refl refl
-      (plan-agree w v high root (let h = deep t root d p n in omega arith) (cube-cell d (C .x) (C .y) (C .z)))))
+      (plan-agree w v high root (root-there t root d p n) low (let h = deep t root d p n in omega arith) (cube-cell d (C .x) (C .y) (C .z)))))
     where
       go : WellFormed cubeKids deepest t → lookNo t root d p ≡ 0 → heightAt (W t) root ≤ d → (b : planning.Plan) (r : Need) → planBy t v (cellAt d p) root ≡ b
-          → planOf cubeKids t v (cellAt d p) root ≡ r → Agree (suc d) b r → editPast t v C root b ≡ ended t r (makeOf cubeKids t v (cellAt d p) root 1 0)
-      go w n low b r eb er (agree-have {r = s}) = have-end t v C s root (makeOf cubeKids t v (cellAt d p) root 1 0)
+          → planOf cubeKids t v (cellAt d p) root ≡ r → Agree (suc d) b r → editPast t v (wayOf (W t) C root) d b ≡ ended t r (makeOf cubeKids t v (cellAt d p) root 1 0)
+      go w n low b r eb er (agree-have {r = s}) = have-end t v (wayOf (W t) C root) d s (makeOf cubeKids t v (cellAt d p) root 1 0)
       go w n low b r eb er (agree-lack {k = k} {s = s} one most) =
-          lack-end t v C k s root (makeOf cubeKids t v (cellAt d p) root 1 0) one
-          (λ l. make-path t v C root (planned k s) 1 0 (deep t root d p n)
+          lack-end t v (wayOf (W t) C root) d k s (makeOf cubeKids t v (cellAt d p) root 1 0) one
+          (λ l. make-way t v root C k s (deep t root d p n) one most
           ∙ ap (λ (i : planning.Plan). makeBy t v (cellAt d p) root i 1 0) (sym eb)
           ∙ make-same (omega arith) w v high root k 1 0 (root-there t root d p n) low (deep t root d p n) (cube-cell d (C .x) (C .y) (C .z)) er
           (let z = w .sized .least in omega arith) (omega arith) (omega arith))
 
   -- a cell that is not refused is inside, where a coordinate's number is the coordinate
-  past-same : lookNo t root d p ≡ 0 → editPast t v (toCell p d) root (resultBy t v (toCell p d) root) ≡ editPast t v C root (resultBy t v C root)
-  past-same n = ap (λ (c : Cell). editPast t v c root (resultBy t v c root)) (cell-same (t .arena) (t .nodes .kids) (t .nodes .facts) (t .find) root d p n)
+  past-same : lookNo t root d p ≡ 0
+      → editPast t v (wayOf (W t) (toCell p d) root) d (resultBy t v (toCell p d) root) ≡ editPast t v (wayOf (W t) C root) d (resultBy t v C root)
+  past-same n = ap (λ (c : Cell). editPast t v (wayOf (W t) c root) d (resultBy t v c root)) (cell-same (t .arena) (t .nodes .kids) (t .nodes .facts) (t .find) root d p n)
 
   well-same : WellFormed cubeKids deepest t → editBy t root (toCell p d) v ≡ editOf t root d p v
   well-same w = cases (ℕ-discrete (lookNo t root d p) 0)

@@ -2,6 +2,7 @@ pub mod Growing
 pub mod Wholes
 pub mod Planning
 pub mod Upward
+pub mod Placing
 pub mod Kept
 pub mod Mirror
 pub mod Law

@@ -1,21 +1,21 @@
 -- The code's way is the definition's, on well-formed tables.
 use mathlib.Core.Path.{_≡_, refl, sym, ap, ap₂, _∙_, subst}
 use mathlib.Core.Logic.{_≢_, _⊎_, inl, inr, ⊎-elim}
-use mathlib.Core.Bool.{Bool, false, true≢false}
+use mathlib.Core.Bool.{Bool, true, false, true≢false}
 use mathlib.Core.List.{List, [], _∷_, _++_}
 use Prim.Native.Nat.{ℕ, zero, suc, _+_, _-_, _/_, _≤_, _<_}
 use native.Mathlib.Decide.{ℕ-discrete}
 use native.Mathlib.Omega.{arith}
 use lib.Dec.{eqb, ltb}
 use lib.ListN.{length, getD, set, length-set}
-use borrow.Author.Tests.{eq-eqb, ne-eqb, lt-ltb}
+use borrow.Author.Tests.{eqb-true, eq-eqb, ne-eqb, lt-ltb}
 use Rattle.basics.specs.Limits.{cubeKids, kidWords, largestValue, mostHolds}
 use Rattle.basics.specs.Pick.{pick}
 use Rattle.ids.specs.Ids.{isLeaf}
-use Rattle.nodes.specs.Words.{Nodes, Words, own, hash}
+use Rattle.nodes.specs.Words.{Nodes, nodes, Words, own, hash}
 use Rattle.nodes.specs.Tally.{tabFrom, occ, Live}
 use Rattle.nodes.proofs.Counts.{total-append}
-use Rattle.nodes.proofs.Sums.{cases, split, tabFrom-ext, tabFrom-length, tab-list, occ-nil, occ-there}
+use Rattle.nodes.proofs.Sums.{cases, split, tabFrom-ext, tabFrom-length, tab-list, occ-nil, occ-there, occ-tab}
 use Rattle.find_hash.specs.Hash.{leafHash, kidsHash, rekidsHash}
 use Rattle.find.specs.Cells.{leafCell, kidsCell}
 use Rattle.find.specs.Content.{leafIs, kidsAre}
@@ -31,6 +31,8 @@ use Rattle.arena.specs.Tables.{liveIn, Tables, tablesOf, cap, W, LiveSlot, Well
 use Rattle.arena.specs.Calls.{Out, said, allOf, each, placedKid, leafAnew, branchAnew, leafSlot, branchSlot}
 use Rattle.arena.specs.Models.{moreOf, kidsFor, sumBy}
 use Rattle.arena.proofs.Branches.{branch-words, slot-lone}
+use Rattle.arena.proofs.Eight.{all-at}
+use Rattle.arena.proofs.Fits.{both}
 use Rattle.arena.proofs.Fresh.{sum-by, number-ends, leaf-fresh, branch-fresh}
 use Rattle.arena.proofs.Ids.{node-leaf}
 use Rattle.arena.proofs.Inv.{Inv, wf-inv}
@@ -40,13 +42,15 @@ use Rattle.arena.proofs.Searched.{kids-hash, leaf-one, kids-one, search-hit, se
 use Rattle.arena.proofs.Branching.{found-slot}
 use Rattle.read_cell.proofs.Meaning.{wf-made}
 use Rattle.edit.specs.Edit.{wordsOf, oneLeaf, needOf, cellNeed, upNeed, planOf, owed, lowOf, makeOf}
-use Rattle.edit_plan.specs.Models.{planned, eightParts, leafFound, kidsFound, leafKids, slotPlan, cellPlan, needPlan, upPlan, planBy}
+use Rattle.edit_way.specs.Models.{isEnd, eightParts, hashOver}
+use Rattle.edit_plan.specs.Models.{planned, leafFound, wholeOf, hashWith, kidsFound, slotPlan, cellPlan, needPlan, upPlan, planBy}
 use Rattle.edit_plan.specs.declared.Plan as planning
-use Rattle.edit_plan.proofs.Plans.{tab-get}
-use Rattle.edit_make.specs.Models.{owedBy, hashOver, sumOver, heightOver, resum, leafAnewBy, branchAnewBy, upBy, makeBy}
+use Rattle.edit_way.proofs.Words.{tab-get}
+use Rattle.edit_make.specs.Models.{owedBy, sumOver, heightOver, resum, placedOver, leafAnewBy, branchAnewBy, upBy, makeBy}
+use Rattle.edit_make.proofs.Steps.{make-zero, make-more, make-leaf}
 use Rattle.edit.proofs.Growing.{each-nil, each-cons, grown-trans, grown-extends}
-use Rattle.edit.proofs.Kept.{small-value, hash-over, sum-over, sum-fits, hash-set, resum-set, height-set}
-use Rattle.edit.proofs.Planning.{all-yes, words-length, words-at, Cell-came, cell-none, cell-leaf, cell-lack, cell-came, plan-is, parts-there}
+use Rattle.edit.proofs.Kept.{end-flat, end-is, small-value, hash-over, sum-over, sum-fits, hash-set, resum-set, height-set, part-stays, parts-stay, hash-stays, value-stays, height-stays, sum-stays, others-placed}
+use Rattle.edit.proofs.Planning.{all-yes, leaf-both, flag-leaf, leaf-flagged, words-length, words-at, Cell-came, cell-none, cell-leaf, cell-lack, cell-came, plan-is, parts-there}
 use Rattle.edit.proofs.Upward.{Low, Done, low-have, low-lack, placed, lowers, eight, others-live, set-at, set-other, lack-inj, have-lack, over, make-done}
 
 -- ---- the eight words of a node's parts, one replaced
@@ -69,11 +73,6 @@ words-set U a c s l =
 words-tab : (f : ℕ → ℕ) → wordsOf cubeKids f ≡ tabFrom cubeKids 0 f
 unfolding wordsOf
 words-tab f = tabFrom-ext cubeKids 0 (λ i. pick (ltb i cubeKids) (f i) 0) f (λ j p q. let l : j < cubeKids = omega arith in rw (lt-ltb j cubeKids l))
-
-leaf-kids : (f : ℕ → ℕ) → leafKids (wordsOf cubeKids f) ≡ oneLeaf cubeKids f
-unfolding leafKids oneLeaf
-leaf-kids f =
-    ap₂ (λ (k : ℕ) (l : List ℕ). pick (isLeaf k) (allOf (eqb k) l) false) (words-at cubeKids f 0 (omega arith) (omega arith)) (words-tab f)
 
 set-twice : (ks : List ℕ) (c x y : ℕ) → set (set ks c x) c y ≡ set ks c y
 set-twice [] c x y = refl
@@ -121,7 +120,7 @@ module _ {tallest : ℕ} {t : Tables} (w : WellFormed cubeKids tallest t) where
         (λ j p q. sym (words-at cubeKids f j (omega arith) (omega arith)) ∙ sym (h j (omega arith)) ∙ node-leaf m (l .0) (w .sized .most) (w .nodes s l) b .bare j (omega arith))) ∙ e)))
         (λ b. (b, kids-hash m w s l b ∙ ap kidsHash (kids-are (W t) s ks (words-length cubeKids f) h)))
 
-    find-branch : kidsFound t ks ≡ branchSlot t ks
+    find-branch : kidsFound t (kidsHash ks) ks ≡ branchSlot t ks
     unfolding kidsFound kidsCell
     find-branch = cases (ℕ-discrete (branchSlot t ks) 0) (λ z. search-miss m w same (kidsHash ks) (none z) ∙ sym z) (λ z. hit z)
       where
@@ -141,20 +140,72 @@ module _ {tallest : ℕ} {t : Tables} (w : WellFormed cubeKids tallest t) where
             search-hit m w same (kidsHash ks) (branchSlot t ks) l (o .1) (kids-true (W t) (kidsHash ks) ks (branchSlot t ks) n (o .1) k)
             (λ x lx h. kids-one m w x (branchSlot t ks) lx l (o .0) (λ i j. kids-words (W t) (kidsHash ks) ks x n h .1 i j ∙ sym (k i j)))
 
-  -- what eight parts come to, by the code
-  need-by : (f : ℕ → ℕ) (s : ℕ) → ((r : ℕ) × (needOf cubeKids t f ≡ have r) × (needPlan t (wordsOf cubeKids f) s ≡ planned 0 r))
-      ⊎ ((needOf cubeKids t f ≡ lack 1) × (needPlan t (wordsOf cubeKids f) s ≡ planned 1 s))
-  unfolding needOf needPlan slotPlan
-  need-by f s = split (allOf (eqb 0) (tabFrom cubeKids 0 f))
-      (λ e. inl (0, rw e, rw (all-words ∙ e)))
-      (λ e. split (oneLeaf cubeKids f)
-      (λ q. inl (f 0, rw (e, q), rw (all-words ∙ e, leaf-kids f ∙ q) (ap (planned 0) (words-at cubeKids f 0 (omega arith) (omega arith)))))
-      (λ q. cases (ℕ-discrete (branchSlot t (wordsOf cubeKids f)) 0)
-      (λ z. inr (rw (e, q, eq-eqb (branchSlot t (wordsOf cubeKids f)) 0 z), rw (all-words ∙ e, leaf-kids f ∙ q, find-branch f e, eq-eqb (branchSlot t (wordsOf cubeKids f)) 0 z)))
-      (λ z. inl (W t (branchSlot t (wordsOf cubeKids f)) own, rw (e, q, ne-eqb (branchSlot t (wordsOf cubeKids f)) 0 z), rw (all-words ∙ e, leaf-kids f ∙ q, find-branch f e, ne-eqb (branchSlot t (wordsOf cubeKids f)) 0 z)))))
-    where
-      all-words : allOf (eqb 0) (wordsOf cubeKids f) ≡ allOf (eqb 0) (tabFrom cubeKids 0 f)
-      all-words = ap (allOf (eqb 0)) (words-tab f)
+  -- ---- what the parts of a come to with number c replaced by s, by the code
+
+  module _ (a c s : ℕ) (l : LiveOr0 (cap t) (W t) a) (b : c < cubeKids) (there : (i : ℕ) → i < cubeKids → LiveOr0 (cap t) (W t) (replace (part (W t) a) c s i)) where
+    abbrev f : ℕ → ℕ
+    f = replace (part (W t) a) c s
+
+    abbrev fs : List ℕ
+    fs = set (eightParts (W t) a) c s
+
+    in-tab : fs ≡ tabFrom cubeKids 0 f
+    in-tab = words-set (W t) a c s b ∙ words-tab f
+
+    at-c : f c ≡ s
+    at-c = replace-same (part (W t) a) c s c refl
+
+    -- all of them are one
+    all-same : (k : ℕ) → allOf (eqb k) (tabFrom cubeKids 0 f) ≡ true → (i : ℕ) → i < cubeKids → k ≡ f i
+    all-same k e i h = eqb-true k (f i) (all-at (eqb k) (tabFrom cubeKids 0 f) (f i) e (occ-tab cubeKids 0 f i (omega arith) (omega arith)))
+
+    whole-end : isEnd s ≡ true → allOf (eqb s) (tabFrom cubeKids 0 f) ≡ true → wholeOf fs s ≡ true
+    unfolding wholeOf
+    whole-end h e = rw (h, in-tab) e
+
+    whole-none : allOf (eqb 0) (tabFrom cubeKids 0 f) ≡ true → (wholeOf fs s ≡ true) × (s ≡ 0)
+    whole-none e =
+        let z : s ≡ 0 = sym (all-same 0 e c b ∙ at-c) in
+        (whole-end (end-flat s (inl z)) (subst (λ (k : ℕ). allOf (eqb k) (tabFrom cubeKids 0 f) ≡ true) (sym z) e), z)
+
+    whole-leaf : oneLeaf cubeKids f ≡ true → (wholeOf fs s ≡ true) × (s ≡ f 0)
+    whole-leaf q =
+        let r = leaf-both cubeKids f q in
+        let z : s ≡ f 0 = sym (all-same (f 0) (r .1) c b ∙ at-c) in
+        let h = flag-leaf m pos w (f 0) (there 0 (omega arith)) (r .0) in
+        (whole-end (end-flat s (inr (omega arith))) (subst (λ (k : ℕ). allOf (eqb k) (tabFrom cubeKids 0 f) ≡ true) (sym z) (r .1)), z)
+
+    whole-not : allOf (eqb 0) (tabFrom cubeKids 0 f) ≡ false → oneLeaf cubeKids f ≡ false → wholeOf fs s ≡ false
+    unfolding wholeOf oneLeaf
+    whole-not e q = split (wholeOf fs s) (λ h. absurd (no h)) (λ h. h)
+      where
+        no : wholeOf fs s ≡ true → ⊥
+        no h =
+            let r = both (isEnd s) (allOf (eqb s) fs) h in
+            let all : allOf (eqb s) (tabFrom cubeKids 0 f) ≡ true = subst (λ (ks : List ℕ). allOf (eqb s) ks ≡ true) in-tab (r .1) in
+            let z : s ≡ f 0 = all-same s all 0 (omega arith) in
+            cases (ℕ-discrete s 0)
+            (λ y. true≢false (sym (subst (λ (k : ℕ). allOf (eqb k) (tabFrom cubeKids 0 f) ≡ true) y all) ∙ e))
+            (λ y.
+            let g = end-is s (r .0) y in
+            let i = leaf-flagged m pos w (f 0) (there 0 (omega arith)) (omega arith) in
+            true≢false (sym (rw (i, ← z) all) ∙ q))
+
+    found-same : allOf (eqb 0) (tabFrom cubeKids 0 f) ≡ false → kidsFound t (hashWith (W t) a c s) fs ≡ branchSlot t (wordsOf cubeKids f)
+    unfolding hashWith
+    found-same e =
+        let k = hash-set (W t) (W t) a c s b (hashOver (W t) a) (hash-over w a l) in
+        ap (λ (y : ℕ). kidsFound t y fs) k ∙ ap (λ (ks : List ℕ). kidsFound t (kidsHash ks) ks) (words-set (W t) a c s b) ∙ find-branch f e
+
+    need-by : ((r : ℕ) × (needOf cubeKids t f ≡ have r) × (needPlan t a c s ≡ planned 0 r)) ⊎ ((needOf cubeKids t f ≡ lack 1) × (needPlan t a c s ≡ planned 1 s))
+    unfolding needOf needPlan slotPlan
+    need-by = split (allOf (eqb 0) (tabFrom cubeKids 0 f))
+        (λ e. let y = whole-none e in inl (0, rw e, rw (y .0) (ap (planned 0) (y .1))))
+        (λ e. split (oneLeaf cubeKids f)
+        (λ q. let y = whole-leaf q in inl (f 0, rw (e, q), rw (y .0) (ap (planned 0) (y .1))))
+        (λ q. cases (ℕ-discrete (branchSlot t (wordsOf cubeKids f)) 0)
+        (λ z. inr (rw (e, q, eq-eqb (branchSlot t (wordsOf cubeKids f)) 0 z), rw (whole-not e q, found-same e, eq-eqb (branchSlot t (wordsOf cubeKids f)) 0 z)))
+        (λ z. inl (W t (branchSlot t (wordsOf cubeKids f)) own, rw (e, q, ne-eqb (branchSlot t (wordsOf cubeKids f)) 0 z), rw (whole-not e q, found-same e, ne-eqb (branchSlot t (wordsOf cubeKids f)) 0 z)))))
 
   module _ (x : ℕ) (small : x ≤ largestValue) where
     cell-agree : Agree 1 (cellPlan t x) (cellNeed t x)
@@ -166,32 +217,38 @@ module _ {tallest : ℕ} {t : Tables} (w : WellFormed cubeKids tallest t) where
         (λ z. rw (ne-eqb x 0 d, find-leaf x d, ne-eqb (leafSlot t x) 0 z) agree-have))
 
     -- one level up
-    up-have : (a c s : ℕ) → c < cubeKids → upPlan t (eightParts (W t) a) c (planned 0 s) ≡ needPlan t (wordsOf cubeKids (replace (part (W t) a) c s)) s
+    up-have : (a c s : ℕ) → upPlan t a c (planned 0 s) ≡ needPlan t a c s
     unfolding upPlan
-    up-have a c s l = ap (λ (ks : List ℕ). needPlan t ks s) (words-set (W t) a c s l)
+    up-have a c s = refl
 
-    up-lack : (a c k s : ℕ) → 1 ≤ k → k ≤ 1000 → upPlan t (eightParts (W t) a) c (planned k s) ≡ planned (suc k) s
+    up-lack : (a c k s : ℕ) → 1 ≤ k → k ≤ 1000 → upPlan t a c (planned k s) ≡ planned (suc k) s
     unfolding upPlan
     up-lack a c k s l h =
         let e : moreOf k ≡ suc k = (let z = more-few k (omega arith) in omega arith) in
         rw (ne-eqb k 0 (omega arith)) (ap (λ (z : ℕ). planned z s) e)
 
-    up-agree : (B a c : ℕ) (b : planning.Plan) (r : Need) → B ≤ 1000 → c < cubeKids → Agree B b r
-        → Agree (suc B) (upPlan t (eightParts (W t) a) c b) (upNeed (λ s. needOf cubeKids t (replace (part (W t) a) c s)) r)
+    up-agree : (B a c : ℕ) (b : planning.Plan) (r : Need) → B ≤ 1000 → LiveOr0 (cap t) (W t) a → c < cubeKids
+        → ((s : ℕ) → r ≡ have s → (i : ℕ) → i < cubeKids → LiveOr0 (cap t) (W t) (replace (part (W t) a) c s i)) → Agree B b r
+        → Agree (suc B) (upPlan t a c b) (upNeed (λ s. needOf cubeKids t (replace (part (W t) a) c s)) r)
     unfolding upNeed
-    up-agree B a c b r l h (agree-have {r = s}) =
-        rw (up-have a c s h) (⊎-elim
+    up-agree B a c b r l y h there (agree-have {r = s}) =
+        rw (up-have a c s) (⊎-elim
         (λ z. rw (z .1, z .2) agree-have)
         (λ z. rw (z .0, z .1) (agree-lack {k = 1} {s = s} (omega arith) (omega arith)))
-        (need-by (replace (part (W t) a) c s) s))
-    up-agree B a c b r l h (agree-lack {k = k} {s = s} y z) = rw (up-lack a c k s y (omega arith)) (agree-lack {k = suc k} {s = s} (omega arith) (omega arith))
+        (need-by a c s y h (there s refl)))
+    up-agree B a c b r l y h there (agree-lack {k = k} {s = s} i z) = rw (up-lack a c k s i (omega arith)) (agree-lack {k = suc k} {s = s} (omega arith) (omega arith))
 
     -- the code's dry run is the definition's
-    pub plan-agree : {d : ℕ} {p : List ℕ} (a : ℕ) → d ≤ 900 → Cell cubeKids d p → Agree (suc d) (planBy t x p a) (planOf cubeKids t x p a)
+    pub plan-agree : {d : ℕ} {p : List ℕ} (a : ℕ) → LiveOr0 (cap t) (W t) a → heightAt (W t) a ≤ d → d ≤ 900 → Cell cubeKids d p → Agree (suc d) (planBy t x p a) (planOf cubeKids t x p a)
     unfolding planBy planOf
-    plan-agree a h here = cell-agree
-    plan-agree a h (down {d = d} {c = c} {p = p} l q) =
-        up-agree (suc d) a c (planBy t x p (part (W t) a c)) (planOf cubeKids t x p (part (W t) a c)) (omega arith) l (plan-agree (part (W t) a c) (omega arith) q)
+    plan-agree a l low h here = cell-agree
+    plan-agree a l low h (down {d = d} {c = c} {p = p} b q) =
+        let made = wf-made m w in
+        let lb = part-there cubeKids (cap t) (W t) made a c l b in
+        let hb = part-low cubeKids (cap t) (W t) made a c l b d low in
+        up-agree (suc d) a c (planBy t x p (part (W t) a c)) (planOf cubeKids t x p (part (W t) a c)) (omega arith) l b
+        (λ s e. parts-there m pos w x d c a s p l low b q (rw e at (plan-is m pos w x (part (W t) a c) lb hb q)))
+        (plan-agree (part (W t) a c) lb hb (omega arith) q)
 
 -- ---- places that are owed
 
@@ -210,11 +267,14 @@ unfolding leafAnewBy
 leaf-same d x h q i room = leaf-fresh d i room x h q _ (number-ends d i room (leafHash x))
 
 -- the branch over a part, by what the tables and the parts are
-up-is : (low : Out) (ks : List ℕ) (c k s x g h q : ℕ) (v : Tables) (all : List ℕ) → owedBy (low .after) (set ks c 0) ≡ v → set ks c (low .id) ≡ all
-    → upBy low ks c k s x g h q ≡ branchAnewBy v all (heightOver (W v) all (low .id) g) (resum s x (valueAt (W v) (low .id))) (rekidsHash k c (getD ks c 0) (low .id)) h q
+up-is : (low : Out) (a c h q : ℕ) (ks all : List ℕ) (v : Tables) (was k s x g : ℕ) → eightParts (W (low .after)) a ≡ ks → part (W (low .after)) a c ≡ was
+    → hashOver (W (low .after)) a ≡ k → sumOver (W (low .after)) a ≡ s → valueAt (W (low .after)) was ≡ x → heightAt (W (low .after)) a ≡ g
+    → tablesOf (low .after .arena) (nodes (low .after .nodes .kids) (placedOver (low .after .nodes .facts) ks a c)) (low .after .find) ≡ v → set ks c (low .id) ≡ all
+    → upBy low a c h q ≡ branchAnewBy v all (heightOver (W v) all (low .id) g) (resum s x (valueAt (W v) (low .id))) (rekidsHash k c was (low .id)) h q
 unfolding upBy
-up-is low ks c k s x g h q v all =
-    ap₂ (λ (u : Tables) (l : List ℕ). branchAnewBy u l (heightOver (W u) l (low .id) g) (resum s x (valueAt (W u) (low .id))) (rekidsHash k c (getD ks c 0) (low .id)) h q)
+up-is low a c h q ks all v was k s x g eks ewas ek es ex eg ev eall =
+    rw (ek, es, eg, eks, ewas, ex, eall)
+    (ap (λ (y : Tables). branchAnewBy y all (heightOver (W y) all (low .id) g) (resum s x (valueAt (W y) (low .id))) (rekidsHash k c was (low .id)) h q) ev)
 
 value-sum : (U : Words) (ks : List ℕ) (s : ℕ) → s ≡ sumFor cubeKids U ks → s / 8 ≡ valueFor cubeKids U ks
 unfolding sumFor valueFor
@@ -238,19 +298,6 @@ lack-plan {t = t} w x d z = rw (ne-eqb x 0 d, find-leaf w x d, eq-eqb (leafSlot 
 
 -- ---- the making
 
-make-zero : (t : Tables) (x : ℕ) (p : List ℕ) (a s h q : ℕ) → makeBy t x p a (planned 0 s) h q ≡ said 0 s (owedBy t (s ∷ []))
-unfolding makeBy
-make-zero t x [] a s h q = refl
-make-zero t x (c ∷ p) a s h q = refl
-
-make-more : (t : Tables) (x c : ℕ) (p : List ℕ) (a k s h q : ℕ) → makeBy t x (c ∷ p) a (planned (suc k) s) h q ≡ upBy (makeBy t x p (part (W t) a c) (planned k s) 0 1) (eightParts (W t) a) c (hashOver (W t) a) (sumOver (W t) a) (valueAt (W t) (part (W t) a c)) (heightAt (W t) a) h q
-unfolding makeBy
-make-more t x c p a k s h q = let e : suc k - 1 ≡ k = omega arith in rw (e, ne-eqb (suc k) 0 (omega arith))
-
-make-leaf : (t : Tables) (x a k s h q : ℕ) → makeBy t x [] a (planned (suc k) s) h q ≡ leafAnewBy t x h q
-unfolding makeBy
-make-leaf t x a k s h q = rw (ne-eqb (suc k) 0 (omega arith))
-
 module _ {tallest : ℕ} (high : tallest ≤ 900) {t : Tables} (w : WellFormed cubeKids tallest t) (x : ℕ) (small : x ≤ largestValue) where
   two : 1 < cubeKids
   two = omega arith
@@ -264,7 +311,7 @@ module _ {tallest : ℕ} (high : tallest ≤ 900) {t : Tables} (w : WellFormed c
   -- the branch over a part
   over-same : (d c a j h q : ℕ) (p : List ℕ) (o : Out) → LiveOr0 (cap t) (W t) a → heightAt (W t) a ≤ suc d → c < cubeKids → Cell cubeKids d p → suc d ≤ tallest
       → liveIn (t .arena) + suc j < cap t → h ≤ mostHolds → 1 ≤ h + q → Low cubeKids tallest t x p a c j o
-      → upBy o (eightParts (W t) a) c (hashOver (W t) a) (sumOver (W t) a) (valueAt (W t) (part (W t) a c)) (heightAt (W t) a) h q ≡ over kids-fit two w x small c a h q o
+      → upBy o a c h q ≡ over kids-fit two w x small c a h q o
   over-same d c a j h q p o l low b cell tall room few held r =
       let ks = wordsOf cubeKids (replace (part (W t) a) c (o .id)) in
       let e : set (eightParts (W t) a) c (o .id) ≡ ks = words-set (W t) a c (o .id) b in
@@ -272,9 +319,12 @@ module _ {tallest : ℕ} (high : tallest ≤ 900) {t : Tables} (w : WellFormed c
       let n = eight kids-fit two w x small d c a j h q p o l low b cell tall room few held r in
       let live = others-live kids-fit two w x small d c a j h q p o l low b cell tall room few held r in
       let g = placed kids-fit two w x small d c a j h q p o l low b cell tall room few held r in
-      let same : owedBy (o .after) (set ks c 0) ≡ each owed (o .after) (set ks c 0) =
-      each-same (set ks c 0) (o .id ∷ []) (omega (arith, length-set ks c 0)) (r .grown .inv) live in
-      let v = each owed (o .after) (set ks c 0) in
+      let u = o .after in
+      let v = each owed u (set ks c 0) in
+      let same : owedBy u (set (eightParts (W t) a) c 0) ≡ v =
+      ap (λ (m : List ℕ). owedBy u m) z ∙ each-same (set ks c 0) (o .id ∷ []) (omega (arith, length-set ks c 0)) (r .grown .inv) live in
+      let put : tablesOf (u .arena) (nodes (u .nodes .kids) (placedOver (u .nodes .facts) (eightParts (W t) a) a c)) (u .find) ≡ v =
+      ap (λ (fs : List ℕ). tablesOf (u .arena) (nodes (u .nodes .kids) fs) (u .find)) (others-placed w (r .grown) a c l b) ∙ same in
       let es : sumBy cubeKids (W v) ks ≡ sumFor cubeKids (W v) ks =
       sum-by cubeKids tallest kids-fit kids-some v ks n (g .content) (λ y a b. g .inv .counts .named y a (omega (arith, total-append kidWords (cap v) (W v) y ks []))) in
       let hl = lowers kids-fit two w x small d c a j h q p o l low b cell tall room few held r in
@@ -292,7 +342,9 @@ module _ {tallest : ℕ} (high : tallest ≤ 900) {t : Tables} (w : WellFormed c
       let et = resum-set (W t) (W v) a c (o .id) b (sumOver (W t) a) (sum-over w a l) worth (omega (arith, at (sumFor cubeKids (W v)), sum-fits cubeKids (W v) ks es))
       (small-value w (part (W t) a c) (there c b)) in
       let ek = hash-set (W t) (W v) a c (o .id) b (hashOver (W t) a) (hash-over w a l) in
-      up-is o (eightParts (W t) a) c (hashOver (W t) a) (sumOver (W t) a) (valueAt (W t) (part (W t) a c)) (heightAt (W t) a) h q v ks (ap (λ (m : List ℕ). owedBy (o .after) m) z ∙ same) e
+      up-is o a c h q (eightParts (W t) a) ks v (part (W t) a c) (hashOver (W t) a) (sumOver (W t) a) (valueAt (W t) (part (W t) a c)) (heightAt (W t) a)
+      (parts-stay kids-fit made (r .grown) a l) (part-stays kids-fit made (r .grown) a l c b) (hash-stays kids-fit made (r .grown) a l) (sum-stays kids-fit made (r .grown) a l)
+      (value-stays kids-fit made (r .grown) a l (part (W t) a c) (there c b)) (height-stays kids-fit made (r .grown) a l) put e
       ∙ (branch-same (ks ++ []) ks _ _ _ h q (g .inv) (let y = g .lives in let k = r .grown .lives in let u = g .caps in let f = r .grown .caps in omega arith)
       (rw e at eu) (rw e at et) (rw e at ek))
 
@@ -308,31 +360,31 @@ module _ {tallest : ℕ} (high : tallest ≤ 900) {t : Tables} (w : WellFormed c
     owed-live s (inr z) y e o = cases (ℕ-discrete y s) (λ q. subst (λ (i : ℕ). Live (cap t) (W t) i) (sym q) z) (λ q. absurd (omega (arith, occ-there y s [] q, occ-nil y)))
 
     step-have : (s : ℕ) → Plan cubeKids (cap t) (W t) x p (part (W t) a c) (have s) → needOf cubeKids t (replace (part (W t) a) c s) ≡ lack k
-        → makeBy t x (c ∷ p) a (upPlan t (eightParts (W t) a) c (planned 0 s)) h q
+        → makeBy t x (c ∷ p) a (upPlan t a c (planned 0 s)) h q
         ≡ over kids-fit two w x small c a h q (said 0 s (owed t s))
     step-have s u e =
         let r = low-have kids-fit two w x small d c a s k p l low b cell u e in
         let one = r .1 in
-        let f = replace (part (W t) a) c s in
-        let z : upPlan t (eightParts (W t) a) c (planned 0 s) ≡ planned 1 s = up-have w x small a c s b ∙ ⊎-elim (λ y. absurd (have-lack (sym (y .1) ∙ e))) (λ y. y .1) (need-by w f s) in
+        let z : upPlan t a c (planned 0 s) ≡ planned 1 s =
+        up-have w x small a c s ∙ ⊎-elim (λ y. absurd (have-lack (sym (y .1) ∙ e))) (λ y. y .1) (need-by w a c s l b (parts-there kids-fit kids-some w x d c a s p l low b cell u)) in
         let o : makeBy t x p (part (W t) a c) (planned 0 s) 0 1 ≡ said 0 s (owed t s) =
         make-zero t x p (part (W t) a c) s 0 1
         ∙ ap (said 0 s) (each-same (s ∷ []) [] (omega arith) inv (owed-live s (part-s s u)) ∙ each-cons t s [] ∙ each-nil (owed t s)) in
-        rw z (make-more t x c p a 0 s h q ∙ ap (λ (y : Out). upBy y (eightParts (W t) a) c (hashOver (W t) a) (sumOver (W t) a) (valueAt (W t) (part (W t) a c)) (heightAt (W t) a) h q) o
+        rw z (make-more t x c p a 0 s h q ∙ ap (λ (y : Out). upBy y a c h q) o
         ∙ over-same d c a 0 h q p (said 0 s (owed t s)) l low b cell tall (omega arith) few held (r .0))
 
     step-lack : (j s : ℕ) → 1 ≤ j → j ≤ 1000 → suc j ≡ k → Done cubeKids tallest t x p (part (W t) a c) j 0 1 new → makeBy t x p (part (W t) a c) (planned j s) 0 1 ≡ new
-        → makeBy t x (c ∷ p) a (upPlan t (eightParts (W t) a) c (planned j s)) h q
+        → makeBy t x (c ∷ p) a (upPlan t a c (planned j s)) h q
         ≡ over kids-fit two w x small c a h q new
     step-lack j s one top e done ih =
-        rw (up-lack w x small a c j s one top) (make-more t x c p a j s h q ∙ ap (λ (y : Out). upBy y (eightParts (W t) a) c (hashOver (W t) a) (sumOver (W t) a) (valueAt (W t) (part (W t) a c)) (heightAt (W t) a) h q) ih
+        rw (up-lack w x small a c j s one top) (make-more t x c p a j s h q ∙ ap (λ (y : Out). upBy y a c h q) ih
         ∙ over-same d c a j h q p new l low b cell tall (omega arith) few held (low-lack kids-fit two w x small d c a j p new l b done))
 
     step-same : (B : ℕ) (bp : planning.Plan) (r : Need) → B ≤ 1000 → Agree B bp r → Plan cubeKids (cap t) (W t) x p (part (W t) a c) r
         → ((j : ℕ) → r ≡ lack j → liveIn (t .arena) + j < cap t → Done cubeKids tallest t x p (part (W t) a c) j 0 1 new)
         → ((j : ℕ) → r ≡ lack j → liveIn (t .arena) + j < cap t → makeBy t x p (part (W t) a c) bp 0 1 ≡ new)
         → upNeed (λ s. needOf cubeKids t (replace (part (W t) a) c s)) r ≡ lack k
-        → makeBy t x (c ∷ p) a (upPlan t (eightParts (W t) a) c bp) h q ≡ over kids-fit two w x small c a h q (lowOf t r new)
+        → makeBy t x (c ∷ p) a (upPlan t a c bp) h q ≡ over kids-fit two w x small c a h q (lowOf t r new)
     unfolding upNeed lowOf
     step-same B bp r top (agree-have {r = s}) u done ih e = step-have s u e
     step-same B bp r top (agree-lack {k = j} {s = s} one most) u done ih e =
@@ -358,7 +410,7 @@ module _ {tallest : ℕ} (high : tallest ≤ 900) {t : Tables} (w : WellFormed c
       let lb = part-there cubeKids (cap t) (W t) made a c l b in
       let hb = part-low cubeKids (cap t) (W t) made a c l b d low in
       step-same d c a k h q p l low b cell tall room few held (makeOf cubeKids t x p (part (W t) a c) 0 1)
-      (suc d) (planBy t x p (part (W t) a c)) (planOf cubeKids t x p (part (W t) a c)) (omega arith) (plan-agree w x small (part (W t) a c) (omega arith) cell)
+      (suc d) (planBy t x p (part (W t) a c)) (planOf cubeKids t x p (part (W t) a c)) (omega arith) (plan-agree w x small (part (W t) a c) lb hb (omega arith) cell)
       (plan-is kids-fit kids-some w x (part (W t) a c) lb hb cell)
       (λ j z y. make-done kids-fit two w x small (part (W t) a c) j 0 1 lb hb (omega arith) cell z y (omega arith) (omega arith))
       (λ j z y. make-same (part (W t) a c) j 0 1 lb hb (omega arith) cell z y (omega arith) (omega arith)) e

@@ -33,7 +33,7 @@ use Rattle.arena.proofs.Leaves.{leaf-in, leaf-slot}
 use Rattle.arena.proofs.Scan.{find-hit, find-miss}
 use Rattle.read_cell.proofs.Meaning.{leaf-above, wf-made}
 use Rattle.edit.specs.Edit.{wordsOf, oneLeaf, needOf, cellNeed, upNeed, planOf}
-use Rattle.edit_plan.proofs.Plans.{tab-get}
+use Rattle.edit_way.proofs.Words.{tab-get}
 use Rattle.edit.proofs.Wholes.{leaf-node, branch-node, is-branch}
 
 -- ---- the eight words of n parts
@@ -62,7 +62,7 @@ all-yes k zero i f h = refl
 all-yes k (suc n) i f h =
     rw (eq-eqb k (f i) (sym (h i (omega arith) (omega arith)))) (all-yes k n (suc i) f (λ j a b. h j (omega arith) (omega arith)))
 
-leaf-both : (n : ℕ) (f : ℕ → ℕ) → oneLeaf n f ≡ true → (isLeaf (f 0) ≡ true) × (allOf (eqb (f 0)) (tabFrom n 0 f) ≡ true)
+pub leaf-both : (n : ℕ) (f : ℕ → ℕ) → oneLeaf n f ≡ true → (isLeaf (f 0) ≡ true) × (allOf (eqb (f 0)) (tabFrom n 0 f) ≡ true)
 unfolding oneLeaf
 leaf-both n f q = both (isLeaf (f 0)) (allOf (eqb (f 0)) (tabFrom n 0 f)) q
 
@@ -79,7 +79,7 @@ pub data Came (n : ℕ) (t : Tables) (f : ℕ → ℕ) : Type 0 where
 
 module _ {n tallest : ℕ} {t : Tables} (m : n ≤ kidWords) (pos : 1 ≤ n) (w : WellFormed n tallest t) where
   -- a live id has the leaf flag exactly if it is a leaf's
-  flag-leaf : (a : ℕ) → LiveOr0 (cap t) (W t) a → isLeaf a ≡ true → Leaf a
+  pub flag-leaf : (a : ℕ) → LiveOr0 (cap t) (W t) a → isLeaf a ≡ true → Leaf a
   flag-leaf a (inl z) e = absurd (true≢false (sym e ∙ ap isLeaf z ∙ nothing-flag))
   flag-leaf a (inr l) e =
       ⊎-elim (λ b. b) (λ b. absurd (true≢false (sym e ∙ branch-no b))) (kind-of (decLt a (2 ^ 63)))
@@ -95,7 +95,7 @@ module _ {n tallest : ℕ} {t : Tables} (m : n ≤ kidWords) (pos : 1 ≤ n) (w 
           let most = w .sized .most in
           ap isLeaf (sym (l .is) ∙ v .id) ∙ branch-flag (W t) (slot a) (generationOf (W t (slot a) own)) (omega arith) (gen-small (W t (slot a) own))
 
-  leaf-flagged : (a : ℕ) → LiveOr0 (cap t) (W t) a → Leaf a → isLeaf a ≡ true
+  pub leaf-flagged : (a : ℕ) → LiveOr0 (cap t) (W t) a → Leaf a → isLeaf a ≡ true
   leaf-flagged a (inl z) h = absurd (omega arith)
   leaf-flagged a (inr l) h =
       let v = leaf-node n tallest (cap t) (W t) m (w .sized .most) (wf-content w) a l h in

@@ -8,6 +8,8 @@ use basics::MOST_HOLDS;
 use edit_make::make;
 use edit_plan::Plan;
 use edit_plan::plan_edit;
+use edit_way::Way;
+use edit_way::way_down;
 use ids::BlockId;
 use new_node::free_slots;
 use new_value::height_at;
@@ -63,12 +65,12 @@ fn hold_or_make(
     kids: &mut [u64],
     facts: &mut [u32],
     find: &mut [u16],
-    root: u64,
-    cell: Cell,
+    w: Way,
+    depth: u32,
     v: u32,
     p: Plan,
 ) -> Made
-    ensures { λ r. ⌜ made a r kids facts find ≡ answerBy (before a kids facts find) v cell root p ⌝ }
+    ensures { λ r. ⌜ made a r kids facts find ≡ answerBy (before a kids facts find) v w depth p ⌝ }
 {
     if p.new == 0 {
         bump(facts, HOLDS, p.id);
@@ -78,7 +80,7 @@ fn hold_or_make(
             slots: a.slots,
         };
     }
-    make(a, kids, facts, find, root, cell, v, p, 1, 0)
+    make(a, kids, facts, find, w, depth, v, p)
 }
 
 // The edit by its plan, once the refusals before 10 are past.
@@ -87,12 +89,12 @@ fn edit_planned(
     kids: &mut [u64],
     facts: &mut [u32],
     find: &mut [u16],
-    root: u64,
-    cell: Cell,
+    w: Way,
+    depth: u32,
     v: u32,
     p: Plan,
 ) -> Made
-    ensures { λ r. ⌜ made a r kids facts find ≡ editPast (before a kids facts find) v cell root p ⌝ }
+    ensures { λ r. ⌜ made a r kids facts find ≡ editPast (before a kids facts find) v w depth p ⌝ }
 {
     let no = grant_no(a, kids, facts, find, p);
     if no != 0 {
@@ -102,7 +104,7 @@ fn edit_planned(
             slots: a.slots,
         };
     }
-    hold_or_make(a, kids, facts, find, root, cell, v, p)
+    hold_or_make(a, kids, facts, find, w, depth, v, p)
 }
 
 // The edit of a cell, on any tables.
@@ -125,8 +127,9 @@ fn edit_cell(
             slots: a.slots,
         };
     }
-    let p = plan_edit(a, kids, facts, find, root, cell, v);
-    edit_planned(a, kids, facts, find, root, cell, v as u32, p)
+    let w = way_down(kids, root, cell);
+    let p = plan_edit(a, kids, facts, find, root, cell, v, w);
+    edit_planned(a, kids, facts, find, w, cell.depth, v as u32, p)
 }
 
 // The root with the cell at the position set to the value, or a refusal: 1, 2, 3, 4, 8, 10 or 11. The root is not used up; the answer has one new

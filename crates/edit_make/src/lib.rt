@@ -2,43 +2,46 @@
 use arena::Arena;
 use arena::Made;
 use arena::bump;
-use arena::bump_all;
 use arena::more;
 use arena::slot_of;
 use basics::DEEPEST;
+use basics::KID_WORDS;
 use basics::Kids;
 use edit_plan::Plan;
-use edit_plan::parts;
+use edit_way::LEVELS;
+use edit_way::Way;
+use edit_way::hash_over;
+use edit_way::is_end;
+use edit_way::part;
+use edit_way::parts;
+use edit_way::with_part;
 use find::number_from;
-use find_hash::even_hash;
 use find_hash::home_in;
 use find_hash::leaf_hash;
 use find_hash::rehash;
 use ids::BlockId;
-use ids::LOWEST_LEAF;
 use new_node::fresh_branch;
 use new_node::fresh_leaf;
 use new_node::fresh_slot;
 use new_value::height_at;
 use new_value::sums_of;
 use new_value::value_at;
-use nodes::HASH;
 use nodes::PLACES;
 use nodes::SUM;
 use nodes::fact;
-use paths::Cell;
-use paths::octant;
+use nodes_write::put_fact;
 ghost use mathlib.Core.Path.{_≡_};
-ghost use Prim.Native.Nat.{_≤_, _<_};
+ghost use Prim.Native.Nat.{_-_, _≤_, _<_};
 ghost use lib.Dec.{eqb};
 ghost use Rattle.basics.specs.Limits.{deepest};
+ghost use Rattle.basics.specs.Pick.{pick};
 ghost use Rattle.nodes.specs.Words.{factOf};
 ghost use Rattle.find_hash.specs.Hash.{homeIn};
 ghost use Rattle.find.specs.Cells.{probe};
-ghost use Rattle.tree.specs.Cells.{pathTo};
-ghost use Rattle.edit_make.specs.Models.{isEnd, hashOver, sumOver, heightOver, resum as resumOf, leafAnewBy, branchAnewBy, upBy, makeBy, makeAt};
+ghost use Rattle.edit_make.specs.Models.{sumOver, heightOver, resum as resumOf, placedIf, otherBits, placedWhere, sevenPlaced, placedOver, leafAnewBy, branchAnewBy, upBy, holdAt, lowOf, fromOf, passed as passedOf, makeUp, makeOn};
 ghost use Rattle.arena.specs.Calls.{madeOf, freshSlot};
 ghost use Rattle.arena.specs.Lent.{before, made};
+ghost use Rattle.arena.specs.Models.{moreOf};
 ghost use Rattle.arena.specs.Tables.{stateOf};
 
 // Where a fresh node of the hash k is named. Its slot is not named yet, so the search for it ends at the first empty cell from its home on.
@@ -62,29 +65,6 @@ fn leaf_anew(
     let k = leaf_hash(v);
     let at = place_for(a, facts, find, k);
     fresh_leaf(a, facts, find, at, v, k, h, q)
-}
-
-// Is the id EMPTY or a leaf, which stands for eight of itself?
-fn is_end(id: u64) -> bool
-    ensures { λ r. ⌜ r ≡ isEnd id ⌝ }
-{
-    if id == BlockId::EMPTY.0 {
-        return true;
-    }
-    if LOWEST_LEAF <= id {
-        return true;
-    }
-    false
-}
-
-// The hash of the parts of id: a branch keeps it.
-fn hash_over(facts: &[u32], id: u64) -> u32
-    ensures { λ r. ⌜ r ≡ hashOver (factOf (now (facts .entry))) id ⌝ }
-{
-    if is_end(id) {
-        return even_hash(id);
-    }
-    fact(facts, slot_of(id), HASH)
 }
 
 // The sum of the stored values of the parts of id: a branch keeps it.
@@ -116,6 +96,68 @@ fn height_over(facts: &[u32], ks: Kids, y: u64, g: u32) -> u32
     up
 }
 
+// One more if `on`.
+fn more_if(x: u32, on: bool) -> u32
+    ensures { λ r. ⌜ r ≡ pick on (moreOf x) x ⌝ }
+{
+    if on { more(x) } else { x }
+}
+
+// One place more for the node of k if `on`, else nothing is changed. (Written in any case, so that no jump depends on it.)
+fn place_if(facts: &mut [u32], k: u64, on: bool)
+    ensures { λ _. ⌜ now (facts .exit) ≡ placedIf (now (facts .entry)) k on ⌝ }
+{
+    let s = slot_of(k);
+    let p = fact(facts, s, PLACES);
+    put_fact(facts, s, PLACES, more_if(p, on));
+}
+
+// One place more for each of the eight whose bit is 1.
+fn place_where(facts: &mut [u32], ks: Kids, mask: u8)
+    ensures { λ _. ⌜ now (facts .exit) ≡ placedWhere (now (facts .entry)) ks mask ⌝ }
+{
+    let mut bits = mask;
+    let mut i: usize = 0;
+    while i < KID_WORDS {
+        place_if(facts, ks[i], bits % 2 == 1);
+        bits = bits / 2;
+        i += 1;
+    }
+}
+
+// The bits of a mask, but for bit c.
+fn other_bits(mask: u8, c: usize) -> u8
+    requires { ⌜ c < 8 ⌝ }
+    ensures { λ r. ⌜ r ≡ otherBits mask c ⌝ }
+{
+    let n = c as u32;
+    mask - (((mask >> n) % 2) << n)
+}
+
+// Seven places more for the node of id; EMPTY: nothing.
+fn place_seven(facts: &mut [u32], id: u64)
+    ensures { λ _. ⌜ now (facts .exit) ≡ sevenPlaced (now (facts .entry)) id ⌝ }
+{
+    if id == BlockId::EMPTY.0 {
+        return;
+    }
+    let s = slot_of(id);
+    let p = fact(facts, s, PLACES) as u64;
+    put_fact(facts, s, PLACES, ((p + 7) % 0x1_0000_0000) as u32);
+}
+
+// One place more for each of the parts ks of `old` but number c. The mask of a branch says which of them are not EMPTY; an end stands for all seven.
+fn place_others(facts: &mut [u32], ks: Kids, old: u64, c: usize)
+    requires { ⌜ c < 8 ⌝ }
+    ensures { λ _. ⌜ now (facts .exit) ≡ placedOver (now (facts .entry)) ks old c ⌝ }
+{
+    if is_end(old) {
+        place_seven(facts, old);
+        return;
+    }
+    place_where(facts, ks, other_bits(BlockId(old).mask(), c));
+}
+
 fn branch_anew(
     a: Arena,
     kids: &mut [u64],
@@ -134,125 +176,146 @@ fn branch_anew(
     fresh_branch(a, kids, facts, find, at, ks, sum / 8, up, sum, k, h, q)
 }
 
-// The branch over the part `low`, number c, which has its place; the others get theirs. The node that had the parts ks has the hash k, the sum and the height g, and
-// its part number c the value x.
+// The branch in the place of `old` over the part `low`, number c, which has its place; the others get theirs. Its hash, sum and height come from what `old` keeps.
 fn branch_over(
     capacity: usize,
     low: Made,
     kids: &mut [u64],
     facts: &mut [u32],
     find: &mut [u16],
-    ks: Kids,
+    old: u64,
     c: usize,
-    k: u32,
-    sum: u32,
-    x: u32,
-    g: u32,
     h: u32,
     q: u32,
 ) -> Made
     requires { ⌜ c < 8 ⌝ }
-    ensures { λ r. ⌜ madeOf capacity r (now (kids .exit)) (now (facts .exit)) (now (find .exit)) ≡ upBy (madeOf capacity low (now (kids .entry)) (now (facts .entry)) (now (find .entry))) ks c k sum x g h q ⌝ }
+    ensures { λ r. ⌜ madeOf capacity r (now (kids .exit)) (now (facts .exit)) (now (find .exit)) ≡ upBy (madeOf capacity low (now (kids .entry)) (now (facts .entry)) (now (find .entry))) old c h q ⌝ }
 {
-    let mut others = ks;
-    others[c] = BlockId::EMPTY.0;
-    bump_all(facts, PLACES, others);
-    let mut all = ks;
-    all[c] = low.id.0;
+    let new = low.id.0;
+    let ks = parts(kids, old);
+    let was = part(kids, old, c);
+    let hash = rehash(hash_over(facts, old), c, was, new);
+    let sum = sum_over(facts, old);
+    let x = value_at(facts, was);
+    let g = height_at(facts, old);
+    place_others(facts, ks, old, c);
+    let all = with_part(ks, c, new);
+    let up = height_over(facts, all, new, g);
+    let total = resum(sum, x, value_at(facts, new));
     let a = Arena {
         capacity: capacity,
         slots: low.slots,
     };
-    let up = height_over(facts, all, low.id.0, g);
-    let total = resum(sum, x, value_at(facts, low.id.0));
-    let hash = rehash(k, c, ks[c], low.id.0);
     branch_anew(a, kids, facts, find, all, up, total, hash, h, q)
 }
 
-// The node of id made anew down to the cell: the plan's new nodes upward over its part, which is there; the topmost has h holds and q places.
-// Refusal 2 of a depth above 6.
+// The holds of a node made at level l of a cube of the depth: the topmost has one, which is the caller's; any other has a place instead.
+fn hold_at(l: u32, depth: u32) -> u32
+    ensures { λ r. ⌜ (r ≡ holdAt l depth) × (r ≤ 1) ⌝ }
+{
+    if l == depth { 1 } else { 0 }
+}
+
+// The lowest of what is to stand above: the leaf made anew where it is missing too, else the plan's part, which gets its place.
+fn make_lowest(
+    a: Arena,
+    kids: &mut [u64],
+    facts: &mut [u32],
+    find: &mut [u16],
+    depth: u32,
+    v: u32,
+    plan: Plan,
+) -> Made
+    ensures { λ r. ⌜ made a r kids facts find ≡ lowOf (before a kids facts find) v depth plan ⌝ }
+{
+    if depth < plan.new {
+        let h = hold_at(0, depth);
+        return leaf_anew(a, kids, facts, find, v, h, 1 - h);
+    }
+    bump(facts, PLACES, plan.id);
+    Made {
+        no: 0,
+        id: BlockId(plan.id),
+        slots: a.slots,
+    }
+}
+
+// The level of the lowest branch that is to be made.
+fn lowest_level(depth: u32, plan: Plan) -> u32
+    ensures { λ r. ⌜ (r ≡ fromOf depth plan) × (r ≤ depth) ⌝ }
+{
+    if depth < plan.new {
+        return 0;
+    }
+    depth - plan.new
+}
+
+// The octal digits of a path without the lowest n.
+fn passed(path: u32, n: u32) -> u32
+    ensures { λ r. ⌜ r ≡ passedOf path n ⌝ }
+{
+    let mut digits = path;
+    let mut i: u32 = 0;
+    while i < n {
+        digits = digits / 8;
+        i += 1;
+    }
+    digits
+}
+
+// From level `from` upward to the root: a branch in the place of each node of the way.
+fn make_up(
+    capacity: usize,
+    low: Made,
+    kids: &mut [u64],
+    facts: &mut [u32],
+    find: &mut [u16],
+    ids: [u64; LEVELS],
+    path: u32,
+    from: u32,
+    depth: u32,
+) -> Made
+    requires { ⌜ (from ≤ depth) × (depth ≤ deepest) ⌝ }
+    ensures { λ r. ⌜ madeOf capacity r (now (kids .exit)) (now (facts .exit)) (now (find .exit)) ≡ makeUp ids depth (depth - from) from path (madeOf capacity low (now (kids .entry)) (now (facts .entry)) (now (find .entry))) ⌝ }
+{
+    let mut last = low;
+    let mut digits = path;
+    let mut l = from;
+    while l < depth {
+        let c = (digits % 8) as usize;
+        digits = digits / 8;
+        let old = ids[l as usize];
+        l += 1;
+        let h = hold_at(l, depth);
+        let made = branch_over(capacity, last, kids, facts, find, old, c, h, 1 - h);
+        last = made;
+    }
+    last
+}
+
+// The result of an edit made along a way: the plan's new nodes upward over its part, the topmost with one hold. Refusal 2 of a depth above 6.
 pub fn make(
     a: Arena,
     kids: &mut [u64],
     facts: &mut [u32],
     find: &mut [u16],
-    id: u64,
-    cell: Cell,
+    way: Way,
+    depth: u32,
     v: u32,
     plan: Plan,
-    h: u32,
-    q: u32,
 ) -> Made
-    ensures { λ r. ⌜ made a r kids facts find ≡ makeAt (before a kids facts find) v cell id plan h q ⌝ }
+    ensures { λ r. ⌜ made a r kids facts find ≡ makeOn (before a kids facts find) v way depth plan ⌝ }
 {
-    if DEEPEST < cell.depth {
+    if DEEPEST < depth {
         return Made {
             no: 2,
             id: BlockId::INVALID,
             slots: a.slots,
         };
     }
-    if plan.new == 0 {
-        bump(facts, PLACES, plan.id);
-        return Made {
-            no: 0,
-            id: BlockId(plan.id),
-            slots: a.slots,
-        };
-    }
-    if cell.depth == 0 {
-        return leaf_anew(a, kids, facts, find, v, h, q);
-    }
-    make_over(a, kids, facts, find, id, cell, v, plan, h, q)
-}
-
-// The branch of id made anew, with the part in which the cell lies.
-fn make_over(
-    a: Arena,
-    kids: &mut [u64],
-    facts: &mut [u32],
-    find: &mut [u16],
-    id: u64,
-    cell: Cell,
-    v: u32,
-    plan: Plan,
-    h: u32,
-    q: u32,
-) -> Made
-    requires { ⌜ (1 ≤ cell .depth) × (cell .depth ≤ deepest) × (1 ≤ plan .new) ⌝ }
-    ensures { λ r. ⌜ made a r kids facts find ≡ makeBy (before a kids facts find) v (pathTo cell) id plan h q ⌝ }
-{
-    let ks = parts(kids, id);
-    let left = cell.depth - 1;
-    let c = octant(left, cell.x, cell.y, cell.z);
-    let rest = Cell {
-        x: cell.x,
-        y: cell.y,
-        z: cell.z,
-        depth: left,
-    };
-    let below = Plan {
-        new: plan.new - 1,
-        id: plan.id,
-    };
-    let k = hash_over(facts, id);
-    let sum = sum_over(facts, id);
-    let x = value_at(facts, ks[c]);
-    let g = height_at(facts, id);
-    let low = make(a, kids, facts, find, ks[c], rest, v, below, 0, 1);
-    branch_over(
-        a.capacity,
-        low,
-        kids,
-        facts,
-        find,
-        ks,
-        c,
-        k,
-        sum,
-        x,
-        g,
-        h,
-        q,
-    )
+    let low = make_lowest(a, kids, facts, find, depth, v, plan);
+    let from = lowest_level(depth, plan);
+    let digits = passed(way.path, from);
+    let ids = way.ids;
+    make_up(a.capacity, low, kids, facts, find, ids, digits, from, depth)
 }

@@ -1,49 +1,36 @@
 // The dry run of an edit: what of the result is there already, and how many nodes are not. It changes nothing.
 use arena::Arena;
-use arena::more;
-use arena::slot_of;
 use basics::DEEPEST;
 use basics::KID_WORDS;
 use basics::Kids;
+use edit_way::LEVELS;
+use edit_way::Way;
+use edit_way::hash_over;
+use edit_way::is_end;
+use edit_way::part;
+use edit_way::parts;
+use edit_way::with_part;
 use find::search;
 use find::search_leaf;
-use find_hash::kids_hash;
 use find_hash::leaf_hash;
+use find_hash::rehash;
 use ids::BlockId;
-use ids::LOWEST_LEAF;
 use new_value::value_at;
-use nodes::children;
 use nodes::own;
 use paths::Cell;
-use paths::octant;
-use read_cell::descend;
 ghost use mathlib.Core.Path.{_≡_};
 ghost use Prim.Native.Nat.{_≤_, _<_};
 ghost use lib.Dec.{eqb};
 ghost use Rattle.basics.specs.Limits.{deepest};
-ghost use Rattle.nodes.specs.Words.{kidOf, factOf};
-ghost use Rattle.tree.specs.Cells.{pathTo};
+ghost use Rattle.nodes.specs.Words.{factOf};
 ghost use Rattle.arena.specs.Calls.{allOf};
 ghost use Rattle.arena.specs.Lent.{before};
-ghost use Rattle.edit_plan.specs.Models.{eightParts, leafKids, slotPlan, cellPlan, needPlan, upPlan, planBy, resultBy};
+ghost use Rattle.edit_plan.specs.Models.{slotPlan, cellPlan, wholeOf, needPlan, planUp, planOn};
 
 // What a dry run found: how many nodes are to be made, and the part below them that is there.
 pub struct Plan {
     pub new: u32,
     pub id: u64,
-}
-
-// The eight parts of an id: the children of a branch; a leaf, and EMPTY, stands for eight of itself.
-pub fn parts(kids: &[u64], id: u64) -> Kids
-    ensures { λ r. ⌜ r ≡ eightParts (kidOf (now (kids .entry))) id ⌝ }
-{
-    if id == BlockId::EMPTY.0 {
-        return [id; KID_WORDS];
-    }
-    if LOWEST_LEAF <= id {
-        return [id; KID_WORDS];
-    }
-    children(kids, slot_of(id))
 }
 
 // Is each of the eight k?
@@ -60,12 +47,12 @@ fn all_are(ks: Kids, k: u64) -> bool
     true
 }
 
-// Are they eight times one leaf?
-fn all_one_leaf(ks: Kids) -> bool
-    ensures { λ r. ⌜ r ≡ leafKids ks ⌝ }
+// Are the eight all the part s, which is EMPTY or a leaf? Then they are s, and no branch.
+fn is_whole(ks: Kids, s: u64) -> bool
+    ensures { λ r. ⌜ r ≡ wholeOf ks s ⌝ }
 {
-    if BlockId(ks[0]).is_leaf() {
-        return all_are(ks, ks[0]);
+    if is_end(s) {
+        return all_are(ks, s);
     }
     false
 }
@@ -97,69 +84,61 @@ fn plan_cell(a: Arena, kids: &[u64], facts: &[u32], find: &[u16], v: u32) -> Pla
     plan_slot(facts, f.slot, BlockId::EMPTY.0)
 }
 
-// What eight parts come to, the last of them made being s.
-fn plan_node(a: Arena, kids: &[u64], facts: &[u32], find: &[u16], ks: Kids, s: u64) -> Plan
-    ensures { λ r. ⌜ r ≡ needPlan (before a kids facts find) ks s ⌝ }
+// What the parts of `old` come to with number c replaced by s.
+fn plan_node(
+    a: Arena,
+    kids: &[u64],
+    facts: &[u32],
+    find: &[u16],
+    old: u64,
+    c: usize,
+    s: u64,
+) -> Plan
+    requires { ⌜ c < 8 ⌝ }
+    ensures { λ r. ⌜ r ≡ needPlan (before a kids facts find) old c s ⌝ }
 {
-    if all_are(ks, BlockId::EMPTY.0) {
-        return Plan {
-            new: 0,
-            id: BlockId::EMPTY.0,
-        };
+    let all = with_part(parts(kids, old), c, s);
+    if is_whole(all, s) {
+        return Plan { new: 0, id: s };
     }
-    if all_one_leaf(ks) {
-        return Plan { new: 0, id: ks[0] };
-    }
-    let f = search(find, kids, facts, a.capacity, kids_hash(ks), ks);
+    let h = rehash(hash_over(facts, old), c, part(kids, old, c), s);
+    let f = search(find, kids, facts, a.capacity, h, all);
     plan_slot(facts, f.slot, s)
 }
 
-// One level up, number c of the parts ks replaced: over a part that is to be made, one node more.
+// From the cell upward, as long as what is needed is there: over a part that is to be made, each node is to be made.
 fn plan_up(
     a: Arena,
     kids: &[u64],
     facts: &[u32],
     find: &[u16],
-    ks: Kids,
-    c: usize,
-    below: Plan,
+    ids: [u64; LEVELS],
+    path: u32,
+    depth: u32,
+    v: u32,
 ) -> Plan
-    requires { ⌜ c < 8 ⌝ }
-    ensures { λ r. ⌜ r ≡ upPlan (before a kids facts find) ks c below ⌝ }
+    requires { ⌜ depth ≤ deepest ⌝ }
+    ensures { λ r. ⌜ r ≡ planUp (before a kids facts find) ids depth 0 path (cellPlan (before a kids facts find) v) ⌝ }
 {
-    if below.new == 0 {
-        let mut new = ks;
-        new[c] = below.id;
-        return plan_node(a, kids, facts, find, new, below.id);
+    let mut below = plan_cell(a, kids, facts, find, v);
+    let mut digits = path;
+    let mut l: u32 = 0;
+    while l < depth {
+        if below.new != 0 {
+            return Plan {
+                new: 1 + (depth - l),
+                id: below.id,
+            };
+        }
+        let c = (digits % 8) as usize;
+        digits = digits / 8;
+        below = plan_node(a, kids, facts, find, ids[l as usize], c, below.id);
+        l += 1;
     }
-    Plan {
-        new: more(below.new),
-        id: below.id,
-    }
+    below
 }
 
-// The dry run from the node of id down to the cell.
-fn dry_run(a: Arena, kids: &[u64], facts: &[u32], find: &[u16], id: u64, cell: Cell, v: u32) -> Plan
-    requires { ⌜ cell .depth ≤ deepest ⌝ }
-    ensures { λ r. ⌜ r ≡ planBy (before a kids facts find) v (pathTo cell) id ⌝ }
-{
-    if cell.depth == 0 {
-        return plan_cell(a, kids, facts, find, v);
-    }
-    let ks = parts(kids, id);
-    let left = cell.depth - 1;
-    let c = octant(left, cell.x, cell.y, cell.z);
-    let rest = Cell {
-        x: cell.x,
-        y: cell.y,
-        z: cell.z,
-        depth: left,
-    };
-    let below = dry_run(a, kids, facts, find, ks[c], rest, v);
-    plan_up(a, kids, facts, find, ks, c, below)
-}
-
-// The plan of an edit: the old root where the cell already has the value, else the dry run's. INVALID of a depth above 6.
+// The plan of an edit along a way: the root where the cell already has the value, else the dry run's. INVALID of a depth above 6.
 pub fn plan_edit(
     a: Arena,
     kids: &[u64],
@@ -168,8 +147,9 @@ pub fn plan_edit(
     root: u64,
     cell: Cell,
     v: u16,
+    way: Way,
 ) -> Plan
-    ensures { λ r. ⌜ r ≡ resultBy (before a kids facts find) v cell root ⌝ }
+    ensures { λ r. ⌜ r ≡ planOn (before a kids facts find) v cell root way ⌝ }
 {
     if DEEPEST < cell.depth {
         return Plan {
@@ -177,9 +157,9 @@ pub fn plan_edit(
             id: BlockId::INVALID.0,
         };
     }
-    let end = descend(kids, BlockId(root), cell);
-    if value_at(facts, end.id.0) % 65536 == v as u32 {
+    if value_at(facts, way.end) % 65536 == v as u32 {
         return Plan { new: 0, id: root };
     }
-    dry_run(a, kids, facts, find, root, cell, v as u32)
+    let ids = way.ids;
+    plan_up(a, kids, facts, find, ids, way.path, cell.depth, v as u32)
 }

@@ -1,31 +1,51 @@
 use borrow.Author.Needs.{needs}
 use mathlib.Core.Path.{_≡_, ap, _∙_}
 use mathlib.Core.List.{List}
-use Prim.Native.Nat.{ℕ}
-use lib.ListN.{getD, set}
-use Rattle.nodes.specs.Words.{factOf, places}
-use Rattle.nodes.specs.Values.{valueAt}
+use Prim.Native.Nat.{ℕ, _<_}
+use lib.ListN.{set}
+use Rattle.nodes.specs.Words.{factOf, kidOf}
+use Rattle.nodes.specs.Values.{valueAt, heightAt}
 use Rattle.find_hash.specs.Hash.{rekidsHash}
-use Rattle.arena.specs.Calls.{Out, each, madeOf}
-use Rattle.arena.specs.Models.{bumped}
+use Rattle.tree.specs.Anew.{part}
+use Rattle.arena.specs.Calls.{Out, madeOf}
 use Rattle.arena.specs.Tables.{stateIn, tables}
 use Rattle.arena.specs.declared.Made.{Made}
-use Rattle.edit_make.specs.Models.{heightOver, resum, branchAnewBy, upBy}
-use Rattle.edit_make.proofs.Steps.{height-facts, value-facts}
+use Rattle.edit_way.specs.Models.{eightParts, hashOver}
+use Rattle.edit_way.proofs.Words.{part-kids, parts-kids, hash-facts}
+use Rattle.edit_make.specs.Models.{sumOver, heightOver, resum, placedOver, branchAnewBy, upBy}
+use Rattle.edit_make.proofs.Steps.{height-facts, value-facts, tall-facts, sum-facts}
 use Rattle.edit_make.proofs.branch_over.Statement.{statement}
 use Rattle.edit_make.proofs.branch_over.Tie as tie
 
-done : (n : ℕ) (low : Made) (k f e ks m : List ℕ) (c y s x g h q up v z w : ℕ) (r : Out) → m ≡ each (bumped places) f (set ks c 0)
-    → up ≡ heightOver (factOf m) (set ks c (low .id .0)) (low .id .0) g → v ≡ valueAt (factOf m) (low .id .0) → z ≡ resum s x v → w ≡ rekidsHash y c (getD ks c 0) (low .id .0)
-    → r ≡ branchAnewBy (tables (stateIn n (low .slots)) k m e) (set ks c (low .id .0)) up z w h q → r ≡ upBy (madeOf n low k f e) ks c y s x g h q
+done : (n : ℕ) (low : Made) (k f e : List ℕ) (a c h q : ℕ) (ks m all : List ℕ) (was y w s x g up v z : ℕ) (r : Out) → c < 8
+    → ks ≡ eightParts (kidOf k) a → was ≡ part (kidOf k) a c → y ≡ hashOver (factOf f) a → w ≡ rekidsHash y c was (low .id .0) → s ≡ sumOver (factOf f) a → x ≡ valueAt (factOf f) was
+    → g ≡ heightAt (factOf f) a → m ≡ placedOver f ks a c → all ≡ set ks c (low .id .0) → up ≡ heightOver (factOf m) all (low .id .0) g → v ≡ valueAt (factOf m) (low .id .0)
+    → z ≡ resum s x v → r ≡ branchAnewBy (tables (stateIn n (low .slots)) k m e) all up z w h q → r ≡ upBy (madeOf n low k f e) a c h q
 unfolding upBy
-done n low k f e ks m c y s x g h q up v z w r em eu ev ez ew er =
+done n low k f e a c h q ks m all was y w s x g up v z r lc eks ewas ey ew es ex eg em eall eup ev ez er =
     let i = low .id .0 in
-    er ∙ rw (eu ∙ height-facts k m (set ks c i) i g, ez ∙ ap (resum s x) (ev ∙ value-facts k m i), ew, em)
+    er ∙ rw (eup ∙ height-facts k m all i g, ez ∙ ap (resum s x) (ev ∙ value-facts k m i), ew, ey ∙ hash-facts k f a, es ∙ sum-facts k f a, ex ∙ value-facts k f was, eg ∙ tall-facts k f a, eall, em, ewas ∙ part-kids k f a c lc, eks ∙ parts-kids k f a)
 
 pub branch-over-spec : {M : Type 1} → statement M
 branch-over-spec =
     tie.close
-    (tie.spec (λ c. search needs) (λ c. search needs) (λ c κs. search needs) (λ c. search needs) (λ c. search needs)
-    (λ c κs. search needs) (λ c κs. search needs) (λ c κs. search needs) (λ c. search needs) (λ c. search needs) (λ c κs. search needs) (λ c κs. search needs)
-    (λ c. search needs) (λ c. search needs) (λ c. search needs) (λ c. search done))
+    (tie.spec (λ c κs. search needs) (λ c κs. search needs) (λ c κs. search needs) (λ c κs. search needs) (λ c κs. search needs) (λ c κs. search needs)
+    (λ c κs. search needs) (λ c κs. search needs) (λ c κs. search needs) (λ c κs. search needs) (λ c κs. search needs) (λ c κs. search needs) (λ c κs. search needs)
+    (λ c. search needs) (λ c. search needs) (λ c. search needs) (λ c.
+    let anew = c .before .before .before .before .before .before in
+    let summed = anew .before .before .before .before in
+    let worth = summed .before in
+    let tall = worth .before .before in
+    let all = tall .before .before in
+    let placed = all .before .before .before in
+    let height = placed .before .before in
+    let value = height .before .before in
+    let sum = value .before .before in
+    let hashed = sum .before .before in
+    let hash = hashed .before in
+    let part = hash .before .before in
+    let parts = part .before .before in
+    let asked = parts .before .before .before .before .before .pre in
+    done _ _ _ _ _ _ _ _ _ _ _ _ _ _ _ _ _ _ _ _ _ _ asked (parts .parts .ensures) (part .part .ensures) (hash .hash-over .ensures) (hashed .rehash .ensures) (sum .sum-over .ensures)
+    (value .value-at .ensures) (height .height-at .ensures) (placed .place-others .ensures) (all .with-part .ensures) (tall .height-over .ensures) (worth .value-at2 .ensures)
+    (summed .resum .ensures) (anew .branch-anew .ensures)))

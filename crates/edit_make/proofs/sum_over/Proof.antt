@@ -4,7 +4,8 @@ use mathlib.Core.Bool.{Bool, true, false}
 use Prim.Native.Nat.{ℕ, _*_, _%_, _^_}
 use Rattle.nodes.specs.Words.{Words, sum, slot}
 use Rattle.nodes.specs.Values.{valueAt}
-use Rattle.edit_make.specs.Models.{isEnd, sumOver}
+use Rattle.edit_way.specs.Models.{isEnd}
+use Rattle.edit_make.specs.Models.{sumOver}
 use Rattle.edit_make.proofs.sum_over.Statement.{statement}
 use Rattle.edit_make.proofs.sum_over.Tie as tie
 

@@ -10,9 +10,9 @@ use Rattle.nodes.proofs.Sums.{tabFrom-ext}
 use Rattle.tree.specs.Anew.{part}
 use Rattle.tree.specs.Tree.{Flat}
 use Rattle.tree.proofs.Making.{part-flat, part-branch}
-use Rattle.edit_plan.specs.Models.{eightParts}
-use Rattle.edit_plan.proofs.parts.Statement.{statement}
-use Rattle.edit_plan.proofs.parts.Tie as tie
+use Rattle.edit_way.specs.Models.{eightParts}
+use Rattle.edit_way.proofs.parts.Statement.{statement}
+use Rattle.edit_way.proofs.parts.Tie as tie
 
 module _ (U : Words) (a : ℕ) where
   flat : Flat a → replicate 8 a ≡ eightParts U a

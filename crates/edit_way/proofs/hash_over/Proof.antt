@@ -4,9 +4,9 @@ use mathlib.Core.Bool.{Bool, true, false}
 use Prim.Native.Nat.{ℕ}
 use Rattle.nodes.specs.Words.{Words, hash, slot}
 use Rattle.find_hash.specs.Hash.{evenHash}
-use Rattle.edit_make.specs.Models.{isEnd, hashOver}
-use Rattle.edit_make.proofs.hash_over.Statement.{statement}
-use Rattle.edit_make.proofs.hash_over.Tie as tie
+use Rattle.edit_way.specs.Models.{isEnd, hashOver}
+use Rattle.edit_way.proofs.hash_over.Statement.{statement}
+use Rattle.edit_way.proofs.hash_over.Tie as tie
 
 module _ (U : Words) (a : ℕ) (b : Bool) (eb : b ≡ isEnd a) where
   end : (r : ℕ) → b ≡ true → r ≡ evenHash a → r ≡ hashOver U a

@@ -3,9 +3,9 @@ use mathlib.Core.Path.{_≡_}
 use mathlib.Core.Bool.{true, false}
 use Prim.Native.Nat.{ℕ, _^_, _≤_, _<_}
 use borrow.Author.Tests.{eq-eqb, ne-eqb, le-leb, lt-leb}
-use Rattle.edit_make.specs.Models.{isEnd}
-use Rattle.edit_make.proofs.is_end.Statement.{statement}
-use Rattle.edit_make.proofs.is_end.Tie as tie
+use Rattle.edit_way.specs.Models.{isEnd}
+use Rattle.edit_way.proofs.is_end.Statement.{statement}
+use Rattle.edit_way.proofs.is_end.Tie as tie
 
 module _ (a : ℕ) where
   nothing : a ≡ 0 → true ≡ isEnd a
