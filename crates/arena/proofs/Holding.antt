@@ -3,7 +3,7 @@ use mathlib.Core.Path.{_≡_, refl, sym, ap, subst}
 use mathlib.Core.Logic.{_≢_}
 use mathlib.Core.Bool.{Bool, true, false}
 use mathlib.Core.List.{List}
-use Prim.Native.Nat.{ℕ, zero, suc, _+_, _-_, _*_, _%_, _^_, _≤_}
+use Prim.Native.Nat.{ℕ, zero, suc, _-_, _%_, _^_, _≤_}
 use native.Mathlib.Decide.{ℕ-discrete}
 use native.Mathlib.Omega.{arith}
 use lib.Dec.{eqb, ltb}
@@ -11,7 +11,7 @@ use lib.ListN.{length, getD, replicate, length-replicate}
 use borrow.Author.Tests.{eq-eqb, ne-eqb}
 use Rattle.basics.specs.Pick.{pick}
 use Rattle.ids.specs.Ids.{generationOf}
-use Rattle.nodes.specs.Words.{rowIn, rowAt, kidOf, factOf, own, mark, spare, nodes, slot, floor, wordOf}
+use Rattle.nodes.specs.Words.{Place, rowIn, rowAt, inRows, inFacts, kidOf, factOf, own, mark, spare, nodes, slot, floor, wordOf}
 use Rattle.nodes.proofs.Counts.{floor-pos}
 use Rattle.nodes.proofs.Freeing.{freed-fresh}
 use Rattle.nodes.proofs.Sums.{cases}
@@ -58,16 +58,16 @@ none : (b : Bool) {x y : ℕ} → x ≡ 0 → y ≡ 0 → pick b x y ≡ 0
 none true p q = p
 none false p q = q
 
-zeros-row : (r n s i : ℕ) → rowAt r (replicate n 0) s i ≡ 0
+zeros-row : (r : ℕ) (at : Place) (n s i : ℕ) → rowAt r at (replicate n 0) s i ≡ 0
 unfolding rowAt
-zeros-row r n s i = none (ltb i r) (none (rowIn r (replicate n 0) s) (zeros n (r * s + i)) refl) refl
+zeros-row r at n s i = none (ltb i r) (none (rowIn r (replicate n 0) s) (zeros n (at (length (replicate n 0)) s i)) refl) refl
 
 -- every word of two cleared tables is 0
 blank : (m n s f : ℕ) → wordOf (nodes (replicate m 0) (replicate n 0)) s f ≡ 0
 unfolding wordOf kidOf factOf
 blank m n s f =
-    none (ltb f 8) (zeros-row 8 m s f)
-    (none (eqb f own) (let a = zeros-row 11 n s 0 in let b = zeros-row 11 n s 1 in omega arith) (none (ltb f own) refl (zeros-row 11 n s (f - 7))))
+    none (ltb f 8) (zeros-row 8 (inRows 8) m s f)
+    (none (eqb f own) (let a = zeros-row 11 inFacts n s 0 in let b = zeros-row 11 inFacts n s 1 in omega arith) (none (ltb f own) refl (zeros-row 11 inFacts n s (f - 7))))
 
 blank-well : (n tallest c j x y : ℕ) → Sized (tables (fresh c) (replicate j 0) (replicate x 0) (replicate y 0))
     → WellFormed n tallest (tables (fresh c) (replicate j 0) (replicate x 0) (replicate y 0))

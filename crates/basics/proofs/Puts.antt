@@ -2,11 +2,10 @@
 use mathlib.Core.Path.{_≡_, refl, sym, ap, _∙_}
 use mathlib.Core.List.{List, [], _∷_, _++_}
 use Prim.Native.Nat.{ℕ, zero, suc, _+_, _≤_, _<_}
-use native.Mathlib.Decide.{ℕ-discrete}
 use native.Mathlib.Numerals.{add-one}
 use native.Mathlib.Omega.{arith}
 use lib.ListN.{length, getD, set, take, drop, length-set, length-append}
-use lib.Seq.{take-all, take-suc, length-take-le, take-append-seam, getD-set-same, getD-set-other, set-out, set-set, set-comm, sets, sets-eq, length-sets}
+use lib.Seq.{take-all, take-suc, length-take-le, take-append-seam, getD-set-same, getD-set-other, set-out, set-comm, sets, sets-eq, length-sets}
 use Rattle.basics.specs.Puts.{putsFrom}
 
 puts-sets : (s l : List ℕ) (at : ℕ) → putsFrom l at s ≡ sets l at s
@@ -46,15 +45,6 @@ puts-out l at [] h = refl
 puts-out l at (v ∷ vs) h = puts-out l (suc at) vs (omega arith) ∙ ap (λ (m : List ℕ). putsFrom m (suc at) vs) (sym (set-out l at v h))
 
 -- ---- in which order
-
--- what is written over leaves nothing
-pub puts-over : (l : List ℕ) (at : ℕ) (vs : List ℕ) (p v : ℕ) → at ≤ p → p < at + length vs → putsFrom (set l p v) at vs ≡ putsFrom l at vs
-unfolding putsFrom
-puts-over l at [] p v a b = absurd (omega arith)
-puts-over l at (w ∷ vs) p v a b = elim (ℕ-discrete p at) [
-  | yes e ↦ ap (λ (m : List ℕ). putsFrom m (suc at) vs) (rw e (set-set l at v w))
-  | no d ↦ ap (λ (m : List ℕ). putsFrom m (suc at) vs) (set-comm l p at v w d) ∙ puts-over (set l at w) (suc at) vs p v (omega arith) (omega arith)
-]
 
 puts-before : (l : List ℕ) (at : ℕ) (vs : List ℕ) (p v : ℕ) → p < at → putsFrom (set l p v) at vs ≡ set (putsFrom l at vs) p v
 unfolding putsFrom

@@ -24,6 +24,10 @@ kidWords = 8
 abbrev pub factWords : ℕ
 factWords = 11
 
+-- of a slot's words in facts so many stand in its row: all but the hash
+abbrev pub rowWords : ℕ
+rowWords = 10
+
 abbrev pub slotCells : ℕ
 slotCells = 5
 

@@ -21,6 +21,9 @@ pub const KID_WORDS: usize = 8;
 
 pub const FACT_WORDS: usize = 11;
 
+// Of a slot's words in `facts` so many stand in its row: all but the hash.
+pub const ROW_WORDS: usize = 10;
+
 pub const SLOT_CELLS: usize = 5;
 
 // Of a slot's cells in `find` so many are homes, cells where a search can begin.

@@ -2,18 +2,18 @@
 use mathlib.Core.Path.{_≡_, refl, sym, ap, _∙_, subst}
 use mathlib.Core.Logic.{_≢_}
 use mathlib.Core.List.{List, [], _∷_}
-use Prim.Native.Nat.{ℕ, zero, suc, _+_, _-_, _*_, _/_, _%_, _^_, _≤_, _<_}
+use Prim.Native.Nat.{ℕ, zero, suc, _+_, _-_, _*_, _^_, _≤_, _<_}
 use native.Mathlib.Decide.{ℕ-discrete, decLt}
 use native.Mathlib.Omega.{arith}
 use lib.ListN.{length, getD}
 use lib.Seq.{ext-getD}
 use borrow.Author.Tests.{eq-eqb, ne-eqb, le-leb, lt-leb}
 use Rattle.basics.specs.Sums.{sumTo}
-use Rattle.nodes.specs.Words.{Words, own, places, mark, rowAt, nodes, kidOf, factOf, factPut, wordOf, putOf, slot, floor}
+use Rattle.nodes.specs.Words.{Words, own, places, mark, rowAt, inFacts, nodes, kidOf, factOf, factPut, wordOf, putOf, slot, floor}
 use Rattle.nodes.specs.Tally.{same, occ, kidsOf, tally, Live}
 use Rattle.nodes.proofs.Access.{Within, word-fact, kids-word, fact-row, put-row, put-size, put-same, put-slot, put-keeps}
 use Rattle.nodes.proofs.Counts.{live-inj, live-nonzero}
-use Rattle.nodes.proofs.Rows.{cell-in, cell-other}
+use Rattle.nodes.proofs.Rows.{facts-laid, facts-all, cell-in, cell-other}
 use Rattle.nodes.proofs.Sums.{cases, same-refl, same-diff, occ-nil, occ-cons, occ-here, occ-length, sumTo-ext, tabFrom-length}
 use Rattle.arena.specs.Calls.{each}
 use Rattle.arena.specs.Models.{bumped, moreOf}
@@ -63,12 +63,12 @@ module _ (k : List ℕ) where
       (λ h. rw (unmarked-dead f s h) refl)
       (λ h. rw (unmarked-live f s (omega arith)) (put-there f s 0 b d))
 
-  -- all words but the mark stay, which is word 9 of a row
+  -- all words but the mark stay, which is word 9 of a slot
 
   record Scratched (f g : List ℕ) : Type 0 where
     size : length g ≡ length f
     words : (b w : ℕ) → w ≢ mark → U g b w ≡ U f b w
-    rows : (b p : ℕ) → p ≢ 9 → rowAt 11 g b p ≡ rowAt 11 f b p
+    rows : (b p : ℕ) → p ≢ 9 → rowAt 11 inFacts g b p ≡ rowAt 11 inFacts f b p
 
   module _ (f : List ℕ) where
     none : Scratched f f
@@ -79,7 +79,7 @@ module _ (k : List ℕ) where
     put-scratched g s x r = record {
       size = put-size (nodes k g) s mark x .facts ∙ r .size;
       words = λ b w d. put-keeps (nodes k g) s mark x b w d ∙ r .words b w d;
-      rows = λ b p d. rw (put-row g s mark x (omega arith)) (cell-other 11 g s 9 x b p (λ e. d) ∙ r .rows b p d);
+      rows = λ b p d. rw (put-row g s mark x (omega arith)) (cell-other 11 inFacts facts-laid g s 9 x b p (λ e. d) ∙ r .rows b p d);
     }
 
     bumped-scratched : (g : List ℕ) (y : ℕ) → Scratched f g → Scratched f (bumped mark g y)
@@ -194,17 +194,15 @@ module _ (k : List ℕ) where
       clear-dead : U f s own < floor → U (clearTo g c) s mark ≡ U g s mark
       clear-dead h = let e = same-own in clear-after g s c l ∙ rw (unmarked-dead (clearTo g s) s (omega arith)) (clear-before g s)
 
-  -- two tables with the same rows are the same list
-  rows-ext : (c : ℕ) (f g : List ℕ) → length f ≡ 11 * c → length g ≡ 11 * c → c ≤ 65536 → ((s p : ℕ) → s < c → p < 11 → rowAt 11 f s p ≡ rowAt 11 g s p) → f ≡ g
+  -- two tables with the same words are the same list
+  rows-ext : (c : ℕ) (f g : List ℕ) → length f ≡ 11 * c → length g ≡ 11 * c → c ≤ 65536 → ((s p : ℕ) → s < c → p < 11 → rowAt 11 inFacts f s p ≡ rowAt 11 inFacts g s p) → f ≡ g
   rows-ext c f g n m small h = ext-getD 0 f g (n ∙ sym m)
-      (λ p l.
-      let e : 11 * (p / 11) + p % 11 ≡ p = omega arith in
-      let r : p % 11 < 11 = omega arith in
-      subst (λ (q : ℕ). getD f q 0 ≡ getD g q 0) e
-      (sym (cell-in 11 f (p / 11) (p % 11) (record { small = omega arith; room = omega arith }) r) ∙ h (p / 11) (p % 11) (omega arith) r
-      ∙ cell-in 11 g (p / 11) (p % 11) (record { small = omega arith; room = omega arith }) r))
+      (λ q l. facts-all c (length f) q n l (λ s p a b e.
+      subst (λ (x : ℕ). getD f x 0 ≡ getD g x 0) e
+      (sym (cell-in 11 inFacts f s p (record { small = omega arith; room = omega arith }) b) ∙ h s p a b
+      ∙ cell-in 11 inFacts g s p (record { small = omega arith; room = omega arith }) b ∙ ap (λ (x : ℕ). getD g (inFacts x s p) 0) (m ∙ sym n))))
 
-  mark-row : (f : List ℕ) (s : ℕ) → U f s mark ≡ rowAt 11 f s 9
+  mark-row : (f : List ℕ) (s : ℕ) → U f s mark ≡ rowAt 11 inFacts f s 9
   mark-row f s = word-fact (nodes k f) s mark (omega arith) ∙ fact-row f s mark (omega arith)
 
   -- ---- what the comparison says

@@ -9,9 +9,9 @@ use native.Mathlib.Omega.{arith}
 use lib.ListN.{length, getD}
 use borrow.Author.Tests.{lt-ltb, le-ltb, ne-eqb}
 use Rattle.nodes.specs.Tally.{kidsOf}
-use Rattle.nodes.specs.Words.{own, value, mark, entry, rowIn, rowAt, rowSet, rowPut, Nodes, nodes, kidOf, factOf, wordOf, factPut, putOf, factsPut, written}
+use Rattle.nodes.specs.Words.{own, value, mark, entry, rowIn, rowAt, rowSet, rowFrom, rowPut, inRows, inFacts, Nodes, nodes, kidOf, factOf, wordOf, factPut, putOf, factsPut, written}
 use Rattle.nodes.proofs.Counts.{Others}
-use Rattle.nodes.proofs.Rows.{In, in-of, cell-out, cell-size, cell-same, cell-other, cell-twice, cell-again, put-out, row-size, row-same, row-other, row-over, row-again}
+use Rattle.nodes.proofs.Rows.{In, in-of, cell-out, cell-size, cell-same, cell-other, cell-twice, cell-again, put-out, row-size, row-same, row-other, row-over, row-again, rows-laid, facts-laid}
 use Rattle.nodes.proofs.Sums.{cases, split, tabFrom-ext}
 
 -- the slot's words lie inside both tables
@@ -55,11 +55,11 @@ unfolding kidsOf
 kids-word n x s m = tabFrom-ext n 0 (kidOf (x .kids) s) (wordOf x s) (λ i a b. sym (word-kid x s i (omega arith)))
 
 module _ (l : List ℕ) (s : ℕ) where
-  pub fact-own : factOf l s own ≡ rowAt 11 l s 0 + 2 ^ 32 * rowAt 11 l s 1
+  pub fact-own : factOf l s own ≡ rowAt 11 inFacts l s 0 + 2 ^ 32 * rowAt 11 inFacts l s 1
   unfolding factOf
   fact-own = refl
 
-  pub fact-row : (f : ℕ) → own < f → factOf l s f ≡ rowAt 11 l s (f - 7)
+  pub fact-row : (f : ℕ) → own < f → factOf l s f ≡ rowAt 11 inFacts l s (f - 7)
   unfolding factOf
   fact-row f h = rw (ne-eqb f own (λ e. omega arith), le-ltb f own (omega arith))
 
@@ -67,7 +67,7 @@ module _ (l : List ℕ) (s : ℕ) where
   unfolding factOf
   fact-low f h = rw (ne-eqb f own (λ e. omega arith), lt-ltb f own h)
 
-  pub put-row : (f v : ℕ) → own < f → factPut l s f v ≡ rowSet 11 l s (f - 7) v
+  pub put-row : (f v : ℕ) → own < f → factPut l s f v ≡ rowSet 11 inFacts l s (f - 7) v
   unfolding factPut
   put-row f v h = rw (lt-ltb own f h)
 
@@ -82,14 +82,14 @@ kind f low is high = cases (decLt f own) low (λ h. cases (ℕ-discrete f own) i
 -- outside of the table
 pub fact-out : (l : List ℕ) (s f : ℕ) → rowIn 11 l s ≡ false → factOf l s f ≡ 0
 fact-out l s f e = kind f (fact-low l s f)
-    (λ (q : f ≡ own). rw (q, fact-own l s, cell-out 11 l s 0 e, cell-out 11 l s 1 e))
-    (λ h. fact-row l s f h ∙ cell-out 11 l s (f - 7) e)
+    (λ (q : f ≡ own). rw (q, fact-own l s, cell-out 11 inFacts l s 0 e, cell-out 11 inFacts l s 1 e))
+    (λ h. fact-row l s f h ∙ cell-out 11 inFacts l s (f - 7) e)
 
 pub factPut-out : (l : List ℕ) (s f v : ℕ) → rowIn 11 l s ≡ false → factPut l s f v ≡ l
-factPut-out l s f v e = cases (decLt own f) (λ h. put-row l s f v h ∙ put-out 11 l s (f - 7) v e) (λ h. put-none l s f v (omega arith))
+factPut-out l s f v e = cases (decLt own f) (λ h. put-row l s f v h ∙ put-out 11 inFacts l s (f - 7) v e) (λ h. put-none l s f v (omega arith))
 
 -- two tables that agree on the words of a fact agree on the fact
-fact-ext : (l m : List ℕ) (b g : ℕ) → ((q : ℕ) → (g ≡ own → q < 2) → (own < g → q ≡ g - 7) → own ≤ g → rowAt 11 m b q ≡ rowAt 11 l b q) → factOf m b g ≡ factOf l b g
+fact-ext : (l m : List ℕ) (b g : ℕ) → ((q : ℕ) → (g ≡ own → q < 2) → (own < g → q ≡ g - 7) → own ≤ g → rowAt 11 inFacts m b q ≡ rowAt 11 inFacts l b q) → factOf m b g ≡ factOf l b g
 fact-ext l m b g e = kind g
     (λ h. fact-low m b g h ∙ sym (fact-low l b g h))
     (λ (h : g ≡ own).
@@ -102,14 +102,14 @@ fact-ext l m b g e = kind g
 
 module _ (l : List ℕ) (s f v : ℕ) where
   factPut-size : length (factPut l s f v) ≡ length l
-  factPut-size = cases (decLt own f) (λ h. ap length (put-row l s f v h) ∙ cell-size 11 l s (f - 7) v) (λ h. ap length (put-none l s f v (omega arith)))
+  factPut-size = cases (decLt own f) (λ h. ap length (put-row l s f v h) ∙ cell-size 11 inFacts l s (f - 7) v) (λ h. ap length (put-none l s f v (omega arith)))
 
   fact-same : In 11 l s → own < f → f ≤ entry → factOf (factPut l s f v) s f ≡ v
-  fact-same w a b = rw (put-row l s f v a) (fact-row (rowSet 11 l s (f - 7) v) s f a ∙ cell-same 11 l s (f - 7) v w (omega arith))
+  fact-same w a b = rw (put-row l s f v a) (fact-row (rowSet 11 inFacts l s (f - 7) v) s f a ∙ cell-same 11 inFacts facts-laid l s (f - 7) v w (omega arith))
 
   fact-other : (b g : ℕ) → (b ≡ s → g ≡ f → ⊥) → factOf (factPut l s f v) b g ≡ factOf l b g
   fact-other b g d = cases (decLt own f)
-      (λ h. fact-ext l (factPut l s f v) b g (λ q i j o. rw (put-row l s f v h) (cell-other 11 l s (f - 7) v b q (λ e m.
+      (λ h. fact-ext l (factPut l s f v) b g (λ q i j o. rw (put-row l s f v h) (cell-other 11 inFacts facts-laid l s (f - 7) v b q (λ e m.
       kind g (λ z. omega arith) (λ z. let y = i z in omega arith) (λ z. let y = j z in d e (omega arith))))))
       (λ h. rw (put-none l s f v (omega arith)))
 
@@ -144,14 +144,14 @@ module _ (x : Nodes) (s f v : ℕ) where
   pub put-put : (w : ℕ) → putOf (putOf x s f v) s f w ≡ putOf x s f w
   unfolding putOf
   put-put w = ap (nodes (x .kids)) (cases (decLt own f)
-      (λ h. put-row (factPut (x .facts) s f v) s f w h ∙ rw (put-row (x .facts) s f v h, put-row (x .facts) s f w h) (cell-twice 11 (x .facts) s (f - 7) v w))
+      (λ h. put-row (factPut (x .facts) s f v) s f w h ∙ rw (put-row (x .facts) s f v h, put-row (x .facts) s f w h) (cell-twice 11 inFacts (x .facts) s (f - 7) v w))
       (λ h. ap (λ (m : List ℕ). factPut m s f w) (put-none (x .facts) s f v (omega arith))))
 
 -- what was there written again
 pub put-word : (x : Nodes) (s f v : ℕ) → v ≡ wordOf x s f → putOf x s f v ≡ x
 unfolding putOf
 put-word x s f v e = ap (nodes (x .kids)) (cases (decLt own f)
-    (λ h. put-row (x .facts) s f v h ∙ cell-again 11 (x .facts) s (f - 7) v (e ∙ word-fact x s f (omega arith) ∙ fact-row (x .facts) s f h))
+    (λ h. put-row (x .facts) s f v h ∙ cell-again 11 inFacts (x .facts) s (f - 7) v (e ∙ word-fact x s f (omega arith) ∙ fact-row (x .facts) s f h))
     (λ h. put-none (x .facts) s f v (omega arith)))
 
 -- one less, in the table or past it
@@ -173,15 +173,15 @@ module _ (l : List ℕ) (s o : ℕ) (fs : List ℕ) (eight : length fs ≡ 8) wh
   abbrev row : List ℕ
   row = o % 2 ^ 32 ∷ o / 2 ^ 32 ∷ fs
 
-  facts-row : factsPut l s (o ∷ fs) ≡ rowPut 11 l s row
+  facts-row : factsPut l s (o ∷ fs) ≡ rowFrom 11 inFacts l s 0 row
   unfolding factsPut
   facts-row = refl
 
   facts-size : length (factsPut l s (o ∷ fs)) ≡ length l
-  facts-size = ap length facts-row ∙ row-size 11 l s row
+  facts-size = ap length facts-row ∙ row-size 11 inFacts l s 0 row
 
-  facts-words : In 11 l s → (p : ℕ) → p < 10 → rowAt 11 (factsPut l s (o ∷ fs)) s p ≡ getD row p 0
-  facts-words w p h = rw facts-row (row-same 11 l s row w (omega arith) p (omega arith))
+  facts-words : In 11 l s → (p : ℕ) → p < 10 → rowAt 11 inFacts (factsPut l s (o ∷ fs)) s p ≡ getD row p 0
+  facts-words w p h = rw facts-row (row-same 11 inFacts facts-laid l s 0 row p p w (omega arith) (omega arith) (omega arith))
 
   facts-own : In 11 l s → factOf (factsPut l s (o ∷ fs)) s own ≡ o
   facts-own w = fact-own (factsPut l s (o ∷ fs)) s ∙ rw (facts-words w 0 (omega arith), facts-words w 1 (omega arith)) (omega arith)
@@ -194,28 +194,28 @@ module _ (l : List ℕ) (s o : ℕ) (fs : List ℕ) (eight : length fs ≡ 8) wh
   -- the entry, and every other slot
   facts-other : (b g : ℕ) → (b ≡ s → mark < g) → factOf (factsPut l s (o ∷ fs)) b g ≡ factOf l b g
   facts-other b g d = fact-ext l (factsPut l s (o ∷ fs)) b g (λ q i j k.
-      rw facts-row (row-other 11 l s row (omega arith) b q (λ e m. let z = d e in let y = j (omega arith) in omega arith)))
+      rw facts-row (row-other 11 inFacts facts-laid l s 0 row b q (λ e h m. let z = d e in let y = j (omega arith) in omega arith)))
 
   -- what is written over leaves nothing
   facts-over : (f u : ℕ) → f ≤ mark → factsPut (factPut l s f u) s (o ∷ fs) ≡ factsPut l s (o ∷ fs)
   unfolding factsPut
   facts-over f u h = cases (decLt own f)
-      (λ k. ap (λ (m : List ℕ). rowPut 11 m s row) (put-row l s f u k) ∙ row-over 11 l s row (f - 7) u (omega arith) (omega arith))
-      (λ k. ap (λ (m : List ℕ). rowPut 11 m s row) (put-none l s f u (omega arith)))
+      (λ k. ap (λ (m : List ℕ). rowFrom 11 inFacts m s 0 row) (put-row l s f u k) ∙ row-over 11 inFacts facts-laid l s 0 row (f - 7) u (omega arith) (omega arith) (omega arith))
+      (λ k. ap (λ (m : List ℕ). rowFrom 11 inFacts m s 0 row) (put-none l s f u (omega arith)))
 
 -- ---- a slot written
 
 -- the facts are the own word and eight more
 module _ (x : Nodes) (s : ℕ) (ks : List ℕ) (o : ℕ) (fs : List ℕ) (eight : length ks ≡ 8) (more : length fs ≡ 8) where
   pub written-size : SameSize x (written x s ks (o ∷ fs))
-  unfolding written
-  written-size = record { kids = row-size 8 (x .kids) s ks; facts = facts-size (x .facts) s o fs more }
+  unfolding written rowPut
+  written-size = record { kids = row-size 8 (inRows 8) (x .kids) s 0 ks; facts = facts-size (x .facts) s o fs more }
 
   -- every other slot, and every entry
   pub written-other : (b f : ℕ) → (b ≡ s → mark < f) → wordOf (written x s ks (o ∷ fs)) b f ≡ wordOf x b f
-  unfolding written kidOf
+  unfolding written kidOf rowPut
   written-other b f d = word-ext x (written x s ks (o ∷ fs)) b f
-      (λ h. row-other 8 (x .kids) s ks (omega arith) b f (λ e m. let z = d e in omega arith)) (λ h. facts-other (x .facts) s o fs more b f d)
+      (λ h. row-other 8 (inRows 8) (rows-laid 8) (x .kids) s 0 ks b f (λ e k m. let z = d e in omega arith)) (λ h. facts-other (x .facts) s o fs more b f d)
 
   pub written-others : Others s (wordOf x) (wordOf (written x s ks (o ∷ fs)))
   written-others b f d m = written-other b f (λ e. absurd (d e))
@@ -224,8 +224,8 @@ module _ (x : Nodes) (s : ℕ) (ks : List ℕ) (o : ℕ) (fs : List ℕ) (eight 
   written-entry b = written-other b entry (λ e. omega arith)
 
   pub written-kid : Within x s → (i : ℕ) → i < 8 → wordOf (written x s ks (o ∷ fs)) s i ≡ getD ks i 0
-  unfolding written kidOf
-  written-kid w i h = word-kid (written x s ks (o ∷ fs)) s i h ∙ row-same 8 (x .kids) s ks (w .kids) (omega arith) i (omega arith)
+  unfolding written kidOf rowPut
+  written-kid w i h = word-kid (written x s ks (o ∷ fs)) s i h ∙ row-same 8 (inRows 8) (rows-laid 8) (x .kids) s 0 ks i i (w .kids) (omega arith) (omega arith) (omega arith)
 
   pub written-own : Within x s → wordOf (written x s ks (o ∷ fs)) s own ≡ o
   unfolding written
@@ -242,7 +242,7 @@ module _ (x : Nodes) (s : ℕ) (ks : List ℕ) (o : ℕ) (fs : List ℕ) (eight 
 
   -- children that stand there already need not be written
   pub written-kept : ((i : ℕ) → i < 8 → getD ks i 0 ≡ wordOf x s i) → written x s ks (o ∷ fs) ≡ nodes (x .kids) (factsPut (x .facts) s (o ∷ fs))
-  unfolding written kidOf
+  unfolding written kidOf rowPut
   written-kept e =
       ap (λ (m : List ℕ). nodes m (factsPut (x .facts) s (o ∷ fs)))
-      (row-again 8 (x .kids) s ks (omega arith) (λ p h. e p (omega arith) ∙ word-kid x s p (omega arith)))
+      (row-again 8 (inRows 8) (x .kids) s 0 ks (λ i p z h. let q : p ≡ i = omega arith in rw q (e i (omega arith) ∙ word-kid x s i (omega arith))))

@@ -1,35 +1,26 @@
--- The laws of a table in rows, for any number of words a row.
-use mathlib.Core.Path.{_≡_, refl, ap, _∙_}
+-- The laws of a table of r words a slot, for any number of words and any layout that has a place for each.
+use mathlib.Core.Path.{_≡_, refl, sym, ap, _∙_}
+use mathlib.Core.Logic.{_≢_}
 use mathlib.Core.Bool.{true, false}
 use mathlib.Core.List.{List, [], _∷_}
-use Prim.Native.Nat.{ℕ, suc, _+_, _-_, _*_, _^_, _≤_, _<_}
+use Prim.Native.Nat.{ℕ, zero, suc, _+_, _-_, _*_, _/_, _%_, _^_, _≤_, _<_}
 use native.Mathlib.Nat.{mul-le-mul-left}
-use native.Mathlib.Decide.{decLt}
+use native.Mathlib.Decide.{ℕ-discrete, decLt}
 use native.Mathlib.Omega.{arith}
 use lib.Dec.{ltb}
 use lib.ListN.{length, getD, set, length-set}
-use lib.Seq.{getD-set-same, getD-set-other, set-set, set-getD}
-use borrow.Author.Tests.{lt-ltb, le-ltb, ltb-true}
-use Rattle.basics.specs.Puts.{putsFrom}
-use Rattle.basics.proofs.Puts.{puts-length, puts-other, puts-at, puts-over}
-use Rattle.nodes.specs.Words.{rowIn, rowAt, rowSet, rowPut}
+use lib.Seq.{getD-set-same, getD-set-other, set-set, set-comm, set-getD}
+use borrow.Author.Tests.{lt-ltb, le-ltb, ltb-true, ne-eqb}
+use Rattle.nodes.specs.Words.{Place, rowIn, rowAt, rowSet, rowFrom, inRows, inFacts}
 use Rattle.nodes.proofs.Sums.{cases, split}
 
--- row s lies in the table
+-- slot s lies in the table
 pub record In (r : ℕ) (l : List ℕ) (s : ℕ) : Type 0 where
   pub small : s < 2 ^ 32
   pub room : r * s + (r - 1) < length l
 
--- two words of two rows lie apart
-apart : (r s b p q : ℕ) → p < r → q < r → (b ≡ s → q ≡ p → ⊥) → r * b + q ≡ r * s + p → ⊥
-apart r s b p q k m d e = cases (decLt b s)
-    (λ h. let w : r * suc b ≤ r * s = mul-le-mul-left r h in let z = native.Mathlib.Nat.mul-suc r b in omega arith)
-    (λ h. cases (decLt s b)
-    (λ g. let w : r * suc s ≤ r * b = mul-le-mul-left r g in let z = native.Mathlib.Nat.mul-suc r s in omega arith)
-    (λ g. let i : b ≡ s = omega arith in let j : r * b ≡ r * s = ap (λ (n : ℕ). r * n) i in d i (omega arith)))
-
 module _ (r : ℕ) (l : List ℕ) (s : ℕ) where
-  pub in-true : In r l s → rowIn r l s ≡ true
+  in-true : In r l s → rowIn r l s ≡ true
   unfolding rowIn
   in-true w = rw (lt-ltb s (2 ^ 32) (w .small), lt-ltb (r * s + (r - 1)) (length l) (w .room))
 
@@ -47,127 +38,200 @@ module _ (r : ℕ) (l : List ℕ) (s : ℕ) where
       (λ t. let g = rw t at e in record { small = ltb-true s (2 ^ 32) t; room = ltb-true (r * s + (r - 1)) (length l) g })
       (λ t. absurd (let g = rw t at e in let z : _≡_ {A = ℕ} 0 1 = cc in omega arith))
 
-  pub in-size : (m : List ℕ) → length m ≡ length l → rowIn r m s ≡ rowIn r l s
+  in-size : (m : List ℕ) → length m ≡ length l → rowIn r m s ≡ rowIn r l s
   unfolding rowIn
   in-size m e = rw e
 
--- ---- what is read
+  in-as : (m : List ℕ) → length m ≡ length l → In r l s → In r m s
+  in-as m e w = record { small = w .small; room = rw e (w .room) }
 
-module _ (r : ℕ) (l : List ℕ) (s p : ℕ) where
-  pub cell-in : In r l s → p < r → rowAt r l s p ≡ getD l (r * s + p) 0
-  unfolding rowAt
-  cell-in w h = rw (lt-ltb p r h, in-true r l s w)
+-- ---- layouts
 
-  pub cell-out : rowIn r l s ≡ false → rowAt r l s p ≡ 0
-  unfolding rowAt
-  cell-out e = split (ltb p r) (λ a. rw (a, e)) (λ a. rw a)
+-- the words of the slots in a table have places in it, each its own
+pub record Layout (r : ℕ) (at : Place) : Type 0 where
+  pub inside : (n s p : ℕ) → r * s + (r - 1) < n → p < r → at n s p < n
+  pub apart : (n s b p q : ℕ) → r * s + (r - 1) < n → r * b + (r - 1) < n → p < r → q < r → (b ≡ s → q ≡ p → ⊥) → at n b q ≡ at n s p → ⊥
 
-  pub cell-past : r ≤ p → rowAt r l s p ≡ 0
-  unfolding rowAt
-  cell-past h = rw (le-ltb p r h)
+pub rows-laid : (r : ℕ) → Layout r (inRows r)
+rows-laid r = record { inside = λ n s p h k. omega arith; apart = λ n s b p q h g k m d e. apart s b p q k m d e }
+  where
+    apart : (s b p q : ℕ) → p < r → q < r → (b ≡ s → q ≡ p → ⊥) → r * b + q ≡ r * s + p → ⊥
+    apart s b p q k m d e = cases (decLt b s)
+        (λ h. let w : r * suc b ≤ r * s = mul-le-mul-left r h in let z = native.Mathlib.Nat.mul-suc r b in omega arith)
+        (λ h. cases (decLt s b)
+        (λ g. let w : r * suc s ≤ r * b = mul-le-mul-left r g in let z = native.Mathlib.Nat.mul-suc r s in omega arith)
+        (λ g. let i : b ≡ s = omega arith in let j : r * b ≡ r * s = ap (λ (n : ℕ). r * n) i in d i (omega arith)))
 
-  -- two tables of one size agree on a word where they agree on its number
-  cell-ext : (m : List ℕ) → length m ≡ length l → (p < r → getD m (r * s + p) 0 ≡ getD l (r * s + p) 0) → rowAt r m s p ≡ rowAt r l s p
-  unfolding rowAt
-  cell-ext m e d = split (ltb p r) (λ a. rw (a, in-size r l s m e, d (ltb-true p r a))) (λ a. rw a)
+-- ---- the places of the facts
 
--- ---- one word written
+module _ (n s : ℕ) where
+  pub at-before : (p : ℕ) → p < 6 → inFacts n s p ≡ 10 * s + p
+  at-before p h = rw (ne-eqb p 6 (λ e. omega arith), lt-ltb p 6 h)
 
-module _ (r : ℕ) (l : List ℕ) (s p v : ℕ) where
-  -- the word is set, or nothing is
-  pub cell-cases : {A : Type 0} → (p < r → rowSet r l s p v ≡ set l (r * s + p) v → A) → (rowSet r l s p v ≡ l → A) → A
-  unfolding rowSet
-  cell-cases one none = split (ltb p r)
-      (λ a. split (rowIn r l s) (λ t. one (ltb-true p r a) (rw (a, t))) (λ t. none (rw (a, t)))) (λ a. none (rw a))
+  pub at-after : (p : ℕ) → 6 < p → inFacts n s p ≡ 10 * s + (p - 1)
+  at-after p h = rw (ne-eqb p 6 (λ e. omega arith), le-ltb p 6 (omega arith))
 
-  pub put-in : In r l s → p < r → rowSet r l s p v ≡ set l (r * s + p) v
-  unfolding rowSet
-  put-in w h = rw (lt-ltb p r h, in-true r l s w)
+  -- before the hash, the hash, after it
+  by-place : {A : Type 0} (p : ℕ) → (p < 6 → inFacts n s p ≡ 10 * s + p → A) → (p ≡ 6 → inFacts n s p ≡ n - 1 - s → A)
+      → (6 < p → inFacts n s p ≡ 10 * s + (p - 1) → A) → A
+  by-place p before is after = cases (decLt p 6)
+      (λ h. before h (at-before p h)) (λ h. cases (ℕ-discrete p 6) (λ (e : p ≡ 6). is e (rw e)) (λ d. after (omega arith) (at-after p (omega arith))))
 
-  pub put-out : rowIn r l s ≡ false → rowSet r l s p v ≡ l
-  unfolding rowSet
-  put-out e = split (ltb p r) (λ a. rw (a, e)) (λ a. rw a)
+pub facts-laid : Layout 11 inFacts
+facts-laid = record {
+  inside = λ n s p h k. by-place n s p (λ i e. omega arith) (λ i e. omega arith) (λ i e. omega arith);
+  apart = λ n s b p q h g k m d x. by-place n s p
+      (λ i e. by-place n b q (λ j f. d (omega arith) (omega arith)) (λ j f. omega arith) (λ j f. omega arith))
+      (λ i e. by-place n b q (λ j f. omega arith) (λ j f. d (omega arith) (omega arith)) (λ j f. omega arith))
+      (λ i e. by-place n b q (λ j f. omega arith) (λ j f. omega arith) (λ j f. d (omega arith) (omega arith)));
+}
 
-  pub put-past : r ≤ p → rowSet r l s p v ≡ l
-  unfolding rowSet
-  put-past h = rw (le-ltb p r h)
+-- each place of a table for c slots is some word's
+pub facts-all : {A : Type 0} (c n q : ℕ) → n ≡ 11 * c → q < n → ((s p : ℕ) → s < c → p < 11 → inFacts n s p ≡ q → A) → A
+facts-all c n q e h is = cases (decLt q (10 * c))
+    (λ k. cases (decLt (q % 10) 6)
+    (λ b. is (q / 10) (q % 10) (omega arith) (omega arith) (at-before n (q / 10) (q % 10) b ∙ omega arith))
+    (λ b. is (q / 10) (suc (q % 10)) (omega arith) (omega arith) (at-after n (q / 10) (suc (q % 10)) (omega arith) ∙ omega arith)))
+    (λ k. is (n - 1 - q) 6 (omega arith) (omega arith) (omega arith))
 
-  pub cell-size : length (rowSet r l s p v) ≡ length l
-  cell-size = cell-cases (λ h e. ap length e ∙ length-set l (r * s + p) v) (λ e. ap length e)
+-- the numbers vs set at the places k p, k (p + 1), ..
+unfoldable pub setsAt : (ℕ → ℕ) → List ℕ → ℕ → List ℕ → List ℕ
+setsAt k l p [] = l
+setsAt k l p (v ∷ vs) = setsAt k (set l (k p) v) (suc p) vs
 
-  pub cell-same : In r l s → p < r → rowAt r (rowSet r l s p v) s p ≡ v
-  cell-same w h =
-      let g = w .room in
-      cell-in r (rowSet r l s p v) s p (record { small = w .small; room = rw cell-size (w .room) }) h
-      ∙ rw (put-in w h) (getD-set-same l (r * s + p) v 0 (omega arith))
+module _ (r : ℕ) (at : Place) where
+  -- ---- what is read
 
-  pub cell-other : (b q : ℕ) → (b ≡ s → q ≡ p → ⊥) → rowAt r (rowSet r l s p v) b q ≡ rowAt r l b q
-  cell-other b q d = cell-ext r l b q (rowSet r l s p v) cell-size
-      (λ m. cell-cases (λ h e. rw e (getD-set-other l (r * s + p) (r * b + q) v 0 (apart r s b p q h m d))) (λ e. rw e))
+  module _ (l : List ℕ) (s p : ℕ) where
+    pub cell-in : In r l s → p < r → rowAt r at l s p ≡ getD l (at (length l) s p) 0
+    unfolding rowAt
+    cell-in w h = rw (lt-ltb p r h, in-true r l s w)
 
-  pub cell-twice : (w : ℕ) → rowSet r (rowSet r l s p v) s p w ≡ rowSet r l s p w
-  unfolding rowSet
-  cell-twice w = split (ltb p r)
-      (λ a. split (rowIn r l s) (λ t. rw (a, t, in-size r l s (set l (r * s + p) v) (length-set l (r * s + p) v), t) (set-set l (r * s + p) v w)) (λ t. rw (a, t, t)))
-      (λ a. rw a)
+    pub cell-out : rowIn r l s ≡ false → rowAt r at l s p ≡ 0
+    unfolding rowAt
+    cell-out e = split (ltb p r) (λ a. rw (a, e)) (λ a. rw a)
+
+    pub cell-past : r ≤ p → rowAt r at l s p ≡ 0
+    unfolding rowAt
+    cell-past h = rw (le-ltb p r h)
+
+    -- two tables of one size agree on a word where they agree at its place
+    cell-ext : (m : List ℕ) → length m ≡ length l → (In r l s → p < r → getD m (at (length l) s p) 0 ≡ getD l (at (length l) s p) 0) → rowAt r at m s p ≡ rowAt r at l s p
+    unfolding rowAt
+    cell-ext m e d = split (ltb p r)
+        (λ a. split (rowIn r l s) (λ t. rw (a, in-size r l s m e, t, e, d (in-of r l s t) (ltb-true p r a))) (λ t. rw (a, in-size r l s m e, t))) (λ a. rw a)
+
+  -- ---- one word written
+
+  module _ (l : List ℕ) (s p v : ℕ) where
+    -- the word is set, or nothing is
+    cell-cases : {A : Type 0} → (In r l s → p < r → rowSet r at l s p v ≡ set l (at (length l) s p) v → A) → (rowSet r at l s p v ≡ l → A) → A
+    unfolding rowSet
+    cell-cases one none = split (ltb p r)
+        (λ a. split (rowIn r l s) (λ t. one (in-of r l s t) (ltb-true p r a) (rw (a, t))) (λ t. none (rw (a, t)))) (λ a. none (rw a))
+
+    pub put-in : In r l s → p < r → rowSet r at l s p v ≡ set l (at (length l) s p) v
+    unfolding rowSet
+    put-in w h = rw (lt-ltb p r h, in-true r l s w)
+
+    pub put-out : rowIn r l s ≡ false → rowSet r at l s p v ≡ l
+    unfolding rowSet
+    put-out e = split (ltb p r) (λ a. rw (a, e)) (λ a. rw a)
+
+    pub put-past : r ≤ p → rowSet r at l s p v ≡ l
+    unfolding rowSet
+    put-past h = rw (le-ltb p r h)
+
+    pub cell-size : length (rowSet r at l s p v) ≡ length l
+    cell-size = cell-cases (λ w h e. ap length e ∙ length-set l (at (length l) s p) v) (λ e. ap length e)
+
+    -- what was there written again
+    pub cell-again : v ≡ rowAt r at l s p → rowSet r at l s p v ≡ l
+    cell-again e = cell-cases (λ w h q. q ∙ rw (e ∙ cell-in l s p w h) (set-getD l (at (length l) s p) 0)) (λ q. q)
+
+    -- and then another
+    cell-two : (q w : ℕ) → In r l s → p < r → q < r → rowSet r at (rowSet r at l s p v) s q w ≡ set (set l (at (length l) s p) v) (at (length l) s q) w
+    unfolding rowSet
+    cell-two q w i h k =
+        let e = length-set l (at (length l) s p) v in
+        rw (lt-ltb p r h, lt-ltb q r k, in-true r l s i, in-size r l s (set l (at (length l) s p) v) e, in-true r l s i, e)
+
+  pub cell-twice : (l : List ℕ) (s p v w : ℕ) → rowSet r at (rowSet r at l s p v) s p w ≡ rowSet r at l s p w
+  cell-twice l s p v w =
+      cell-cases l s p v (λ i h e. cell-two l s p v p w i h h ∙ set-set l (at (length l) s p) v w ∙ sym (put-in l s p w i h)) (λ e. rw e)
+
+  -- ---- words one after the other written
+
+  pub row-size : (l : List ℕ) (s p : ℕ) (vs : List ℕ) → length (rowFrom r at l s p vs) ≡ length l
+  unfolding rowFrom
+  row-size l s p [] = refl
+  row-size l s p (v ∷ vs) = row-size (rowSet r at l s p v) s (suc p) vs ∙ cell-size l s p v
+
+  pub row-in : (l : List ℕ) (s p : ℕ) (vs : List ℕ) → In r l s → p + length vs ≤ r → rowFrom r at l s p vs ≡ setsAt (at (length l) s) l p vs
+  unfolding rowFrom setsAt
+  row-in l s p [] w k = refl
+  row-in l s p (v ∷ vs) w k =
+      let m = set l (at (length l) s p) v in
+      let e : length m ≡ length l = length-set l (at (length l) s p) v in
+      rw (put-in l s p v w (omega arith)) (row-in m s (suc p) vs (in-as r l s m e w) (omega arith) ∙ ap (λ (n : ℕ). setsAt (at n s) m (suc p) vs) e)
+
+  pub row-out : (l : List ℕ) (s p : ℕ) (vs : List ℕ) → rowIn r l s ≡ false → rowFrom r at l s p vs ≡ l
+  unfolding rowFrom
+  row-out l s p [] e = refl
+  row-out l s p (v ∷ vs) e = rw (put-out l s p v e) (row-out l s (suc p) vs e)
 
   -- what was there written again
-  pub cell-again : v ≡ rowAt r l s p → rowSet r l s p v ≡ l
-  unfolding rowSet rowAt
-  cell-again e = split (ltb p r)
-      (λ a. split (rowIn r l s) (λ t. let g = rw (a, t) at e in rw (a, t, g) (set-getD l (r * s + p) 0)) (λ t. rw (a, t))) (λ a. rw a)
+  pub row-again : (l : List ℕ) (s p : ℕ) (vs : List ℕ) → ((i q : ℕ) → q ≡ p + i → i < length vs → getD vs i 0 ≡ rowAt r at l s q) → rowFrom r at l s p vs ≡ l
+  unfolding rowFrom
+  row-again l s p [] e = refl
+  row-again l s p (v ∷ vs) e =
+      rw (cell-again l s p v (e 0 p (omega arith) (omega arith))) (row-again l s (suc p) vs (λ i q z h. e (suc i) q (omega arith) (omega arith)))
 
--- ---- the first words of a row written
+  -- ---- in a layout with a place for each
 
-module _ (r : ℕ) (l : List ℕ) (s : ℕ) (vs : List ℕ) where
-  row-cases : {A : Type 0} → (rowPut r l s vs ≡ putsFrom l (r * s) vs → A) → (rowPut r l s vs ≡ l → A) → A
-  unfolding rowPut
-  row-cases one none = split (rowIn r l s) (λ t. one (rw t)) (λ t. none (rw t))
+  module _ (laid : Layout r at) where
+    module _ (l : List ℕ) (s p v : ℕ) where
+      pub cell-same : In r l s → p < r → rowAt r at (rowSet r at l s p v) s p ≡ v
+      cell-same w h =
+          cell-in (rowSet r at l s p v) s p (in-as r l s (rowSet r at l s p v) (cell-size l s p v) w) h
+          ∙ rw (cell-size l s p v, put-in l s p v w h) (getD-set-same l (at (length l) s p) v 0 (laid .inside (length l) s p (w .room) h))
 
-  pub row-in : In r l s → rowPut r l s vs ≡ putsFrom l (r * s) vs
-  unfolding rowPut
-  row-in w = rw (in-true r l s w)
+      pub cell-other : (b q : ℕ) → (b ≡ s → q ≡ p → ⊥) → rowAt r at (rowSet r at l s p v) b q ≡ rowAt r at l b q
+      cell-other b q d = cell-ext l b q (rowSet r at l s p v) (cell-size l s p v)
+          (λ i m. cell-cases l s p v
+          (λ w h e. rw e (getD-set-other l (at (length l) s p) (at (length l) b q) v 0 (laid .apart (length l) s b p q (w .room) (i .room) h m d))) (λ e. rw e))
 
-  pub row-out : rowIn r l s ≡ false → rowPut r l s vs ≡ l
-  unfolding rowPut
-  row-out e = rw e
+      -- two words in either order
+      cell-swap : (q w : ℕ) → p < r → q < r → q ≢ p → rowSet r at (rowSet r at l s p v) s q w ≡ rowSet r at (rowSet r at l s q w) s p v
+      cell-swap q w h k d = split (rowIn r l s)
+          (λ t.
+          let i = in-of r l s t in
+          cell-two l s p v q w i h k
+          ∙ set-comm l (at (length l) s p) (at (length l) s q) v w (laid .apart (length l) s s q p (i .room) (i .room) k h (λ e f. d (sym f)))
+          ∙ sym (cell-two l s q w p v i k h))
+          (λ t. rw (put-out l s p v t, put-out l s q w t, put-out l s p v t))
 
-  pub row-size : length (rowPut r l s vs) ≡ length l
-  row-size = row-cases (λ e. ap length e ∙ puts-length l (r * s) vs) (λ e. ap length e)
+    pub row-other : (l : List ℕ) (s p : ℕ) (vs : List ℕ) (b q : ℕ) → (b ≡ s → p ≤ q → q < p + length vs → ⊥) → rowAt r at (rowFrom r at l s p vs) b q ≡ rowAt r at l b q
+    unfolding rowFrom
+    row-other l s p [] b q d = refl
+    row-other l s p (v ∷ vs) b q d =
+        row-other (rowSet r at l s p v) s (suc p) vs b q (λ e h k. d e (omega arith) (omega arith))
+        ∙ cell-other l s p v b q (λ e m. d e (omega arith) (omega arith))
 
-  pub row-same : In r l s → length vs ≤ r → (p : ℕ) → p < length vs → rowAt r (rowPut r l s vs) s p ≡ getD vs p 0
-  row-same w k p h =
-      let g = w .room in
-      cell-in r (rowPut r l s vs) s p (record { small = w .small; room = rw row-size (w .room) }) (omega arith)
-      ∙ rw (row-in w) (puts-at l (r * s) vs p (omega arith) h)
+    pub row-same : (l : List ℕ) (s p : ℕ) (vs : List ℕ) (i q : ℕ) → In r l s → p + length vs ≤ r → i < length vs → q ≡ p + i → rowAt r at (rowFrom r at l s p vs) s q ≡ getD vs i 0
+    unfolding rowFrom
+    row-same l s p [] i q w k h e = absurd (omega arith)
+    row-same l s p (v ∷ vs) zero q w k h e =
+        let z : q ≡ p = omega arith in
+        row-other (rowSet r at l s p v) s (suc p) vs s q (λ y a b. omega arith) ∙ rw z (cell-same l s p v w (omega arith))
+    row-same l s p (v ∷ vs) (suc i) q w k h e =
+        row-same (rowSet r at l s p v) s (suc p) vs i q (in-as r l s (rowSet r at l s p v) (cell-size l s p v) w) (omega arith) (omega arith) (omega arith)
 
-  pub row-other : length vs ≤ r → (b q : ℕ) → (b ≡ s → q < length vs → ⊥) → rowAt r (rowPut r l s vs) b q ≡ rowAt r l b q
-  row-other k b q d = cell-ext r l b q (rowPut r l s vs) row-size
-      (λ m. row-cases (λ e. rw e (puts-other l (r * s) vs (r * b + q) (λ i j. away m i j))) (λ e. rw e))
-    where
-      away : q < r → r * s ≤ r * b + q → r * b + q < r * s + length vs → ⊥
-      away m i j = apart r s b (r * b + q - r * s) q (omega arith) m (λ e f. let z : r * b ≡ r * s = ap (λ (n : ℕ). r * n) e in d e (omega arith)) (omega arith)
-
-  -- what is written over leaves nothing
-  pub row-over : (p v : ℕ) → p < length vs → length vs ≤ r → rowPut r (rowSet r l s p v) s vs ≡ rowPut r l s vs
-  unfolding rowPut rowSet
-  row-over p v h k = split (rowIn r l s)
-      (λ t. rw (lt-ltb p r (omega arith), t, in-size r l s (set l (r * s + p) v) (length-set l (r * s + p) v), t)
-      (puts-over l (r * s) vs (r * s + p) v (omega arith) (omega arith)))
-      (λ t. rw (lt-ltb p r (omega arith), t, t))
-
--- what stands there already, written again
-puts-again : (l : List ℕ) (at : ℕ) (vs : List ℕ) → ((i : ℕ) → i < length vs → getD vs i 0 ≡ getD l (at + i) 0) → putsFrom l at vs ≡ l
-unfolding putsFrom
-puts-again l at [] e = refl
-puts-again l at (v ∷ vs) e =
-    let z : at + 0 ≡ at = omega arith in
-    let h : v ≡ getD l at 0 = e 0 (omega arith) ∙ ap (λ (n : ℕ). getD l n 0) z in
-    ap (λ (m : List ℕ). putsFrom m (suc at) vs) (ap (set l at) h ∙ set-getD l at 0)
-    ∙ puts-again l (suc at) vs (λ i k. let y : suc at + i ≡ at + suc i = omega arith in rw y (e (suc i) (omega arith)))
-
-pub row-again : (r : ℕ) (l : List ℕ) (s : ℕ) (vs : List ℕ) → length vs ≤ r → ((p : ℕ) → p < length vs → getD vs p 0 ≡ rowAt r l s p) → rowPut r l s vs ≡ l
-unfolding rowPut
-row-again r l s vs k e = split (rowIn r l s)
-    (λ t. rw t (puts-again l (r * s) vs (λ i h. e i h ∙ cell-in r l s i (in-of r l s t) (omega arith))))
-    (λ t. rw t)
+    -- what is written over leaves nothing
+    pub row-over : (l : List ℕ) (s p : ℕ) (vs : List ℕ) (q v : ℕ) → p + length vs ≤ r → p ≤ q → q < p + length vs → rowFrom r at (rowSet r at l s q v) s p vs ≡ rowFrom r at l s p vs
+    unfolding rowFrom
+    row-over l s p [] q v k a b = absurd (omega arith)
+    row-over l s p (w ∷ vs) q v k a b = cases (ℕ-discrete q p)
+        (λ (e : q ≡ p). ap (λ (m : List ℕ). rowFrom r at m s (suc p) vs) (rw e (cell-twice l s p v w)))
+        (λ d. ap (λ (m : List ℕ). rowFrom r at m s (suc p) vs) (cell-swap l s q v p w (omega arith) (omega arith) (λ e. d (sym e)))
+        ∙ row-over (rowSet r at l s p w) s (suc p) vs q v (omega arith) (omega arith) (omega arith))

@@ -1,13 +1,12 @@
 -- Where a node's words lie. Two lent tables hold a slot's words: `kids` the eight children, eight words a slot, and `facts` the rest, eleven words of 32 bits
--- a slot: the low and the high half of the own word, and then each fact in a word of its own. `W s f` is the word f of the slot s.
+-- a slot: the low and the high half of the own word, and then each fact in a word of its own, the hashes apart from the others. `W s f` is the word f of the slot s.
 use mathlib.Core.Bool.{Bool, false}
 use mathlib.Core.List.{List, [], _∷_}
-use Prim.Native.Nat.{ℕ, _+_, _-_, _*_, _/_, _%_, _^_}
+use Prim.Native.Nat.{ℕ, suc, _+_, _-_, _*_, _/_, _%_, _^_}
 use lib.Dec.{eqb, ltb}
 use lib.ListN.{length, getD, set}
-use Rattle.basics.specs.Limits.{kidWords, factWords}
+use Rattle.basics.specs.Limits.{kidWords, factWords, rowWords}
 use Rattle.basics.specs.Pick.{pick}
-use Rattle.basics.specs.Puts.{putsFrom}
 use Rattle.ids.specs.Ids.{indexOf}
 
 -- ## The words: 0 to 7 are the children
@@ -51,23 +50,44 @@ mark = 16
 abbrev pub entry : ℕ
 entry = 17
 
--- ## A table in rows of r words. What lies outside the table reads 0 and is not written; a row that does not lie whole in it lies outside
+-- ## A table of r words a slot. What lies outside the table reads 0 and is not written; a slot for whose r words it has no room lies outside
 
--- row s lies in the table: slot numbers are below 2^32
+-- slot s lies in the table: slot numbers are below 2^32
 unfoldable pub rowIn : ℕ → List ℕ → ℕ → Bool
 rowIn r l s = pick (ltb s (2 ^ 32)) (ltb (r * s + (r - 1)) (length l)) false
 
--- word p of row s
-unfoldable pub rowAt : ℕ → List ℕ → ℕ → ℕ → ℕ
-rowAt r l s p = pick (ltb p r) (pick (rowIn r l s) (getD l (r * s + p) 0) 0) 0
+-- where the words stand: word p of slot s at `at n s p` in a table of n words
+abbrev pub Place : Type 0
+Place = ℕ → ℕ → ℕ → ℕ
+
+-- word p of slot s
+unfoldable pub rowAt : ℕ → Place → List ℕ → ℕ → ℕ → ℕ
+rowAt r at l s p = pick (ltb p r) (pick (rowIn r l s) (getD l (at (length l) s p) 0) 0) 0
 
 -- it is written
-unfoldable pub rowSet : ℕ → List ℕ → ℕ → ℕ → ℕ → List ℕ
-rowSet r l s p v = pick (ltb p r) (pick (rowIn r l s) (set l (r * s + p) v) l) l
+unfoldable pub rowSet : ℕ → Place → List ℕ → ℕ → ℕ → ℕ → List ℕ
+rowSet r at l s p v = pick (ltb p r) (pick (rowIn r l s) (set l (at (length l) s p) v) l) l
+
+-- its words p, p + 1, .. are written
+unfoldable pub rowFrom : ℕ → Place → List ℕ → ℕ → ℕ → List ℕ → List ℕ
+rowFrom r at l s p [] = l
+rowFrom r at l s p (v ∷ vs) = rowFrom r at (rowSet r at l s p v) s (suc p) vs
+
+-- ## The places of the words
+
+-- rows of r words, one after the other
+abbrev pub inRows : ℕ → Place
+inRows r n s p = r * s + p
 
 -- the first words of row s are written
 unfoldable pub rowPut : ℕ → List ℕ → ℕ → List ℕ → List ℕ
-rowPut r l s vs = pick (rowIn r l s) (putsFrom l (r * s) vs) l
+rowPut r l s vs = rowFrom r (inRows r) l s 0 vs
+
+-- A slot's eleven words in `facts`: own low 0, own high 1, value 2, height 3, sum 4, spare 5, hash 6, holds 7, places 8, mark 9, entry 10, so that fact f is
+-- word f - 7. All but the hash stand in rows of ten words, in this order: those after the hash one before their number. The hashes stand at the end of the
+-- table, counted backwards: the last word is the hash of slot 0. A slot s that lies in the table, 11·s + 10 < n, has its hash past every such slot's row.
+abbrev pub inFacts : Place
+inFacts n s p = pick (eqb p (hash - 7)) (n - 1 - s) (rowWords * s + pick (ltb p (hash - 7)) p (p - 1))
 
 -- ## The two tables
 
@@ -82,19 +102,19 @@ abbrev pub Words : Type 0
 Words = ℕ → ℕ → ℕ
 
 unfoldable pub kidOf : List ℕ → Words
-kidOf l s i = rowAt kidWords l s i
+kidOf l s i = rowAt kidWords (inRows kidWords) l s i
 
 unfoldable pub factOf : List ℕ → Words
 factOf l s f =
-    pick (eqb f own) (rowAt factWords l s 0 + 2 ^ 32 * rowAt factWords l s 1)
-    (pick (ltb f own) 0 (rowAt factWords l s (f - 7)))
+    pick (eqb f own) (rowAt factWords inFacts l s 0 + 2 ^ 32 * rowAt factWords inFacts l s 1)
+    (pick (ltb f own) 0 (rowAt factWords inFacts l s (f - 7)))
 
 unfoldable pub wordOf : Nodes → Words
 wordOf x s f = pick (ltb f kidWords) (kidOf (x .kids) s f) (factOf (x .facts) s f)
 
 -- one of the facts written, but for the own word
 unfoldable pub factPut : List ℕ → ℕ → ℕ → ℕ → List ℕ
-factPut l s f v = pick (ltb own f) (rowSet factWords l s (f - 7) v) l
+factPut l s f v = pick (ltb own f) (rowSet factWords inFacts l s (f - 7) v) l
 
 unfoldable pub putOf : Nodes → ℕ → ℕ → ℕ → Nodes
 putOf x s f v = nodes (x .kids) (factPut (x .facts) s f v)
@@ -102,7 +122,7 @@ putOf x s f v = nodes (x .kids) (factPut (x .facts) s f v)
 -- the facts from the own word to the mark written, in order; the entry is no node's
 unfoldable pub factsPut : List ℕ → ℕ → List ℕ → List ℕ
 factsPut l s [] = l
-factsPut l s (o ∷ fs) = rowPut factWords l s (o % 2 ^ 32 ∷ o / 2 ^ 32 ∷ fs)
+factsPut l s (o ∷ fs) = rowFrom factWords inFacts l s 0 (o % 2 ^ 32 ∷ o / 2 ^ 32 ∷ fs)
 
 -- a whole slot written: its eight children, and its facts from the own word to the mark
 unfoldable pub written : Nodes → ℕ → List ℕ → List ℕ → Nodes

@@ -1,9 +1,10 @@
 // The words of the nodes in their two lent tables, `kids` and `facts`: see specs/Words.antt. Every function is total: what lies outside a
-// table reads 0, and a row that does not lie whole in it lies outside.
+// table reads 0, and a slot for whose words it has no room lies outside.
 use basics::FACT_WORDS;
 use basics::KID_WORDS;
 use basics::Kids;
 use basics::NO_KIDS;
+use basics::ROW_WORDS;
 ghost use mathlib.Core.Path.{_≡_};
 ghost use Prim.Native.Nat.{_<_, _^_};
 ghost use lib.Dec.{ltb};
@@ -84,24 +85,31 @@ pub fn own(facts: &[u32], s: usize) -> u64
     ensures { λ r. ⌜ r ≡ factOf (now (facts .entry)) s ownWord ⌝ }
 {
     if s < ROWS {
-        let at = FACT_WORDS * s;
-        if at + 10 < facts.len() {
+        if FACT_WORDS * s + 10 < facts.len() {
+            let at = ROW_WORDS * s;
             return wide(facts[at]) + 0x1_0000_0000 * wide(facts[at + 1]);
         }
     }
     0
 }
 
-// The fact f of slot s; 0 of its own word, which has a function of its own, and where f is no fact.
+// The fact f of slot s; 0 of its own word, which has a function of its own, and where f is no fact. The hashes stand at the end of the table,
+// the other facts in rows.
 pub fn fact(facts: &[u32], s: usize, f: usize) -> u32
     ensures { λ r. ⌜ r ≡ pick (ltb ownWord f) (factOf (now (facts .entry)) s f) 0 ⌝ }
 {
     if VALUE <= f {
         if f <= ENTRY {
             if s < ROWS {
-                let at = FACT_WORDS * s;
-                if at + 10 < facts.len() {
-                    return facts[at + (f - 7)];
+                if FACT_WORDS * s + 10 < facts.len() {
+                    if f == HASH {
+                        return facts[facts.len() - 1 - s];
+                    }
+                    let at = ROW_WORDS * s;
+                    if f < HASH {
+                        return facts[at + (f - 7)];
+                    }
+                    return facts[at + (f - 8)];
                 }
             }
         }
@@ -115,7 +123,7 @@ pub fn stored(facts: &[u32], s: usize) -> u32
 {
     if s < ROWS {
         if s < facts.len() / FACT_WORDS {
-            return facts[FACT_WORDS * s + 2];
+            return facts[ROW_WORDS * s + 2];
         }
     }
     0

@@ -3,7 +3,9 @@
 use basics::FACT_WORDS;
 use basics::KID_WORDS;
 use basics::Kids;
+use basics::ROW_WORDS;
 use nodes::ENTRY;
+use nodes::HASH;
 use nodes::ROWS;
 use nodes::VALUE;
 ghost use mathlib.Core.Path.{_≡_};
@@ -21,9 +23,18 @@ pub fn put_fact(facts: &mut [u32], s: usize, f: usize, v: u32)
     if VALUE <= f {
         if f <= ENTRY {
             if s < ROWS {
-                let at = FACT_WORDS * s;
-                if at + 10 < facts.len() {
-                    facts[at + (f - 7)] = v;
+                let n = facts.len();
+                if FACT_WORDS * s + 10 < n {
+                    if f == HASH {
+                        facts[n - 1 - s] = v;
+                        return;
+                    }
+                    let at = ROW_WORDS * s;
+                    if f < HASH {
+                        facts[at + (f - 7)] = v;
+                        return;
+                    }
+                    facts[at + (f - 8)] = v;
                 }
             }
         }
@@ -39,15 +50,6 @@ fn put_four(facts: &mut [u32], at: usize, a: u32, b: u32, c: u32, d: u32)
     facts[at + 1] = b;
     facts[at + 2] = c;
     facts[at + 3] = d;
-}
-
-// Writes two facts that the table has room for.
-fn put_two(facts: &mut [u32], at: usize, a: u32, b: u32)
-    requires { ⌜ at + 1 < length (now facts) ⌝ }
-    ensures { λ _. ⌜ now (facts .exit) ≡ putsFrom (now (facts .entry)) at (a ∷ b ∷ []) ⌝ }
-{
-    facts[at] = a;
-    facts[at + 1] = b;
 }
 
 // Writes four children that the table has room for.
@@ -90,8 +92,9 @@ pub fn put_facts(
     ensures { λ _. ⌜ now (facts .exit) ≡ factsPut (now (facts .entry)) s (own ∷ value ∷ height ∷ sum ∷ 0 ∷ hash ∷ holds ∷ places ∷ mark ∷ []) ⌝ }
 {
     if s < ROWS {
-        let at = FACT_WORDS * s;
-        if at + 10 < facts.len() {
+        let n = facts.len();
+        if FACT_WORDS * s + 10 < n {
+            let at = ROW_WORDS * s;
             put_four(
                 facts,
                 at,
@@ -100,8 +103,9 @@ pub fn put_facts(
                 value,
                 height,
             );
-            put_four(facts, at + 4, sum, 0, hash, holds);
-            put_two(facts, at + 8, places, mark);
+            put_four(facts, at + 4, sum, 0, holds, places);
+            facts[at + 8] = mark;
+            facts[n - 1 - s] = hash;
         }
     }
 }

@@ -10,10 +10,9 @@ use native.Mathlib.Omega.{arith}
 use lib.ListN.{length, replicate}
 use Rattle.basics.specs.Limits.{deepest, cubeKids}
 use Rattle.basics.specs.Sums.{sumTo}
-use Rattle.basics.specs.Puts.{putsFrom}
 use Rattle.ids.specs.Ids.{leafFlag, indexOf, isLeaf, generationOf, pack}
 use Rattle.paths.specs.Paths.{place, inside, whole, octant}
-use Rattle.nodes.specs.Words.{rowIn, rowAt, rowSet, rowPut, kidOf, factOf, wordOf, factPut, putOf, factsPut, written, slot, floor}
+use Rattle.nodes.specs.Words.{rowIn, rowAt, rowSet, rowFrom, rowPut, kidOf, factOf, wordOf, factPut, putOf, factsPut, written, slot, floor}
 use Rattle.nodes.specs.Values.{valueAt, heightAt, maxTo}
 use Rattle.nodes.specs.Tally.{oneIf, tabFrom, kidsOf}
 use Rattle.find_hash.specs.Hash.{factor, term, kidsHash, leafHash, homeIn}
@@ -93,7 +92,7 @@ record Computed : Type 0 where
   end₆ : o₆ .id ≡ 0x0181800100000002
 
 computed : Computed
-unfolding sumTo indexOf isLeaf leafFlag generationOf pack inside whole octant rowIn rowAt rowSet rowPut kidOf factOf wordOf factPut putOf factsPut putsFrom written slot floor valueAt heightAt maxTo oneIf tabFrom kidsOf factor term kidsHash leafHash homeIn stops probeN probe insertAt shiftN shift erase remove agree homeAt kind look decLe ℕ-discrete part replace pathBy bitsOf kidMask kidTypes leafId branchId nextGeneration sumFor valueFor heightFor liveIn freshOf fitOf liveOf fullOf heldAt freshSlot slotGiven freshFacts empties named findSlot leafIn leafSlot deadFacts recycled lessOf unusedOf each takes releaseNo releaseOf allOf liveOrEmpty branchIn branchSlot placedKid lookNo wordsOf oneLeaf needOf cellNeed upNeed planOf resultOf freshNode leafAnew branchAnew owed lowOf makeOf grantNo granted answerOf cellNo editCell editNo editOf holdsOn
+unfolding sumTo indexOf isLeaf leafFlag generationOf pack inside whole octant rowIn rowAt rowSet rowFrom rowPut kidOf factOf wordOf factPut putOf factsPut written slot floor valueAt heightAt maxTo oneIf tabFrom kidsOf factor term kidsHash leafHash homeIn stops probeN probe insertAt shiftN shift erase remove agree homeAt kind look decLe ℕ-discrete part replace pathBy bitsOf kidMask kidTypes leafId branchId nextGeneration sumFor valueFor heightFor liveIn freshOf fitOf liveOf fullOf heldAt freshSlot slotGiven freshFacts empties named findSlot leafIn leafSlot deadFacts recycled lessOf unusedOf each takes releaseNo releaseOf allOf liveOrEmpty branchIn branchSlot placedKid lookNo wordsOf oneLeaf needOf cellNeed upNeed planOf resultOf freshNode leafAnew branchAnew owed lowOf makeOf grantNo granted answerOf cellNo editCell editNo editOf holdsOn
 computed = record {
   sized = refl;
   no₁ = refl;

@@ -6,8 +6,7 @@ use native.Mathlib.Decide.{decLe}
 use native.Mathlib.Omega.{arith}
 use lib.ListN.{replicate}
 use Rattle.ids.specs.Ids.{indexOf}
-use Rattle.basics.specs.Puts.{putsFrom}
-use Rattle.nodes.specs.Words.{rowIn, rowAt, rowPut, Nodes, nodes, own, factOf, wordOf, factsPut, written, slot, floor}
+use Rattle.nodes.specs.Words.{rowIn, rowAt, rowSet, rowFrom, rowPut, Nodes, nodes, own, factOf, wordOf, factsPut, written, slot, floor}
 use Rattle.nodes.specs.Tally.{Live}
 use Rattle.nodes.proofs.Access.{written-others}
 use Rattle.tree.specs.Tree.{WellMade, look, kind}
@@ -59,7 +58,7 @@ unfolding slot indexOf
 five-slot = refl
 
 five-own : wordOf withFive 1 own ≡ five
-unfolding wordOf factOf rowAt rowIn written factsPut rowPut putsFrom
+unfolding wordOf factOf rowAt rowIn written factsPut rowPut rowFrom rowSet
 five-own = refl
 
 five-live : Live 2 (wordOf withFive) five
@@ -75,11 +74,11 @@ added =
     }
 
 five-value : valueAt (wordOf withFive) five ≡ 5
-unfolding valueAt slot indexOf wordOf factOf rowAt rowIn written factsPut rowPut putsFrom
+unfolding valueAt slot indexOf wordOf factOf rowAt rowIn written factsPut rowPut rowFrom rowSet
 five-value = refl
 
 five-height : heightAt (wordOf withFive) five ≡ 0
-unfolding heightAt slot indexOf wordOf factOf rowAt rowIn written factsPut rowPut putsFrom
+unfolding heightAt slot indexOf wordOf factOf rowAt rowIn written factsPut rowPut rowFrom rowSet
 five-height = refl
 
 pub five-made : (n : ℕ) → n ≤ 8 → WellMade n 2 (wordOf withFive)
@@ -93,5 +92,5 @@ five-made n h =
 -- ## Lookup computes
 
 pub reads : look (wordOf withFive) (3 ∷ 7 ∷ []) five ≡ 5
-unfolding look kind decLe valueAt slot indexOf wordOf factOf rowAt rowIn written factsPut rowPut putsFrom
+unfolding look kind decLe valueAt slot indexOf wordOf factOf rowAt rowIn written factsPut rowPut rowFrom rowSet
 reads = refl

@@ -5,11 +5,11 @@ use crate::lent::Lent;
 use crate::original::Companion;
 use crate::tally::Tally;
 use reference::arena::{Arena, Order};
-use reference::tables::{row_of, slots_of};
+use reference::tables::{slots_of, words_for};
 
 /// To this capacity every byte of the tables is compared after every call.
 const ALWAYS_WHOLE: usize = 100;
-/// Above it every byte is compared after so many calls, and the rows that a call touches after each.
+/// Above it every byte is compared after so many calls, and the slots that a call touches after each.
 const WHOLE_EVERY: u64 = 1_000;
 
 /// The arena check is asked after so many calls, or after 2 for each slot if these are more.
@@ -176,19 +176,18 @@ impl Beside {
         ))
     }
 
-    /// Compares the rows that the last call touched: those of slots, and those in which entries of freed slots were written. `freed_before` slots were freed
-    /// before it.
+    /// Compares the slots that the last call touched, and those in whose rows entries of freed slots were written. `freed_before` slots were freed before it.
     fn same_touched(&self, freed_before: usize) -> Result<(), String> {
         let written = freed_before..self.document.freed().len();
         let touched = self.document.touched().iter().map(|slot| *slot as usize);
         written
             .chain(touched)
-            .try_for_each(|row| self.same_row(row))
+            .try_for_each(|slot| self.same_slot(slot))
     }
 
     /// Compares every byte of the port's tables with document 01.
     fn same_tables(&self) -> Result<(), String> {
-        (0..self.document.capacity()).try_for_each(|row| self.same_row(row))?;
+        (0..self.document.capacity()).try_for_each(|slot| self.same_slot(slot))?;
         let (found, expected) = (self.port.find(), self.document.finding());
         if found == expected {
             return Ok(());
@@ -200,17 +199,17 @@ impl Beside {
         ))
     }
 
-    /// Compares a row of `facts` and of `kids` with document 01.
-    fn same_row(&self, row: usize) -> Result<(), String> {
-        let expected = self.document.slot(row);
-        let words = row_of(expected, self.document.entries()[row]);
-        let facts = self.port.row(row);
-        let kids = &self.port.kids()[8 * row..8 * row + 8];
-        if *facts == words && *kids == expected.children {
+    /// Compares a slot's words of `facts` and of `kids` with document 01.
+    fn same_slot(&self, slot: usize) -> Result<(), String> {
+        let expected = self.document.slot(slot);
+        let words = words_for(expected, self.document.entries()[slot]);
+        let facts = self.port.words(slot);
+        let kids = &self.port.kids()[8 * slot..8 * slot + 8];
+        if facts == words && *kids == expected.children {
             return Ok(());
         }
         Err(format!(
-            "row {row} of the port has the words {facts:x?} and the children {kids:x?}, by document 01 {words:x?} and {:x?}",
+            "slot {slot} of the port has the words {facts:x?} and the children {kids:x?}, by document 01 {words:x?} and {:x?}",
             expected.children
         ))
     }

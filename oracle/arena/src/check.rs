@@ -7,7 +7,7 @@ use reference::document01::{EMPTY, generation, index, is_leaf, new_branch, new_l
 use reference::finding::{hash, home};
 use reference::tables::{
     ENTRY, FLOOR, HASH, HEIGHT, HOLDS, MARK, OWN_HIGH, OWN_LOW, PLACES, SPARE, SUM, VALUE, WORDS,
-    halves, slots_of,
+    halves, place, slots_of,
 };
 
 /// Asks the arena check, which says yes exactly if the tables are well formed, and changes nothing. Are they?
@@ -27,11 +27,12 @@ pub fn judge(lent: &mut Lent) -> Result<bool, String> {
 }
 
 fn fact(lent: &Lent, slot: usize, word: usize) -> u32 {
-    lent.row(slot)[word]
+    lent.view().fact(slot, word)
 }
 
 fn put(lent: &mut Lent, slot: usize, word: usize, content: u32) {
-    lent.tables().facts[WORDS * slot + word] = content;
+    let facts = lent.tables().facts;
+    facts[place(facts.len(), slot, word)] = content;
 }
 
 fn put_own(lent: &mut Lent, slot: usize, own: u64) {
@@ -239,7 +240,7 @@ fn limits() -> Result<u64, String> {
     Ok(cases)
 }
 
-/// A leaf in slot 1, a branch over it, and a freed slot: each word of each row raised by one, of slot 0 and of slots never given out too.
+/// A leaf in slot 1, a branch over it, and a freed slot: each word of each slot raised by one, of slot 0 and of slots never given out too.
 fn raised() -> Result<u64, String> {
     let mut hand = Hand::new();
     let leaf = hand.leaf(5);
@@ -249,22 +250,23 @@ fn raised() -> Result<u64, String> {
     write_anew(&mut lent);
     expect(&mut lent, "as written by hand", true)?;
     let mut cases = 1;
-    for row in 0..lent.arena.capacity {
+    for slot in 0..lent.arena.capacity {
         for word in 0..WORDS {
             let is_well_formed = match word {
                 // The generation of a node that none names, and of a freed slot.
-                OWN_HIGH => row == 2 || row == 3,
+                OWN_HIGH => slot == 2 || slot == 3,
                 // Nothing tells how many holds were granted.
-                HOLDS => row == 1 || row == 2,
+                HOLDS => slot == 1 || slot == 2,
                 // An entry above the only one.
-                ENTRY => row > 0,
+                ENTRY => slot > 0,
                 _ => false,
             };
             let mut lent = lent.clone();
-            lent.tables().facts[WORDS * row + word] += 1;
+            let raised = fact(&lent, slot, word) + 1;
+            put(&mut lent, slot, word, raised);
             expect(
                 &mut lent,
-                &format!("word {word} of row {row}"),
+                &format!("word {word} of slot {slot}"),
                 is_well_formed,
             )?;
             cases += 1;
@@ -538,9 +540,10 @@ fn forgotten(lent: &mut Lent, random: &mut Random) {
         let below = index(child) as usize;
         put(lent, below, PLACES, fact(lent, below, PLACES) - 1);
     }
-    let tables = lent.tables();
-    tables.kids[8 * slot..8 * slot + 8].fill(EMPTY);
-    tables.facts[WORDS * slot..WORDS * slot + ENTRY].fill(0);
+    lent.tables().kids[8 * slot..8 * slot + 8].fill(EMPTY);
+    for word in (0..WORDS).filter(|word| *word != ENTRY) {
+        put(lent, slot, word, 0);
+    }
     let mut freed = freed_slots(lent);
     freed.push(slot);
     write_freed(lent, &freed);

@@ -10,7 +10,7 @@ use port::arena::Arena;
 use reference::Random;
 use reference::arena::{MOST_CAPACITY, MOST_HOLDS};
 use reference::document01::{EMPTY, INVALID, index};
-use reference::tables::{HOLDS, PLACES, WORDS, lengths};
+use reference::tables::{HOLDS, PLACES, WORDS, lengths, place};
 
 /// How many calls run on each set of tables.
 const CALLS: usize = 24;
@@ -234,7 +234,10 @@ fn defined(lent: &Lent, call: &Call<u64>) -> Option<(Answered, Option<usize>)> {
     let places = lent.view().fact(slot, PLACES);
     match call {
         Call::Hold(_) if holds >= MOST_HOLDS => refused(10),
-        Call::Hold(_) => Some((Answered::made(0, EMPTY), Some(WORDS * slot + HOLDS))),
+        Call::Hold(_) => {
+            let hold = place(lent.facts().len(), slot, HOLDS);
+            Some((Answered::made(0, EMPTY), Some(hold)))
+        }
         _ => Some((
             Answered {
                 no: 0,

@@ -5,7 +5,7 @@ use port::compare::{self, Compared, List};
 use port::model::{self, Cell, Looked};
 use port::readings;
 use reference::document01::EMPTY;
-use reference::tables::{Tables as View, WORDS, lengths};
+use reference::tables::{Tables as View, WORDS, lengths, words_of};
 
 /// How many guard words stand on each side of a table.
 const GUARD: usize = 16;
@@ -100,9 +100,9 @@ impl Lent {
         self.facts.inside()
     }
 
-    /// The words of `facts` that stand in the row of a slot.
-    pub fn row(&self, slot: usize) -> &[u32] {
-        &self.facts()[WORDS * slot..WORDS * (slot + 1)]
+    /// The words of a slot in `facts`, by their numbers.
+    pub fn words(&self, slot: usize) -> [u32; WORDS] {
+        words_of(self.facts(), slot)
     }
 
     pub fn find(&self) -> &[u16] {

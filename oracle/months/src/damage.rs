@@ -8,7 +8,9 @@ use reference::Random;
 use reference::document01::{EMPTY, INVALID};
 use reference::months::Comparison;
 use reference::reading::DEEPEST;
-use reference::tables::{FLOOR, HEIGHT, OWN_HIGH, OWN_LOW, WORDS, halves, lengths, slots_of};
+use reference::tables::{
+    FLOOR, HEIGHT, OWN_HIGH, OWN_LOW, WORDS, halves, lengths, place, slots_of,
+};
 
 /// How many pairs are compared on each set of tables.
 const PAIRS: usize = 8;
@@ -38,15 +40,19 @@ fn tangle(random: &mut Random) -> Lent {
         })
         .collect();
     let few = [random.bits() as u32, random.bits() as u32, 0];
-    let facts: Vec<u32> = (0..facts)
-        .map(|at| match (at % WORDS, random.below(12)) {
-            (OWN_LOW, 1..) => halves(ids[at / WORDS])[0],
-            (OWN_HIGH, 1..) => halves(ids[at / WORDS])[1],
-            (HEIGHT, 1..) => random.below(5) as u32,
-            (_, 0) => half(random),
-            _ => random.one_of(&few),
-        })
-        .collect();
+    let mut facts = vec![0; facts];
+    for (slot, id) in ids.iter().enumerate() {
+        for word in 0..WORDS {
+            let at = place(facts.len(), slot, word);
+            facts[at] = match (word, random.below(12)) {
+                (OWN_LOW, 1..) => halves(*id)[0],
+                (OWN_HIGH, 1..) => halves(*id)[1],
+                (HEIGHT, 1..) => random.below(5) as u32,
+                (_, 0) => half(random),
+                _ => random.one_of(&few),
+            };
+        }
+    }
     let slots = slots_of(capacity, 0);
     Lent::new(Arena { capacity, slots }, &kids, &facts, &vec![0; find])
 }

@@ -10,7 +10,7 @@ use arena::tally::Tally;
 use glam::IVec3;
 use reference::arena::MOST_CAPACITY;
 use reference::document01::{EMPTY, index, is_leaf, mask, types};
-use reference::tables::{FLOOR, HEIGHT, VALUE, WORDS, own_of};
+use reference::tables::{FLOOR, HEIGHT, VALUE};
 use reference::{Random, answer_or_panic};
 use voxelis::utils::common::{get_at_depth, to_vec};
 use voxelis::{BlockId, MaxDepth, TraversalDepth, VoxInterner};
@@ -161,7 +161,8 @@ impl Model {
 
     /// The ids of all nodes.
     pub fn live(&self) -> Vec<u64> {
-        let owns = self.port.facts().chunks(WORDS).map(own_of);
+        let view = self.port.view();
+        let owns = (0..view.capacity).map(|slot| view.own(slot));
         owns.filter(|own| *own >= FLOOR).collect()
     }
 

@@ -7,7 +7,7 @@ use arena::lent::Lent;
 use reference::document01::INVALID;
 use reference::reading::DEEPEST;
 use reference::survey::{self, FINEST, Reading};
-use reference::tables::{ENTRY, FLOOR, WORDS, own_of};
+use reference::tables::{ENTRY, FLOOR, WORDS};
 
 pub type Told = Result<(), String>;
 
@@ -137,12 +137,15 @@ impl<'a> Sides<'a> {
     }
 }
 
-/// Of each slot with a live node, its number, the words of its own in its row of facts, and its children.
-fn live_nodes(lent: &Lent) -> Vec<(usize, &[u32], &[u64])> {
-    let slots = lent.facts().chunks(WORDS).zip(lent.kids().chunks(8));
-    (slots.enumerate())
-        .filter(|(_, (facts, _))| own_of(facts) >= FLOOR)
-        .map(|(slot, (facts, kids))| (slot, &facts[..ENTRY], kids))
+/// Of each slot with a live node, its number, its words of facts, with 0 for the entry, which is none of its own, and its children.
+fn live_nodes(lent: &Lent) -> Vec<(usize, [u32; WORDS], &[u64])> {
+    (lent.kids().chunks(8).enumerate())
+        .filter(|(slot, _)| lent.view().own(*slot) >= FLOOR)
+        .map(|(slot, kids)| {
+            let mut words = lent.words(slot);
+            words[ENTRY] = 0;
+            (slot, words, kids)
+        })
         .collect()
 }
 

@@ -7,19 +7,21 @@ use std::collections::{HashMap, HashSet};
 /// A live node's own number is at least this; a generation alone is below it.
 pub const FLOOR: u64 = 1 << 47;
 
-/// Numbers of words in a row of `facts`.
+/// Numbers of a slot's words in `facts`. Those below `ROW` stand in its row; the hash stands apart.
 pub const OWN_LOW: usize = 0;
 pub const OWN_HIGH: usize = 1;
 pub const VALUE: usize = 2;
 pub const HEIGHT: usize = 3;
 pub const SUM: usize = 4;
 pub const SPARE: usize = 5;
-pub const HASH: usize = 6;
-pub const HOLDS: usize = 7;
-pub const PLACES: usize = 8;
-pub const MARK: usize = 9;
-pub const ENTRY: usize = 10;
-/// How many words a row has. The last is an entry of the stack of freed slots, and none of the slot's own.
+pub const HOLDS: usize = 6;
+pub const PLACES: usize = 7;
+pub const MARK: usize = 8;
+/// An entry of the stack of freed slots, and no word of the slot's own.
+pub const ENTRY: usize = 9;
+const ROW: usize = 10;
+pub const HASH: usize = 10;
+/// How many words a slot has.
 pub const WORDS: usize = 11;
 
 /// The lengths of `kids`, `facts` and `find` for so many slots.
@@ -27,18 +29,26 @@ pub fn lengths(capacity: usize) -> [usize; 3] {
     [8, WORDS, CELLS].map(|each| each * capacity)
 }
 
+/// Where a word of a slot stands in `facts` of that length: rows from the start on, and the hashes backwards from the end.
+pub fn place(length: usize, slot: usize, word: usize) -> usize {
+    match word {
+        HASH => length - 1 - slot,
+        _ => ROW * slot + word,
+    }
+}
+
+/// The words of a slot, by their numbers.
+pub fn words_of(facts: &[u32], slot: usize) -> [u32; WORDS] {
+    std::array::from_fn(|word| facts[place(facts.len(), slot, word)])
+}
+
 /// The two halves of an own number, the low one first.
 pub fn halves(own: u64) -> [u32; 2] {
     [own as u32, (own >> 32) as u32]
 }
 
-/// The own number of a row of `facts`: the whole id of a live node, else the generation times 2^32.
-pub fn own_of(row: &[u32]) -> u64 {
-    u64::from(row[OWN_HIGH]) << 32 | u64::from(row[OWN_LOW])
-}
-
-/// The row of `facts` of a slot, with the entry of the stack of freed slots that stands there.
-pub fn row_of(slot: &Slot, entry: u32) -> [u32; WORDS] {
+/// The words that a slot has in `facts`, with the entry of the stack of freed slots that stands there.
+pub fn words_for(slot: &Slot, entry: u32) -> [u32; WORDS] {
     let own = if slot.id == EMPTY {
         u64::from(slot.generation) << 32
     } else {
@@ -52,11 +62,11 @@ pub fn row_of(slot: &Slot, entry: u32) -> [u32; WORDS] {
         slot.height.into(),
         slot.sum,
         0,
-        slot.hash,
         slot.holds,
         slot.places,
         slot.mark,
         entry,
+        slot.hash,
     ]
 }
 
@@ -92,17 +102,14 @@ impl<'a> Tables<'a> {
         (self.slots >> 32) as usize
     }
 
-    fn row(&self, slot: usize) -> &'a [u32] {
-        &self.facts[WORDS * slot..WORDS * (slot + 1)]
-    }
-
     pub fn fact(&self, slot: usize, word: usize) -> u32 {
-        self.row(slot)[word]
+        self.facts[place(self.facts.len(), slot, word)]
     }
 
     /// The whole id of a live node in the slot, else the generation times 2^32.
     pub fn own(&self, slot: usize) -> u64 {
-        own_of(self.row(slot))
+        let [low, high] = [OWN_LOW, OWN_HIGH].map(|word| u64::from(self.fact(slot, word)));
+        high << 32 | low
     }
 
     fn children(&self, slot: usize) -> &'a [u64] {
@@ -130,8 +137,11 @@ impl<'a> Tables<'a> {
         if id == EMPTY {
             return 0;
         }
-        let at = WORDS * index(id) as usize + VALUE;
-        self.facts.get(at).copied().unwrap_or(0) as u16
+        let slot = index(id) as usize;
+        if slot >= self.facts.len() / WORDS {
+            return 0;
+        }
+        self.fact(slot, VALUE) as u16
     }
 
     /// The error names the first rule that is broken.

@@ -10,17 +10,31 @@ use fenpiling_sys::{
 /// The bytes of a record and some more; as many of them are lent as a round's records are long.
 pub type Record = [u8; 48];
 
-/// The words of a row of facts, and some of their numbers.
+/// The words of a slot in facts, and some of their numbers. Those below `ROW` stand in its row.
 pub const WORDS: usize = 11;
+const ROW: usize = 10;
 pub const OWN_LOW: usize = 0;
 pub const OWN_HIGH: usize = 1;
 const VALUE: usize = 2;
 pub const HEIGHT: usize = 3;
-pub const HASH: usize = 6;
-pub const HOLDS: usize = 7;
-pub const PLACES: usize = 8;
-pub const MARK: usize = 9;
-pub const ENTRY: usize = 10;
+pub const HOLDS: usize = 6;
+pub const PLACES: usize = 7;
+pub const MARK: usize = 8;
+pub const ENTRY: usize = 9;
+pub const HASH: usize = 10;
+
+/// Where a word of a slot stands in facts of that length: rows from the start on, and the hashes backwards from the end.
+pub fn place(length: usize, slot: usize, word: usize) -> usize {
+    match word {
+        HASH => length - 1 - slot,
+        _ => ROW * slot + word,
+    }
+}
+
+/// The words of a slot, by their numbers.
+pub fn words_of(facts: &[u32], slot: usize) -> [u32; WORDS] {
+    std::array::from_fn(|word| facts[place(facts.len(), slot, word)])
+}
 
 /// A call with its arguments beside the arena.
 #[derive(Clone, Copy, Debug)]
@@ -333,19 +347,24 @@ impl Tables {
     }
 }
 
-/// The slots that have a live node, with their own words of the facts, and their children. The last word of a row is an entry of the stack of freed slots.
+/// The slots that have a live node, with their words of the facts, and their children. 0 for the entry of the stack of freed slots, which is no word of the
+/// slot's own.
 fn live_nodes<'a>(
     facts: &'a [u32],
     kids: &'a [u64],
-) -> impl Iterator<Item = (usize, (&'a [u32], &'a [u64]))> {
-    let rows = facts.chunks_exact(WORDS).map(|row| &row[..ENTRY]);
-    rows.zip(kids.chunks(8))
-        .enumerate()
-        .filter(|(_, (facts, _))| facts[OWN_HIGH] >= 1 << 15)
+) -> impl Iterator<Item = (usize, [u32; WORDS], &'a [u64])> {
+    let slots = kids.chunks(8).enumerate().take(facts.len() / WORDS);
+    slots
+        .map(|(slot, kids)| {
+            let mut words = words_of(facts, slot);
+            words[ENTRY] = 0;
+            (slot, words, kids)
+        })
+        .filter(|(_, words, _)| words[OWN_HIGH] >= 1 << 15)
 }
 
-/// The hash of what stands in a row of facts and in its row of kids, as docs/TABLES.md has it.
-pub fn hash(facts: &[u32], kids: &[u64]) -> u32 {
+/// The hash of a slot with these words of facts and these children, as docs/TABLES.md has it.
+pub fn hash(facts: &[u32; WORDS], kids: &[u64]) -> u32 {
     const FACTORS: [u32; 8] = [
         0x9E37_79B1,
         0x85EB_CA77,

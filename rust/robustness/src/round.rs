@@ -1,7 +1,7 @@
 //! A round: tables made and damaged, and calls on them, each watched.
 use crate::calls::{
     Call, ENTRY, HASH, HEIGHT, HOLDS, KINDS, List, MARK, OWN_HIGH, OWN_LOW, PLACES, Record, Tables,
-    WORDS, hash,
+    WORDS, hash, place, words_of,
 };
 use crate::lent::{Lent, Placing, Word};
 use crate::numbers::Numbers;
@@ -370,7 +370,10 @@ impl Round<'_> {
             1 => self.tables.kids.words().get(8 * slot).copied().unwrap_or(1),
             2 | 3 => {
                 let facts = self.tables.facts.words();
-                let half = |word| facts.get(WORDS * slot + word).copied().unwrap_or(1);
+                let half = |word| {
+                    let at = place(facts.len(), slot, word);
+                    facts.get(at).copied().unwrap_or(1)
+                };
                 u64::from(half(OWN_HIGH)) << 32 | u64::from(half(OWN_LOW))
             }
             _ => self.numbers.of(&self.ids),
@@ -414,7 +417,7 @@ impl Round<'_> {
             3 => {
                 let facts = self.tables.facts.words();
                 let slot = numbers.below(facts.len() / WORDS);
-                facts[WORDS * slot + HOLDS] = 1_000_000;
+                facts[place(facts.len(), slot, HOLDS)] = 1_000_000;
             }
             _ => {
                 let slots = self.arena.slots;
@@ -444,22 +447,24 @@ impl Round<'_> {
             }
         };
         self.tables.kids.words().fill_with(|| number(numbers));
-        for (at, word) in self.tables.facts.words().iter_mut().enumerate() {
-            *word = match at % WORDS {
-                OWN_LOW => number(numbers) as u32 & !0xFFFF | (at / WORDS) as u32,
-                OWN_HIGH => (number(numbers) >> 32) as u32,
-                HEIGHT => numbers.below(8) as u32,
-                HOLDS | PLACES => numbers.below(3) as u32,
-                MARK | ENTRY => numbers.below(capacity) as u32,
-                _ => numbers.odd() as u32,
-            };
-        }
-        // Most rows have the hash of what stands there, so that searches end at them.
+        let facts = self.tables.facts.words();
+        facts.fill_with(|| numbers.odd() as u32);
         let kids = self.tables.kids.words().chunks_exact(8);
-        let rows = self.tables.facts.words().chunks_exact_mut(WORDS);
-        for (row, kids) in rows.zip(kids) {
+        for (slot, kids) in kids.enumerate().take(facts.len() / WORDS) {
+            for (word, content) in [
+                (OWN_LOW, number(numbers) as u32 & !0xFFFF | slot as u32),
+                (OWN_HIGH, (number(numbers) >> 32) as u32),
+                (HEIGHT, numbers.below(8) as u32),
+                (HOLDS, numbers.below(3) as u32),
+                (PLACES, numbers.below(3) as u32),
+                (MARK, numbers.below(capacity) as u32),
+                (ENTRY, numbers.below(capacity) as u32),
+            ] {
+                facts[place(facts.len(), slot, word)] = content;
+            }
+            // Most slots have the hash of what stands there, so that searches end at them.
             if !numbers.once_in(4) {
-                row[HASH] = hash(row, kids);
+                facts[place(facts.len(), slot, HASH)] = hash(&words_of(facts, slot), kids);
             }
         }
         let find = self.tables.find.words();
