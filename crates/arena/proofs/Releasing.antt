@@ -8,7 +8,7 @@ use Prim.Native.Nat.{ℕ, zero, suc, _+_, _-_, _*_, _^_, _≤_, _<_}
 use native.Mathlib.Decide.{ℕ-discrete, decLt}
 use native.Mathlib.Omega.{arith}
 use lib.ListN.{length}
-use borrow.Author.Tests.{eq-eqb, ne-eqb}
+use borrow.Author.Tests.{eq-eqb, ne-eqb, lt-ltb, le-ltb}
 use Rattle.ids.specs.Ids.{generationOf}
 use Rattle.nodes.specs.Tally.{kidsOf, Live, occ, same, Under, here, down}
 use Rattle.nodes.specs.Words.{own, height, hash, holds, places, mark, entry, Nodes, nodes, written, slot, floor, Words, wordOf, putOf}
@@ -358,9 +358,18 @@ module _ (tallest : ℕ) (t : Tables) (id : ℕ) where
   unfolding releaseAny releaseOf
   release-empty k e = let q = takes-empty tallest holds t id e in rw (eq-eqb id 0 e, q)
 
-  release-done : (k : ℕ) → releaseNo t id ≡ 0 → id ≢ 0 → releaseBy k t id ≡ takes (suc tallest) holds t id → releaseAny k t id ≡ releaseOf tallest t id
-  unfolding releaseAny releaseOf
-  release-done k z d e = rw (eq-eqb (releaseNo t id) 0 z, ne-eqb id 0 d) (ap (did 0) e)
+  module _ (k : ℕ) (z : releaseNo t id ≡ 0) (d : id ≢ 0) where
+    -- another hold is left
+    release-left : 1 < W t (slot id) holds → releaseAny k t id ≡ releaseOf tallest t id
+    unfolding releaseAny releaseOf
+    release-left l =
+        let h = less-at holds t id (omega arith) (omega arith) in
+        let q = takes-left tallest holds t id d (used-hold (lessOf holds t id) id (omega arith)) in
+        rw (eq-eqb (releaseNo t id) 0 z, ne-eqb id 0 d, lt-ltb 1 (W t (slot id) holds) l, q)
+
+    release-last : W t (slot id) holds ≤ 1 → releaseBy k t id ≡ takes (suc tallest) holds t id → releaseAny k t id ≡ releaseOf tallest t id
+    unfolding releaseAny releaseOf
+    release-last l e = rw (eq-eqb (releaseNo t id) 0 z, ne-eqb id 0 d, le-ltb 1 (W t (slot id) holds) l) (ap (did 0) e)
 
   release-after-refused : releaseNo t id ≢ 0 → t ≡ releaseOf tallest t id .after
   unfolding releaseOf
@@ -387,7 +396,8 @@ release-law k {t} id x e {n} {tallest} m low (inr w) = e ∙ cases (ℕ-discrete
     (λ y.
     let r = release-live t id z y in
     let v = live-is t id (r .0) in
-    release-done tallest t id k z y (release-enough m w id v (r .1) k low ∙ release-by m w id v (r .1) tallest)))
+    cases (decLt 1 (W t (slot id) holds)) (release-left tallest t id k z y)
+    (λ l. release-last tallest t id k z y (omega arith) (release-enough m w id v (r .1) k low ∙ release-by m w id v (r .1) tallest))))
     (λ z. release-refused tallest t id k z)
 
 -- an accepted release of a node

@@ -12,7 +12,7 @@ use Rattle.nodes.specs.Words.{Nodes, nodes, Words, wordOf, factOf, putOf, factP
 use Rattle.find_hash.specs.Hash.{leafHash, kidsHash}
 use Rattle.find.specs.Cells.{leafCell, kidsCell, remove}
 use Rattle.find.specs.Content.{homeAt}
-use Rattle.arena.specs.Calls.{Out, said, refused, did, fits, fullOf, roomOf, heldAt, freshIn, givenBy, freshFacts, deadFacts, empties, recycled, each, releaseNo, noneOf, unheld, allLive, enough}
+use Rattle.arena.specs.Calls.{Out, said, refused, did, fits, fullOf, roomOf, heldAt, freshIn, givenBy, freshFacts, deadFacts, empties, recycled, lessOf, each, releaseNo, noneOf, unheld, allLive, enough}
 use Rattle.arena.specs.Node.{kidTypes, kidMask, sumFor, valueFor}
 use Rattle.nodes.specs.Values.{heightAt, maxTo}
 use Rattle.arena.specs.Tables.{Tables, tablesOf, tables, cap, W}
@@ -125,8 +125,11 @@ settled t s = tablesOf (t .arena) (settledN (t .nodes) s) (t .find)
 unfoldable pub releaseBy : ℕ → Tables → ℕ → Tables
 releaseBy tallest t id = dropPlace goneBy (suc tallest) (settled t (slot id)) id
 
+-- where another hold is left nothing else is looked at
 unfoldable pub releaseAny : ℕ → Tables → ℕ → Out
-releaseAny tallest t id = pick (eqb (releaseNo t id) 0) (did 0 (pick (eqb id 0) t (releaseBy tallest t id))) (did (releaseNo t id) t)
+releaseAny tallest t id =
+    let left = pick (ltb 1 (W t (slot id) holds)) (lessOf holds t id) (releaseBy tallest t id) in
+    pick (eqb (releaseNo t id) 0) (did 0 (pick (eqb id 0) t left)) (did (releaseNo t id) t)
 
 -- ## Intern branch
 

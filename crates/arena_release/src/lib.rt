@@ -156,7 +156,7 @@ fn take_hold(
     slots
 }
 
-// Release on any tables. Refusals 1, 4 and 5; EMPTY: nothing.
+// Release on any tables. Refusals 1, 4 and 5; EMPTY: nothing. Where another hold is left the node stays, whatever its places.
 fn release_any(a: Arena, kids: &mut [u64], facts: &mut [u32], find: &mut [u16], id: u64) -> Answer
     ensures { λ r. ⌜ answered a r kids facts find ≡ releaseAny deepest (before a kids facts find) id ⌝ }
 {
@@ -173,9 +173,18 @@ fn release_any(a: Arena, kids: &mut [u64], facts: &mut [u32], find: &mut [u16], 
             slots: a.slots,
         };
     }
-    if fact(facts, slot_of(id), HOLDS) == 0 {
+    let s = slot_of(id);
+    let h = fact(facts, s, HOLDS);
+    if h == 0 {
         return Answer {
             no: 5,
+            slots: a.slots,
+        };
+    }
+    if 1 < h {
+        put_fact(facts, s, HOLDS, h - 1);
+        return Answer {
+            no: 0,
             slots: a.slots,
         };
     }
