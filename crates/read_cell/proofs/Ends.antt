@@ -82,13 +82,11 @@ look-descent W k (c ∷ p) a = go (kind a) (look-descent W (k + 1) p (childOf W 
 
 -- ---- what the accessors give: children by `kids`, values by `facts`
 
-pub val-empty : (W : Words) (a : ℕ) → a ≡ 0 → 0 ≡ val W a
+pub val-word : (W : Words) (a s w r : ℕ) → s ≡ slot a → w ≡ W s value → r ≡ pick (eqb a 0) 0 (w % 2 ^ 16) → r ≡ val W a
 unfolding val valueAt
-val-empty W a e = rw (eq-eqb a 0 e)
-
-pub val-word : (W : Words) (a s w : ℕ) → (a ≡ 0 → ⊥) → s ≡ slot a → w ≡ W s value → w % 2 ^ 16 ≡ val W a
-unfolding val valueAt
-val-word W a s w h e k = rw (ne-eqb a 0 h) (ap (λ (n : ℕ). n % 2 ^ 16) (k ∙ ap (λ (i : ℕ). W i value) e))
+val-word W a s w r e k q =
+    let p = k ∙ ap (λ (i : ℕ). W i value) e in
+    q ∙ cases (ℕ-discrete a 0) (λ z. rw (eq-eqb a 0 z)) (λ z. rw (ne-eqb a 0 z, p))
 
 module _ (ks fs : List ℕ) where
   value-facts : (a : ℕ) → valueAt (factOf fs) a ≡ valueAt (wordOf (nodes ks fs)) a

@@ -6,6 +6,8 @@ use arena::slot_of;
 use basics::DEEPEST;
 use ids::BlockId;
 use ids::LOWEST_LEAF;
+use nodes::VALUE;
+use nodes::fact;
 use nodes::kid;
 use nodes::stored;
 use paths::Cell;
@@ -13,9 +15,10 @@ use paths::IVec3;
 use paths::octant;
 use paths::to_cell;
 ghost use mathlib.Core.Path.{_≡_};
-ghost use Prim.Native.Nat.{_^_, _≤_};
-ghost use lib.Dec.{ltb};
+ghost use Prim.Native.Nat.{_%_, _^_, _≤_};
+ghost use lib.Dec.{eqb, ltb};
 ghost use Rattle.basics.specs.Limits.{deepest};
+ghost use Rattle.basics.specs.Pick.{pick};
 ghost use Rattle.nodes.specs.Words.{kidOf, factOf};
 ghost use Rattle.arena.specs.Lent.{before};
 ghost use Rattle.read_cell.specs.Reading.{endOf};
@@ -47,15 +50,29 @@ fn is_end(id: u64) -> bool
     true
 }
 
-// The stored value, in 16 bits; EMPTY has 0.
-pub fn value(facts: &[u32], id: u64) -> u16
-    ensures { λ r. ⌜ r ≡ val (factOf (now (facts .entry))) id ⌝ }
+// What is stored for the id, in 16 bits; EMPTY has 0.
+fn shown(id: u64, stored: u32) -> u16
+    ensures { λ r. ⌜ r ≡ pick (eqb id 0) 0 (stored % 2 ^ 16) ⌝ }
 {
-    let stored = (stored(facts, slot_of(id)) % 0x1_0000) as u16;
+    let low = (stored % 0x1_0000) as u16;
     if id == BlockId::EMPTY.0 {
         return 0;
     }
-    stored
+    low
+}
+
+// The value of an id, for a reader of many values: how many rows the table has is worked out once for all of them.
+pub fn value(facts: &[u32], id: u64) -> u16
+    ensures { λ r. ⌜ r ≡ val (factOf (now (facts .entry))) id ⌝ }
+{
+    shown(id, stored(facts, slot_of(id)))
+}
+
+// The same for a reader of one value: nothing is worked out that pays only with more of them.
+fn value_once(facts: &[u32], id: u64) -> u16
+    ensures { λ r. ⌜ r ≡ val (factOf (now (facts .entry))) id ⌝ }
+{
+    shown(id, fact(facts, slot_of(id), VALUE))
 }
 
 // ---- down a path
@@ -138,7 +155,7 @@ fn look_at(
     let end = descend(kids, id, cell);
     Looked {
         no: 0,
-        value: value(facts, end.id.0),
+        value: value_once(facts, end.id.0),
     }
 }
 

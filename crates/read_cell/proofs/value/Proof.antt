@@ -1,9 +1,9 @@
 use borrow.Author.Needs.{needs}
-use Rattle.read_cell.proofs.Ends.{val-empty, val-word}
+use Rattle.read_cell.proofs.Ends.{val-word}
 use Rattle.read_cell.proofs.value.Statement.{statement}
 use Rattle.read_cell.proofs.value.Tie as tie
 
 pub value-spec : {M : Type 1} → statement M
 value-spec =
     tie.close
-    (tie.spec (λ c κs. search needs) (λ c κs. search needs) (λ c. search needs) (λ c. search val-empty) (λ c. search val-word))
+    (tie.spec (λ c κs. search needs) (λ c κs. search needs) (λ c κs. search needs) (λ c. search val-word))
