@@ -1,15 +1,16 @@
 -- Intern branch on well-formed tables: the code's answer is the definition's, and well formed stays well formed.
 use mathlib.Core.Path.{_≡_, refl, sym, ap, _∙_, subst}
 use mathlib.Core.Logic.{_≢_, inl, inr}
-use mathlib.Core.Bool.{Bool, true, false, true≢false}
+use mathlib.Core.Bool.{Bool, true, false}
 use mathlib.Core.List.{List, [], _++_}
 use Prim.Native.Nat.{ℕ, _+_, _≤_, _<_}
 use native.Mathlib.Decide.{ℕ-discrete, decLt}
 use native.Mathlib.Omega.{arith}
 use lib.Dec.{eqb, leb, ltb}
 use lib.ListN.{length, getD}
-use borrow.Author.Tests.{eq-eqb, ne-eqb, eqb-true, leb-false, le-leb, lt-leb, lt-ltb, le-ltb}
+use borrow.Author.Tests.{eq-eqb, ne-eqb, eqb-true, leb-false, ltb-true, le-leb, lt-leb, lt-ltb, le-ltb}
 use Rattle.basics.specs.Pick.{pick}
+use Rattle.basics.proofs.Rungs.{past-yes, past-no}
 use Rattle.ids.specs.Ids.{isLeaf}
 use Rattle.nodes.specs.Tally.{kidsOf, Live, occ}
 use Rattle.nodes.specs.Values.{heightAt}
@@ -21,7 +22,7 @@ use Rattle.find.specs.Cells.{kidsCell}
 use Rattle.find.specs.Content.{kidsAre}
 use Rattle.find.proofs.Contents.{kids-true, kids-words, kids-are}
 use Rattle.arena.specs.Calls.{Out, said, refused, fits, Fair, fullOf, roomOf, heldAt, allLive, allOf, liveOrEmpty, enoughFor, enough, noneOf, branchIn, branchSlot, internBranchNo, unheld, placed, branchMade, internBranchOf}
-use Rattle.arena.specs.Models.{branchAt, topFor, kidsFor, sumBy, branchRoomBy, branchLowBy, branchMissBy, branchHitBy, branchBy, kidsNo, internBranchBy}
+use Rattle.arena.specs.Models.{branchAt, topFor, kidsFor, sumBy, takenBy, lateNo, firstNo, livesAt, branchNewBy, branchTakeBy, branchBy, internBranchBy}
 use Rattle.arena.specs.Node.{sumFor, valueFor, heightFor}
 use Rattle.arena.specs.Tables.{tablesOf, Tables, cap, W, LiveSlot, WellFormed}
 use Rattle.arena.proofs.Branches.{alive, some-kid, branch-words, slot-lone, unheld-eased, unheld-inv, Placing, placing}
@@ -33,22 +34,7 @@ use Rattle.arena.proofs.Ids.{node-leaf, node-branch, max-ext}
 use Rattle.arena.proofs.Leaves.{held-kept, hit-is-held}
 use Rattle.arena.proofs.Scan.{find-hit}
 use Rattle.arena.proofs.Searched.{not-ground, kids-hash, kids-one, search-hit, search-miss}
-
-module _ (t : Tables) (ks : List ℕ) (s : ℕ) where
-  hit-few : enough (W t) ks ≡ false → branchHitBy t ks s ≡ refused 5 t
-  unfolding branchHitBy
-  hit-few h = rw h
-
-  hit-full : enough (W t) ks ≡ true → fullOf (W t) s ≡ true → branchHitBy t ks s ≡ refused 10 t
-  unfolding branchHitBy
-  hit-full h f = rw (h, f)
-
-  hit-held : enough (W t) ks ≡ true → fullOf (W t) s ≡ false → fullOf (wordOf (unheld (t .nodes) ks)) s ≡ false
-      → branchHitBy t ks s ≡ said 0 (W t s own) (heldAt (tablesOf (t .arena) (unheld (t .nodes) ks) (t .find)) s)
-  unfolding branchHitBy
-  hit-held h f g =
-      let u = tablesOf (t .arena) (unheld (t .nodes) ks) (t .find) in
-      rw (h, f) (hit-is-held u s g ∙ ap (λ (o : ℕ). said 0 o (heldAt u s)) (unheld-eased ks (t .nodes) .words s own (omega arith) (omega arith) (omega arith)))
+use Rattle.arena.proofs.Taking.{lasts-law, placed-taken, taken-unheld}
 
 pub full-few : (t : Tables) (s : ℕ) → fullOf (W t) s ≡ false → W t s holds < 1000000
 unfolding fullOf
@@ -88,18 +74,18 @@ module _ {n tallest : ℕ} {t : Tables} (m : n ≤ 8) (w : WellFormed n tallest 
       (λ h. absurd (slot-lone t ks e z x l (omega arith) (kids-words (W t) (kidsHash ks) ks x e h .1)))
       (λ h. h)
 
-  found-law : branchSlot t ks ≢ 0 → branchBy n tallest t ks ≡ branchHitBy t ks (branchSlot t ks)
-  unfolding branchBy branchAt kidsCell
+  found-law : branchSlot t ks ≢ 0 → branchBy n tallest t ks ≡ branchAt n tallest t ks (branchSlot t ks) (kidsFor t ks)
+  unfolding branchBy kidsCell
   found-law d =
       let q = slot-in d in
       let b = is-branch (branchSlot t ks) (q .0) (q .1) in
       let r = search-hit m w same (kidsHash ks) (branchSlot t ks) (q .0) (b .1) (kids-true (W t) (kidsHash ks) ks (branchSlot t ks) e (b .1) (q .1))
       (λ x l h. kids-one m w x (branchSlot t ks) l (q .0) (b .0) (λ i j. kids-words (W t) (kidsHash ks) ks x e h .1 i j ∙ sym (q .1 i j))) in
-      rw (r, ne-eqb (branchSlot t ks) 0 d)
+      rw r
 
-  none-law : branchSlot t ks ≡ 0 → branchBy n tallest t ks ≡ branchMissBy n tallest t ks (kidsFor t ks)
-  unfolding branchBy branchAt kidsCell
-  none-law z = let r = search-miss m w same (kidsHash ks) (no-branch z) in rw r
+  none-law : branchSlot t ks ≡ 0 → branchBy n tallest t ks ≡ branchAt n tallest t ks (branchSlot t ks) (kidsFor t ks)
+  unfolding branchBy kidsCell
+  none-law z = let r = search-miss m w same (kidsHash ks) (no-branch z) in rw (r, z)
 
   -- where it is there its children live, and it is no taller than allowed
   there-live : branchSlot t ks ≢ 0 → allLive (cap t) (W t) ks ≡ true
@@ -174,18 +160,15 @@ module _ {n tallest : ℕ} {t : Tables} (m : n ≤ 8) (pos : 1 ≤ n) (w : WellF
   sum-u : sumBy n (W t) ks ≡ sumFor n (W u) ks
   sum-u = sum-by n tallest m pos t ks e con kid-there ∙ sym (sum-same n (W t) (W u) ks (λ b. u-word b value (omega arith) (omega arith) (omega arith)))
 
-  made-law : (top : ℕ) → heightFor n (W t) ks ≡ top + 1 → branchSlot t ks ≡ 0 → roomOf (t .arena) ≡ true → branchRoomBy n t ks top (kidsFor t ks) ≡ branchMade n t ks
-  unfolding branchRoomBy branchMade kidsCell
+  made-law : (top : ℕ) → heightFor n (W t) ks ≡ top + 1 → branchSlot t ks ≡ 0 → roomOf (t .arena) ≡ true
+      → branchNewBy (tablesOf (t .arena) (takenBy (t .nodes) ks) (t .find)) ks (valueFor n (W t) ks) top (sumBy n (W t) ks) (kidsFor t ks) ≡ branchMade n t ks
+  unfolding branchNewBy branchMade kidsCell
   made-law top h z r =
       let room = room-yes (t .arena) r in
-      rw (r, place .same)
+      rw (placed-taken (t .nodes) ks, place .same)
       (branch-fresh (ks ++ []) (place .inv) room n ks (valueFor n (W t) ks) (top + 1) (sumBy n (W t) ks) (kidsHash ks) 1 0 (kidsFor t ks)
       (sym value-u) (sym h ∙ sym height-u) sum-u refl
       (search-ends (ks ++ []) (place .inv) room (kidsHash ks) (same m w ks e some) (λ x p l. no-branch m w ks e some z x p (u-live x l))))
-
-  full-law : (top : ℕ) → roomOf (t .arena) ≡ false → branchRoomBy n t ks top (kidsFor t ks) ≡ refused 11 t
-  unfolding branchRoomBy
-  full-law top r = rw r
 
   -- ---- well formed afterwards
 
@@ -229,19 +212,37 @@ module _ {n tallest : ℕ} {t : Tables} (m : n ≤ 8) (pos : 1 ≤ n) (w : WellF
   unfolding internBranchBy
   by-is = rw (sized-fits (w .sized), some)
 
-  no-is : internBranchNo n tallest t ks
-      ≡ pick (allLive (cap t) (W t) ks) (pick (enough (W t) ks)
-      (pick (leb (heightFor n (W t) ks) tallest) (pick (eqb (branchSlot t ks) 0) (pick (roomOf (t .arena)) 0 11) (pick (fullOf (W t) (branchSlot t ks)) 10 0)) 8) 5) 4
+  -- the refusals after 5
+  abbrev late : ℕ
+  late = lateNo tallest (t .arena) (W t) (branchSlot t ks) (topFor (W t) ks n)
+
+  late-is : pick (leb (heightFor n (W t) ks) tallest) (pick (eqb (branchSlot t ks) 0) (pick (roomOf (t .arena)) 0 11) (pick (fullOf (W t) (branchSlot t ks)) 10 0)) 8 ≡ late
+  unfolding lateNo
+  late-is =
+      let q = height-top n t ks in
+      cases (ℕ-discrete (branchSlot t ks) 0)
+      (λ z. cases (decLt (topFor (W t) ks n) tallest)
+      (λ l. rw (eq-eqb (branchSlot t ks) 0 z, lt-ltb (topFor (W t) ks n) tallest l, le-leb (heightFor n (W t) ks) tallest (omega arith)))
+      (λ l. rw (eq-eqb (branchSlot t ks) 0 z, le-ltb (topFor (W t) ks n) tallest (omega arith), lt-leb (heightFor n (W t) ks) tallest (omega arith))))
+      (λ z. rw (ne-eqb (branchSlot t ks) 0 z, le-leb (heightFor n (W t) ks) tallest (there-low m w ks e some z)))
+
+  no-is : internBranchNo n tallest t ks ≡ pick (allLive (cap t) (W t) ks) (pick (enough (W t) ks) late 5) 4
   unfolding internBranchNo
-  no-is = rw (sized-fits (w .sized), some)
+  no-is = rw (sized-fits (w .sized), some, late-is)
 
-  miss-is : branchSlot t ks ≡ 0 → internBranchBy n tallest t ks
-      ≡ pick (eqb (kidsNo (cap t) (W t) ks) 0) (pick (ltb (topFor (W t) ks n) tallest) (branchRoomBy n t ks (topFor (W t) ks n) (kidsFor t ks)) (refused 8 t)) (refused (kidsNo (cap t) (W t) ks) t)
-  unfolding branchMissBy branchLowBy
-  miss-is z = by-is ∙ none-law m w ks e some z
+  lives-is : livesAt (cap t) (W t) ks (branchSlot t ks) ≡ allLive (cap t) (W t) ks
+  unfolding livesAt
+  lives-is = cases (ℕ-discrete (branchSlot t ks) 0) (λ z. rw (eq-eqb (branchSlot t ks) 0 z)) (λ z. rw (ne-eqb (branchSlot t ks) 0 z) (sym (there-live m w ks e some z)))
 
-  hit-is : branchSlot t ks ≢ 0 → internBranchBy n tallest t ks ≡ branchHitBy t ks (branchSlot t ks)
-  hit-is d = by-is ∙ found-law m w ks e some d
+  abbrev taking : Out
+  taking = branchTakeBy n t ks (branchSlot t ks) (kidsFor t ks)
+
+  abbrev first : ℕ
+  first = pick (eqb late 0) 0 (pick (enough (W t) ks) late 5)
+
+  at-is : internBranchBy n tallest t ks ≡ pick (allLive (cap t) (W t) ks) (pick (eqb first 0) taking (refused first t)) (refused 4 t)
+  unfolding branchAt firstNo
+  at-is = by-is ∙ cases (ℕ-discrete (branchSlot t ks) 0) (none-law m w ks e some) (found-law m w ks e some) ∙ rw lives-is
 
   abbrev answer : ℕ → Out
   answer x = pick (eqb x 0) (pick (eqb (branchSlot t ks) 0) (branchMade n t ks) (said 0 (W t (branchSlot t ks) own) (heldAt (tablesOf (t .arena) (unheld (t .nodes) ks) (t .find)) (branchSlot t ks)))) (refused x t)
@@ -259,66 +260,42 @@ module _ {n tallest : ℕ} {t : Tables} (m : n ≤ 8) (pos : 1 ≤ n) (w : WellF
       let q : x ≡ internBranchOf n tallest t ks = sym c ∙ ap answer (sym b) ∙ sym of-is in
       (a ∙ q, subst (λ (o : Out). WellFormed n tallest (o .after)) q y)
 
-  -- a child that is neither EMPTY nor live: it is not there
-  dead : allLive (cap t) (W t) ks ≡ false → Ends
-  unfolding kidsNo
-  dead a = cases (ℕ-discrete (branchSlot t ks) 0)
-      (λ z. ends (refused 4 t) 4 (miss-is z ∙ rw a) (no-is ∙ rw a) refl w)
-      (λ z. absurd (true≢false (sym (there-live m w ks e some z) ∙ a)))
+  module _ (a : allLive (cap t) (W t) ks ≡ true) where
+    few : enough (W t) ks ≡ false → pick (eqb first 0) taking (refused first t) ≡ refused 5 t
+    unfolding branchTakeBy
+    few h = cases (ℕ-discrete late 0) (λ z. rw (eq-eqb late 0 z, lasts-law t ks a ∙ h)) (λ z. rw (ne-eqb late 0 z, h))
 
-  -- too few holds
-  few : allLive (cap t) (W t) ks ≡ true → enough (W t) ks ≡ false → Ends
-  unfolding kidsNo
-  few a h = cases (ℕ-discrete (branchSlot t ks) 0)
-      (λ z. ends (refused 5 t) 5 (miss-is z ∙ rw (a, h)) (no-is ∙ rw (a, h)) refl w)
-      (λ z. ends (refused 5 t) 5 (hit-is z ∙ hit-few t ks (branchSlot t ks) h) (no-is ∙ rw (a, h)) refl w)
+    module _ (h : enough (W t) ks ≡ true) (z : late ≡ 0) where
+      fresh : branchSlot t ks ≡ 0 → Ends
+      unfolding lateNo branchTakeBy
+      fresh y =
+          let q = height-top n t ks in
+          let p = past-yes (ltb (topFor (W t) ks n) tallest) (pick (roomOf (t .arena)) 0 11) 8 0 (omega arith) (rw (eq-eqb (branchSlot t ks) 0 y) at z) in
+          let r = past-yes (roomOf (t .arena)) 0 11 0 (omega arith) (p .1) .0 in
+          let l = ltb-true (topFor (W t) ks n) tallest (p .0) in
+          ends (branchMade n t ks) 0
+          (at-is ∙ rw (a, eq-eqb late 0 z, lasts-law t ks a ∙ h, eq-eqb (branchSlot t ks) 0 y) (made-law m pos w ks e beyond some a (topFor (W t) ks n) q y r))
+          (no-is ∙ rw (a, h) z) (rw (eq-eqb (branchSlot t ks) 0 y)) (made-kept m pos w ks e beyond some a y r (omega arith))
 
-  module _ (a : allLive (cap t) (W t) ks ≡ true) (h : enough (W t) ks ≡ true) where
-    fine : kidsNo (cap t) (W t) ks ≡ 0
-    unfolding kidsNo
-    fine = rw (a, h)
-
-    -- too tall: it is not there
-    tall : tallest ≤ topFor (W t) ks n → Ends
-    tall l =
-        let q = height-top n t ks in
-        cases (ℕ-discrete (branchSlot t ks) 0)
-        (λ z. ends (refused 8 t) 8 (miss-is z ∙ rw (fine, le-ltb (topFor (W t) ks n) tallest l)) (no-is ∙ rw (a, h, lt-leb (heightFor n (W t) ks) tallest (omega arith))) refl w)
-        (λ z. absurd (let b = there-low m w ks e some z in omega arith))
-
-    low : topFor (W t) ks n < tallest → Ends
-    low l =
-        let q = height-top n t ks in
-        let hl : heightFor n (W t) ks ≤ tallest = omega arith in
-        let g = le-leb (heightFor n (W t) ks) tallest hl in
-        cases (ℕ-discrete (branchSlot t ks) 0)
-        (λ z. split (roomOf (t .arena))
-        (λ r. ends (branchMade n t ks) 0
-        (miss-is z ∙ rw (fine, lt-ltb (topFor (W t) ks n) tallest l) (made-law m pos w ks e beyond some a (topFor (W t) ks n) q z r))
-        (no-is ∙ rw (a, h, g, eq-eqb (branchSlot t ks) 0 z, r))
-        (rw (eq-eqb (branchSlot t ks) 0 z))
-        (made-kept m pos w ks e beyond some a z r hl))
-        (λ r. ends (refused 11 t) 11
-        (miss-is z ∙ rw (fine, lt-ltb (topFor (W t) ks n) tallest l) (full-law m pos w ks e beyond some a (topFor (W t) ks n) r))
-        (no-is ∙ rw (a, h, g, eq-eqb (branchSlot t ks) 0 z, r))
-        refl w))
-        (λ z. split (fullOf (W t) (branchSlot t ks))
-        (λ f. ends (refused 10 t) 10
-        (hit-is z ∙ hit-full t ks (branchSlot t ks) h f)
-        (no-is ∙ rw (a, h, g, ne-eqb (branchSlot t ks) 0 z, f))
-        refl w)
-        (λ f. ends (said 0 (W t (branchSlot t ks) own) (heldAt (tablesOf (t .arena) (unheld (t .nodes) ks) (t .find)) (branchSlot t ks))) 0
-        (hit-is z ∙ hit-held t ks (branchSlot t ks) h f (hold-few m pos w ks e beyond some a f))
-        (no-is ∙ rw (a, h, g, ne-eqb (branchSlot t ks) 0 z, f))
-        (rw (ne-eqb (branchSlot t ks) 0 z))
-        (hit-kept m pos w ks e beyond some a z f)))
+      found : branchSlot t ks ≢ 0 → Ends
+      unfolding lateNo branchTakeBy
+      found y =
+          let u = tablesOf (t .arena) (unheld (t .nodes) ks) (t .find) in
+          let f = past-no (fullOf (W t) (branchSlot t ks)) 10 0 0 (omega arith) (rw (ne-eqb (branchSlot t ks) 0 y) at z) .0 in
+          ends (said 0 (W t (branchSlot t ks) own) (heldAt u (branchSlot t ks))) 0
+          (at-is ∙ rw (a, eq-eqb late 0 z, lasts-law t ks a ∙ h, ne-eqb (branchSlot t ks) 0 y, taken-unheld (t .nodes) ks)
+          (hit-is-held u (branchSlot t ks) (hold-few m pos w ks e beyond some a f)
+          ∙ ap (λ (o : ℕ). said 0 o (heldAt u (branchSlot t ks))) (unheld-eased ks (t .nodes) .words (branchSlot t ks) own (omega arith) (omega arith) (omega arith))))
+          (no-is ∙ rw (a, h) z) (rw (ne-eqb (branchSlot t ks) 0 y)) (hit-kept m pos w ks e beyond some a y f)
 
   done : Ends
   done = split (allLive (cap t) (W t) ks)
       (λ a. split (enough (W t) ks)
-      (λ h. cases (decLt (topFor (W t) ks n) tallest) (low a h) (λ l. tall a h (omega arith)))
-      (few a))
-      dead
+      (λ h. cases (ℕ-discrete late 0)
+      (λ z. cases (ℕ-discrete (branchSlot t ks) 0) (fresh a h z) (found a h z))
+      (λ z. ends (refused late t) late (at-is ∙ rw (a, h, ne-eqb late 0 z, ne-eqb late 0 z)) (no-is ∙ rw (a, h)) (rw (ne-eqb late 0 z)) w))
+      (λ h. ends (refused 5 t) 5 (at-is ∙ rw a (few a h)) (no-is ∙ rw (a, h)) refl w))
+      (λ a. ends (refused 4 t) 4 (at-is ∙ rw a) (no-is ∙ rw a) refl w)
 
 -- the code's answer is the definition's
 pub branch-law : {n tallest : ℕ} {t : Tables} (ks : List ℕ) (x : Out) → n ≤ 8 → 1 ≤ n → length ks ≡ 8 → ((i : ℕ) → n ≤ i → i < 8 → getD ks i 0 ≡ 0)

@@ -10,6 +10,7 @@ pub mod Scan
 pub mod Make
 pub mod Places
 pub mod Branches
+pub mod Taking
 pub mod Fresh
 pub mod Searched
 pub mod Leaves

@@ -1,7 +1,7 @@
 -- What the private functions leave, of any tables: mirrors of the code. No reader has to believe them: the public contracts cite `Calls`.
-use mathlib.Core.Bool.{Bool, true}
-use mathlib.Core.List.{List}
-use Prim.Native.Nat.{ℕ, zero, suc, _+_, _-_, _/_, _%_, _^_}
+use mathlib.Core.Bool.{Bool, true, false}
+use mathlib.Core.List.{List, [], _∷_}
+use Prim.Native.Nat.{ℕ, zero, suc, _+_, _-_, _%_, _^_}
 use lib.Dec.{eqb, ltb}
 use lib.ListN.{getD, set}
 use Rattle.basics.specs.Limits.{kidWords}
@@ -12,10 +12,10 @@ use Rattle.nodes.specs.Words.{Nodes, nodes, Words, wordOf, factOf, putOf, factP
 use Rattle.find_hash.specs.Hash.{leafHash, kidsHash}
 use Rattle.find.specs.Cells.{leafCell, kidsCell, remove}
 use Rattle.find.specs.Content.{homeAt}
-use Rattle.arena.specs.Calls.{Out, said, refused, did, fits, fullOf, roomOf, heldAt, freshIn, givenBy, freshFacts, deadFacts, empties, recycled, lessOf, each, releaseNo, noneOf, unheld, allLive, enough}
+use Rattle.arena.specs.Calls.{Out, said, refused, did, fits, fullOf, roomOf, heldAt, freshIn, givenBy, freshFacts, deadFacts, empties, recycled, lessOf, each, releaseNo, noneOf, allLive, enough}
 use Rattle.arena.specs.Node.{kidTypes, kidMask, sumFor, valueFor}
 use Rattle.nodes.specs.Values.{heightAt, maxTo}
-use Rattle.arena.specs.Tables.{Tables, tablesOf, tables, cap, W}
+use Rattle.arena.specs.Tables.{State, Tables, tablesOf, tables, cap, W}
 
 -- ## Recycling
 
@@ -141,32 +141,58 @@ topFor W ks n = maxTo n (λ i. heightAt W (getD ks i 0))
 unfoldable pub sumBy : ℕ → Words → List ℕ → ℕ
 sumBy n W ks = sumFor n W ks % 2 ^ 32
 
--- the branch is not there, and may be made: a slot for it, or refusal 11
-unfoldable pub branchRoomBy : ℕ → Tables → List ℕ → ℕ → ℕ → Out
-branchRoomBy n t ks top at =
-    pick (roomOf (t .arena))
-    (branchFresh (tablesOf (t .arena) (unheld (placedBy (t .nodes) ks) ks) (t .find)) ks (valueFor n (W t) ks) (top + 1) (sumBy n (W t) ks) (kidsHash ks) 1 0 at)
-    (refused 11 t)
+-- one hold less for the node of id; EMPTY: nothing
+unfoldable pub takenOne : List ℕ → ℕ → List ℕ
+takenOne f id = pick (eqb id 0) f (factPut f (slot id) holds (factOf f (slot id) holds - 1))
 
--- refusals 4 and 5
-unfoldable pub kidsNo : ℕ → Words → List ℕ → ℕ
-kidsNo c W ks = pick (allLive c W ks) (pick (enough W ks) 0 5) 4
+-- it has one to take; EMPTY needs none
+unfoldable pub hasOne : List ℕ → ℕ → Bool
+hasOne f id = pick (eqb id 0) true (ltb 0 (factOf f (slot id) holds))
 
--- it is not there: refusals 4, 5 and 8 first
-unfoldable pub branchLowBy : ℕ → ℕ → Tables → List ℕ → ℕ → Out
-branchLowBy n tallest t ks at = let top = topFor (W t) ks n in pick (ltb top tallest) (branchRoomBy n t ks top at) (refused 8 t)
+-- each has one left when its turn comes
+unfoldable pub lasts : List ℕ → List ℕ → Bool
+lasts f [] = true
+lasts f (k ∷ ks) = let rest = lasts (takenOne f k) ks in pick (hasOne f k) rest false
 
-unfoldable pub branchMissBy : ℕ → ℕ → Tables → List ℕ → ℕ → Out
-branchMissBy n tallest t ks at = pick (eqb (kidsNo (cap t) (W t) ks) 0) (branchLowBy n tallest t ks at) (refused (kidsNo (cap t) (W t) ks) t)
+-- one hold less for each of the nodes
+abbrev pub takenBy : Nodes → List ℕ → Nodes
+takenBy x ks = nodes (x .kids) (each takenOne (x .facts) ks)
 
--- it is there, in slot s, so that its children live and it is no taller than allowed: refusals 5 and 10 are left
-unfoldable pub branchHitBy : Tables → List ℕ → ℕ → Out
-branchHitBy t ks s =
-    pick (enough (W t) ks) (pick (fullOf (W t) s) (refused 10 t) (hitBy (tablesOf (t .arena) (unheld (t .nodes) ks) (t .find)) s)) (refused 5 t)
+-- the holds of the first i are given back, the last one first
+unfoldable pub givenBack : List ℕ → List ℕ → ℕ → List ℕ
+givenBack f ks zero = f
+givenBack f ks (suc i) = givenBack (bumped holds f (getD ks i 0)) ks i
+
+-- s is 0 where the branch is not there, else its slot
+
+-- not refusal 4: where it is there its children live
+unfoldable pub livesAt : ℕ → Words → List ℕ → ℕ → Bool
+livesAt c W ks s = pick (eqb s 0) (allLive c W ks) true
+
+-- the refusals after 5: 8 and 11 where it is not there, and the tallest of its children has the height `top`, else 10
+unfoldable pub lateNo : ℕ → State → Words → ℕ → ℕ → ℕ
+lateNo tallest a W s top = pick (eqb s 0) (pick (ltb top tallest) (pick (roomOf a) 0 11) 8) (pick (fullOf W s) 10 0)
+
+-- 5 in place of such a one where there are too few holds. Where none applies, taking the holds shows whether there are enough
+unfoldable pub firstNo : ℕ → State → Words → List ℕ → ℕ → ℕ → ℕ
+firstNo tallest a W ks s top = let late = lateNo tallest a W s top in pick (eqb late 0) 0 (pick (enough W ks) late 5)
+
+-- a fresh branch, the holds of its children taken already: they become places
+unfoldable pub branchNewBy : Tables → List ℕ → ℕ → ℕ → ℕ → ℕ → Out
+branchNewBy t ks v top sum at = branchFresh (tablesOf (t .arena) (placedBy (t .nodes) ks) (t .find)) ks v (top + 1) sum (kidsHash ks) 1 0 at
+
+-- refusal 5 alone is left
+unfoldable pub branchTakeBy : ℕ → Tables → List ℕ → ℕ → ℕ → Out
+branchTakeBy n t ks s at =
+    let u = tablesOf (t .arena) (takenBy (t .nodes) ks) (t .find) in
+    let granted = pick (eqb s 0) (branchNewBy u ks (valueFor n (W t) ks) (topFor (W t) ks n) (sumBy n (W t) ks) at) (hitBy u s) in
+    pick (lasts (t .nodes .facts) ks) granted (refused 5 t)
 
 -- once the search has ended at the cell `at`, which names s
 unfoldable pub branchAt : ℕ → ℕ → Tables → List ℕ → ℕ → ℕ → Out
-branchAt n tallest t ks s at = pick (eqb s 0) (branchMissBy n tallest t ks at) (branchHitBy t ks s)
+branchAt n tallest t ks s at =
+    let no = firstNo tallest (t .arena) (W t) ks s (topFor (W t) ks n) in
+    pick (livesAt (cap t) (W t) ks s) (pick (eqb no 0) (branchTakeBy n t ks s at) (refused no t)) (refused 4 t)
 
 unfoldable pub branchBy : ℕ → ℕ → Tables → List ℕ → Out
 branchBy n tallest t ks = branchAt n tallest t ks (getD (t .find) (kidsFor t ks) 0) (kidsFor t ks)

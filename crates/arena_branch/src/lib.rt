@@ -3,11 +3,11 @@
 use arena::Arena;
 use arena::Made;
 use arena::all_empty;
+use arena::bump;
 use arena::bump_all;
 use arena::fit;
 use arena::hit;
 use arena::is_live_or_empty;
-use arena::less;
 use arena::slot_of;
 use basics::KID_WORDS;
 use basics::Kids;
@@ -26,13 +26,15 @@ use nodes::fact;
 use nodes_write::put_fact;
 ghost use mathlib.Core.Path.{_≡_};
 ghost use mathlib.Core.List.{List};
-ghost use Prim.Native.Nat.{ℕ, _<_};
-ghost use Rattle.basics.specs.Limits.{deepest, cubeKids};
+ghost use Prim.Native.Nat.{ℕ, _%_, _^_, _≤_, _<_};
+ghost use lib.Dec.{eqb};
+ghost use Rattle.basics.specs.Limits.{deepest, cubeKids, kidWords};
+ghost use Rattle.basics.specs.Pick.{pick};
 ghost use Rattle.nodes.specs.Tally.{occ};
-ghost use Rattle.nodes.specs.Words.{nodes as nodesOf, factOf};
+ghost use Rattle.nodes.specs.Words.{holds as holdsWord, factOf};
 ghost use Rattle.find_hash.specs.Hash.{kidsHash};
-ghost use Rattle.arena.specs.Calls.{madeOf, Fair, enoughFor, allLive, enough, unheldKid, unheld, internBranchOf, rawIds};
-ghost use Rattle.arena.specs.Models.{branchRoomBy, branchLowBy, branchMissBy, branchHitBy, branchAt, branchBy, kidsNo, internBranchBy};
+ghost use Rattle.arena.specs.Calls.{madeOf, refused, Fair, each, enoughFor, allLive, enough, internBranchOf, rawIds};
+ghost use Rattle.arena.specs.Models.{bumped, topFor, takenOne, hasOne, lasts, givenBack, livesAt, lateNo, firstNo, branchNewBy, branchTakeBy, branchAt, branchBy, internBranchBy};
 ghost use Rattle.arena.specs.Node.{sumFor, valueFor};
 ghost use Rattle.arena.specs.Tables.{stateOf, tables};
 ghost use Rattle.arena.specs.Lent.{before, made};
@@ -94,65 +96,130 @@ fn all_live(capacity: usize, facts: &[u32], ks: Kids) -> bool
     true
 }
 
-// Refusals 4 and 5.
-fn kids_no(capacity: usize, facts: &[u32], ks: Kids) -> u32
-    ensures { λ r. ⌜ r ≡ kidsNo capacity (factOf (now (facts .entry))) ks ⌝ }
+// Not refusal 4, once the search has named s, which is 0 where the branch is not there: where it is there its children live.
+fn lives(capacity: usize, facts: &[u32], ks: Kids, s: usize) -> bool
+    ensures { λ r. ⌜ r ≡ livesAt capacity (factOf (now (facts .entry))) ks s ⌝ }
 {
-    if all_live(capacity, facts, ks) {
-        if all_enough(facts, ks) {
-            return 0;
+    if s == 0 {
+        return all_live(capacity, facts, ks);
+    }
+    true
+}
+
+// What the children come to where the branch is not there; else 0, which nobody asks for.
+fn sums_at(facts: &[u32], ks: Kids, s: usize) -> Sums
+    ensures { λ r. ⌜ (r .sum ≡ pick (eqb s 0) (sumFor cubeKids (factOf (now (facts .entry))) ks) 0) × (r .value ≡ pick (eqb s 0) (valueFor cubeKids (factOf (now (facts .entry))) ks) 0) × (r .top ≡ pick (eqb s 0) (topFor (factOf (now (facts .entry))) ks cubeKids) 0) ⌝ }
+{
+    if s == 0 {
+        return sums_of(facts, ks);
+    }
+    Sums {
+        sum: 0,
+        value: 0,
+        top: 0,
+    }
+}
+
+// The refusals after 5: 8 and 11 where the branch is not there, else 10.
+fn late_no(a: Arena, facts: &[u32], s: usize, top: u32) -> u32
+    ensures { λ r. ⌜ r ≡ lateNo deepest (stateOf a) (factOf (now (facts .entry))) s top ⌝ }
+{
+    if s == 0 {
+        if top < TALLEST {
+            if 0 < free_slots(a) {
+                return 0;
+            }
+            return 11;
         }
-        return 5;
+        return 8;
     }
-    4
+    if MOST_HOLDS <= fact(facts, s, HOLDS) {
+        return 10;
+    }
+    0
 }
 
-// A hold on the node of k ends; EMPTY: nothing.
-fn unhold_kid(facts: &mut [u32], k: u64)
-    ensures { λ _. ⌜ ((j : List ℕ) → nodesOf j (now (facts .exit)) ≡ unheldKid (nodesOf j (now (facts .entry))) k) ⌝ }
+// A late refusal, or 5 in its place where there are too few holds. Where none applies, taking the holds shows whether there are enough.
+fn first_no(a: Arena, facts: &[u32], ks: Kids, s: usize, top: u32) -> u32
+    ensures { λ r. ⌜ r ≡ firstNo deepest (stateOf a) (factOf (now (facts .entry))) ks s top ⌝ }
 {
-    if k == 0 {
-        return;
+    let late = late_no(a, facts, s, top);
+    if late == 0 {
+        return 0;
     }
-    let s = slot_of(k);
-    put_fact(facts, s, HOLDS, less(fact(facts, s, HOLDS)));
-}
-
-// The holds end.
-fn unhold_all(facts: &mut [u32], ks: Kids)
-    ensures { λ _. ⌜ ((j : List ℕ) → nodesOf j (now (facts .exit)) ≡ unheld (nodesOf j (now (facts .entry))) ks) ⌝ }
-{
-    let mut i: usize = 0;
-    while i < KID_WORDS {
-        unhold_kid(facts, ks[i]);
-        i += 1;
-    }
-}
-
-// The node in slot s is there already: the holds of the children end, and a hold on it is granted. Refusals 5 and 10.
-fn branch_hit(a: Arena, facts: &mut [u32], ks: Kids, s: usize) -> Made
-    ensures { λ r. ⌜ ((k e : List ℕ) → madeOf (a .capacity) r k (now (facts .exit)) e ≡ branchHitBy (tables (stateOf a) k (now (facts .entry)) e) ks s) ⌝ }
-{
     if all_enough(facts, ks) {
-        if MOST_HOLDS <= fact(facts, s, HOLDS) {
-            return Made {
-                no: 10,
-                id: BlockId::INVALID,
-                slots: a.slots,
-            };
-        }
-        unhold_all(facts, ks);
-        return hit(a, facts, s);
+        return late;
     }
+    5
+}
+
+// Refused: nothing is changed.
+fn refuse(a: Arena, no: u32) -> Made
+    ensures { λ r. ⌜ ((k f e : List ℕ) → madeOf (a .capacity) r k f e ≡ refused no (tables (stateOf a) k f e)) ⌝ }
+{
     Made {
-        no: 5,
+        no: no,
         id: BlockId::INVALID,
         slots: a.slots,
     }
 }
 
-// A fresh branch, named in the cell `at`: the holds become places. Refusal 11 where no slot is free.
-fn branch_room(
+// Takes one hold from the node of k, if it has one: else the answer is false. EMPTY needs none. `bump` gives back what it took.
+fn take_hold(facts: &mut [u32], k: u64) -> bool
+    ensures { λ r. ⌜ (r ≡ hasOne (now (facts .entry)) k) × (now (facts .exit) ≡ pick r (takenOne (now (facts .entry)) k) (now (facts .entry))) × (pick r (bumped holdsWord (now (facts .exit)) k) (now (facts .exit)) ≡ now (facts .entry)) ⌝ }
+{
+    if k == 0 {
+        return true;
+    }
+    let s = slot_of(k);
+    let h = fact(facts, s, HOLDS);
+    if h == 0 {
+        return false;
+    }
+    put_fact(facts, s, HOLDS, h - 1);
+    true
+}
+
+// Takes one hold from each in turn, until one has none left. Answers how many were passed.
+fn take_while(facts: &mut [u32], ks: Kids) -> usize
+    ensures { λ r. ⌜ (r ≤ kidWords) × (eqb r kidWords ≡ lasts (now (facts .entry)) ks) × (pick (eqb r kidWords) (now (facts .exit)) (givenBack (now (facts .exit)) ks r) ≡ pick (eqb r kidWords) (each takenOne (now (facts .entry)) ks) (now (facts .entry))) ⌝ }
+{
+    let mut i: usize = 0;
+    while i < KID_WORDS {
+        if !take_hold(facts, ks[i]) {
+            return i;
+        }
+        i += 1;
+    }
+    KID_WORDS
+}
+
+// Gives back the holds taken from the first n, the last one first.
+fn give_back(facts: &mut [u32], ks: Kids, n: usize)
+    requires { ⌜ n ≤ kidWords ⌝ }
+    ensures { λ _. ⌜ now (facts .exit) ≡ givenBack (now (facts .entry)) ks n ⌝ }
+{
+    let mut left = n;
+    while 0 < left {
+        left -= 1;
+        bump(facts, HOLDS, ks[left]);
+    }
+}
+
+// Takes one hold for each child that isn't EMPTY. Where one has none left nothing is taken, and the answer is false.
+fn take_holds(facts: &mut [u32], ks: Kids) -> bool
+    ensures { λ r. ⌜ (r ≡ lasts (now (facts .entry)) ks) × (now (facts .exit) ≡ pick r (each takenOne (now (facts .entry)) ks) (now (facts .entry))) ⌝ }
+{
+    let n = take_while(facts, ks);
+    if n < KID_WORDS {
+        give_back(facts, ks, n);
+        return false;
+    }
+    true
+}
+
+// A fresh branch, named in the cell `at`: the holds of its children, which are taken already, become places.
+fn branch_new(
     a: Arena,
     kids: &mut [u64],
     facts: &mut [u32],
@@ -162,81 +229,49 @@ fn branch_room(
     k: u32,
     at: usize,
 ) -> Made
-    requires { ⌜ (sums .sum ≡ sumFor cubeKids (factOf (now facts)) ks) × (sums .value ≡ valueFor cubeKids (factOf (now facts)) ks) × (sums .top < deepest) × (k ≡ kidsHash ks) ⌝ }
-    ensures { λ r. ⌜ made a r kids facts find ≡ branchRoomBy cubeKids (before a kids facts find) ks (sums .top) at ⌝ }
+    requires { ⌜ (sums .top < deepest) × (k ≡ kidsHash ks) ⌝ }
+    ensures { λ r. ⌜ made a r kids facts find ≡ branchNewBy (before a kids facts find) ks (sums .value) (sums .top) (sums .sum % 2 ^ 32) at ⌝ }
 {
-    if 0 < free_slots(a) {
-        let sum = (sums.sum % 0x1_0000_0000) as u32;
-        bump_all(facts, PLACES, ks);
-        unhold_all(facts, ks);
-        return fresh_branch(
-            a,
-            kids,
-            facts,
-            find,
-            at,
-            ks,
-            sums.value,
-            sums.top + 1,
-            sum,
-            k,
-            1,
-            0,
-        );
-    }
-    Made {
-        no: 11,
-        id: BlockId::INVALID,
-        slots: a.slots,
-    }
+    let sum = (sums.sum % 0x1_0000_0000) as u32;
+    bump_all(facts, PLACES, ks);
+    fresh_branch(
+        a,
+        kids,
+        facts,
+        find,
+        at,
+        ks,
+        sums.value,
+        sums.top + 1,
+        sum,
+        k,
+        1,
+        0,
+    )
 }
 
-// A fresh branch unless it is taller than 6: refusal 8.
-fn branch_low(
+// The holds of the children end, and a hold is granted on the branch in slot s, or on a fresh one. Refusal 5 alone is left.
+fn branch_take(
     a: Arena,
     kids: &mut [u64],
     facts: &mut [u32],
     find: &mut [u16],
     ks: Kids,
+    sums: Sums,
     k: u32,
+    s: usize,
     at: usize,
 ) -> Made
-    requires { ⌜ k ≡ kidsHash ks ⌝ }
-    ensures { λ r. ⌜ made a r kids facts find ≡ branchLowBy cubeKids deepest (before a kids facts find) ks at ⌝ }
+    requires { ⌜ (sums .sum ≡ pick (eqb s 0) (sumFor cubeKids (factOf (now facts)) ks) 0) × (sums .value ≡ pick (eqb s 0) (valueFor cubeKids (factOf (now facts)) ks) 0) × (sums .top ≡ pick (eqb s 0) (topFor (factOf (now facts)) ks cubeKids) 0) × (sums .top < deepest) × (k ≡ kidsHash ks) ⌝ }
+    ensures { λ r. ⌜ made a r kids facts find ≡ branchTakeBy cubeKids (before a kids facts find) ks s at ⌝ }
 {
-    let sums = sums_of(facts, ks);
-    if sums.top < TALLEST {
-        return branch_room(a, kids, facts, find, ks, sums, k, at);
+    if !take_holds(facts, ks) {
+        return refuse(a, 5);
     }
-    Made {
-        no: 8,
-        id: BlockId::INVALID,
-        slots: a.slots,
+    if s == 0 {
+        return branch_new(a, kids, facts, find, ks, sums, k, at);
     }
-}
-
-// The branch is not there: refusals 4 and 5, then 8 and 11, or a fresh one.
-fn branch_miss(
-    a: Arena,
-    kids: &mut [u64],
-    facts: &mut [u32],
-    find: &mut [u16],
-    ks: Kids,
-    k: u32,
-    at: usize,
-) -> Made
-    requires { ⌜ k ≡ kidsHash ks ⌝ }
-    ensures { λ r. ⌜ made a r kids facts find ≡ branchMissBy cubeKids deepest (before a kids facts find) ks at ⌝ }
-{
-    let no = kids_no(a.capacity, facts, ks);
-    if no != 0 {
-        return Made {
-            no: no,
-            id: BlockId::INVALID,
-            slots: a.slots,
-        };
-    }
-    branch_low(a, kids, facts, find, ks, k, at)
+    hit(a, facts, s)
 }
 
 // The branch of these children, once the search has ended at the cell `at`, which names s.
@@ -253,10 +288,15 @@ fn branch_at(
     requires { ⌜ k ≡ kidsHash ks ⌝ }
     ensures { λ r. ⌜ made a r kids facts find ≡ branchAt cubeKids deepest (before a kids facts find) ks s at ⌝ }
 {
-    if s == 0 {
-        return branch_miss(a, kids, facts, find, ks, k, at);
+    if !lives(a.capacity, facts, ks, s) {
+        return refuse(a, 4);
     }
-    branch_hit(a, facts, ks, s)
+    let sums = sums_at(facts, ks, s);
+    let no = first_no(a, facts, ks, s, sums.top);
+    if no != 0 {
+        return refuse(a, no);
+    }
+    branch_take(a, kids, facts, find, ks, sums, k, s, at)
 }
 
 // The branch of these children: it is searched for first, since where it is there nothing of them but their holds has to be looked at.
@@ -274,19 +314,11 @@ fn branch_any(a: Arena, kids: &mut [u64], facts: &mut [u32], find: &mut [u16], k
 {
     if fit(a.capacity, kids.len(), facts.len(), find.len()) {
         if all_empty(ks) {
-            return Made {
-                no: 7,
-                id: BlockId::INVALID,
-                slots: a.slots,
-            };
+            return refuse(a, 7);
         }
         return branch(a, kids, facts, find, ks);
     }
-    Made {
-        no: 1,
-        id: BlockId::INVALID,
-        slots: a.slots,
-    }
+    refuse(a, 1)
 }
 
 // The raw numbers of eight ids.
