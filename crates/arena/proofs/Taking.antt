@@ -4,18 +4,17 @@ use mathlib.Core.Path.{_≡_, refl, sym, ap, _∙_, subst}
 use mathlib.Core.Logic.{_≢_}
 use mathlib.Core.Bool.{Bool, true, false, not, true≢false}
 use mathlib.Core.List.{List, [], _∷_}
-use Prim.Native.Nat.{ℕ, zero, suc, _+_, _-_, _*_, _^_, _≤_, _<_}
+use Prim.Native.Nat.{ℕ, suc, _+_, _-_, _^_, _≤_, _<_}
 use native.Mathlib.Decide.{ℕ-discrete, decLt}
 use native.Mathlib.Numerals.{add-one}
 use native.Mathlib.Omega.{arith}
 use lib.Dec.{eqb}
-use lib.ListN.{length, getD, set, drop, length-set}
+use lib.ListN.{length, getD, drop}
 use borrow.Author.Tests.{eq-eqb, ne-eqb, le-leb, lt-ltb, ltb-true, le-ltb, not-true, not-false}
 use Rattle.basics.specs.Pick.{pick}
 use Rattle.nodes.specs.Tally.{occ, same}
-use Rattle.nodes.specs.Words.{Words, Nodes, nodes, own, holds, places, rowIn, rowSet, slot, factOf, factPut, wordOf, putOf}
-use Rattle.nodes.proofs.Access.{put-keeps, put-less, put-put, put-slot, put-word}
-use Rattle.nodes.proofs.Rows.{in-size}
+use Rattle.nodes.specs.Words.{Words, Nodes, nodes, own, holds, places, slot, factOf, factPut, wordOf, putOf}
+use Rattle.nodes.proofs.Access.{put-keeps, put-less, put-put, put-slot, put-swap, put-word}
 use Rattle.nodes.proofs.Sums.{cases, split, occ-nil, occ-cons, occ-here, same-refl, same-diff}
 use Rattle.arena.specs.Calls.{allLive, each, enough, enoughFor, unheld, unheldKid}
 use Rattle.arena.specs.Models.{bumped, moreOf, placedBy, takenOne, hasOne, lasts, takenBy, givenBack}
@@ -37,22 +36,6 @@ taken-unheld x (k ∷ ks) = ap (λ (y : Nodes). takenBy y ks) (taken-kid x k) �
 
 -- ---- holds and places are written in any order
 
-set-apart : (l : List ℕ) (i j v w : ℕ) → i ≢ j → set (set l i v) j w ≡ set (set l j w) i v
-set-apart [] i j v w d = refl
-set-apart (x ∷ l) zero zero v w d = absurd (d refl)
-set-apart (x ∷ l) zero (suc j) v w d = refl
-set-apart (x ∷ l) (suc i) zero v w d = refl
-set-apart (x ∷ l) (suc i) (suc j) v w d = ap (λ (m : List ℕ). x ∷ m) (set-apart l i j v w (λ e. d (ap suc e)))
-
-put-apart : (l : List ℕ) (s b v w : ℕ) → factPut (factPut l s holds v) b places w ≡ factPut (factPut l b places w) s holds v
-unfolding factPut rowSet
-put-apart l s b v w =
-    let p = in-size 11 l b (set l (11 * s + 7) v) (length-set l (11 * s + 7) v) in
-    let q = in-size 11 l s (set l (11 * b + 8) w) (length-set l (11 * b + 8) w) in
-    split (rowIn 11 l s)
-    (λ x. split (rowIn 11 l b) (λ y. rw (x, y, p, q, x, y) (set-apart l (11 * s + 7) (11 * b + 8) v w (omega arith))) (λ y. rw (x, y, p, y, x)))
-    (λ x. split (rowIn 11 l b) (λ y. rw (x, y, q, x)) (λ y. rw (x, y, x)))
-
 taken-bumped : (f : List ℕ) (k y : ℕ) → bumped places (takenOne f k) y ≡ takenOne (bumped places f y) k
 unfolding bumped takenOne putOf wordOf
 taken-bumped f k y = cases (ℕ-discrete k 0)
@@ -62,7 +45,7 @@ taken-bumped f k y = cases (ℕ-discrete k 0)
     (λ v.
     let p = put-keeps (nodes [] f) (slot k) holds (factOf f (slot k) holds - 1) (slot y) places (omega arith) in
     let q = put-keeps (nodes [] f) (slot y) places (moreOf (factOf f (slot y) places)) (slot k) holds (omega arith) in
-    rw (ne-eqb k 0 z, ne-eqb y 0 v, p, q) (put-apart f (slot k) (slot y) (factOf f (slot k) holds - 1) (moreOf (factOf f (slot y) places)))))
+    rw (ne-eqb k 0 z, ne-eqb y 0 v, p, q) (put-swap f (slot k) holds (factOf f (slot k) holds - 1) (slot y) places (moreOf (factOf f (slot y) places)) (omega arith) (omega arith) (omega arith) (omega arith) (λ e z. omega arith))))
 
 module _ {A : Type 0} (g h : A → ℕ → A) (swap : (x : A) (k y : ℕ) → h (g x k) y ≡ g (h x y) k) where
   each-past : (x : A) (k : ℕ) (ks : List ℕ) → each h (g x k) ks ≡ g (each h x ks) k

@@ -1,19 +1,18 @@
 -- What a node keeps of its parts, on well-formed tables, and what becomes of it when one part changes: the hash, the sum of the values, the height.
 use mathlib.Core.Path.{_≡_, sym, ap, _∙_, subst}
 use mathlib.Core.Logic.{_≢_, inl, inr}
-use mathlib.Core.Bool.{true, false, not}
+use mathlib.Core.Bool.{false, not}
 use mathlib.Core.List.{List, [], _∷_}
 use Prim.Native.Nat.{ℕ, _+_, _-_, _*_, _%_, _^_, _≤_, _<_}
 use native.Mathlib.Decide.{ℕ-discrete, decLt}
 use native.Mathlib.Omega.{arith}
 use lib.Dec.{eqb}
 use lib.ListN.{length, getD, set, replicate}
-use borrow.Author.Tests.{eq-eqb, ne-eqb, le-leb, lt-leb, leb-true, lt-ltb, le-ltb}
+use borrow.Author.Tests.{eq-eqb, ne-eqb, lt-ltb, le-ltb}
 use Rattle.basics.specs.Limits.{cubeKids, kidWords, largestValue}
 use Rattle.basics.specs.Sums.{sumTo}
 use Rattle.ids.specs.Ids.{isLeaf, leafFlag, maskOf}
 use Rattle.nodes.specs.Words.{Words, sum, hash, places, mark, slot}
-use Rattle.nodes.specs.Tally.{tabFrom, kidsOf}
 use Rattle.nodes.specs.Values.{valueAt, heightAt, maxTo}
 use Rattle.nodes.proofs.Counts.{live-nonzero}
 use Rattle.nodes.proofs.Sums.{cases, sumTo-ext, tabFrom-ext, tabFrom-length}
@@ -26,15 +25,15 @@ use Rattle.tree.proofs.Grow.{extends-keeps, value-later, height-later}
 use Rattle.tree.proofs.Making.{part-flat, part-branch}
 use Rattle.arena.specs.Calls.{each}
 use Rattle.arena.specs.Models.{moreOf, bumped, topFor, sumBy}
-use Rattle.arena.specs.Node.{BranchNode, bitsOf, kidMask, sumFor, heightFor}
+use Rattle.arena.specs.Node.{BranchNode, kidMask, sumFor, heightFor}
 use Rattle.arena.specs.Tables.{Tables, cap, W, LiveSlot, WellFormed}
 use Rattle.arena.proofs.Bits.{bits-below, mask-kids}
 use Rattle.arena.proofs.Fresh.{Grown}
 use Rattle.arena.proofs.Ids.{node-branch}
 use Rattle.arena.proofs.Inv.{sized-within}
 use Rattle.arena.proofs.Places.{more-few}
-use Rattle.edit_way.specs.Models.{isEnd, eightParts, hashOver}
-use Rattle.edit_way.proofs.Words.{parts-at}
+use Rattle.edit_way.specs.Models.{eightParts, hashOver}
+use Rattle.edit_way.proofs.Words.{end-flat, end-branch, parts-at, parts-flat, parts-branch}
 use Rattle.edit_make.specs.Models.{sumOver, heightOver, resum, placedWhere, otherBits, sevenPlaced, placedOver}
 use Rattle.edit.proofs.Growing.{grown-live, grown-extends}
 use Rattle.edit.proofs.Placing.{where-placed, seven-placed, none-placed}
@@ -46,27 +45,6 @@ module _ (U : Words) (a : ℕ) where
   pub parts-length : length (eightParts U a) ≡ kidWords
   unfolding eightParts
   parts-length = tabFrom-length kidWords 0 (part U a)
-
-  parts-flat : Flat a → eightParts U a ≡ a ∷ a ∷ a ∷ a ∷ a ∷ a ∷ a ∷ a ∷ []
-  unfolding eightParts tabFrom
-  parts-flat f = tabFrom-ext 8 0 (part U a) (λ i. a) (λ j p q. part-flat U a j f)
-
-  parts-branch : Branch a → eightParts U a ≡ kidsOf kidWords U (slot a)
-  unfolding eightParts kidsOf
-  parts-branch b = tabFrom-ext 8 0 (part U a) (U (slot a)) (λ j p q. part-branch U a j b)
-
-pub end-flat : (a : ℕ) → Flat a → isEnd a ≡ true
-unfolding isEnd
-end-flat a (inl e) = rw (eq-eqb a 0 e)
-end-flat a (inr h) = rw (ne-eqb a 0 (omega arith), le-leb (2 ^ 63) a h)
-
-pub end-is : (a : ℕ) → isEnd a ≡ true → a ≢ 0 → 2 ^ 63 ≤ a
-unfolding isEnd
-end-is a e d = leb-true (2 ^ 63) a (rw (ne-eqb a 0 d) at e)
-
-end-branch : (a : ℕ) → Branch a → isEnd a ≡ false
-unfolding isEnd
-end-branch a b = rw (ne-eqb a 0 (b .0), lt-leb (2 ^ 63) a (b .1))
 
 flag-low : (x : ℕ) → x < 2 ^ 63 → leafFlag x ≡ 0
 unfolding leafFlag

@@ -32,7 +32,7 @@ use Rattle.read_cell.proofs.Plain.{cell-whole}
 use Rattle.edit.specs.Edit.{planOf, resultOf, makeOf, grantNo, granted, answerOf, cellNo, editCell, cellAt, editOf}
 use Rattle.edit_way.specs.Models.{wayOf}
 use Rattle.edit_way.specs.declared.Way.{Way}
-use Rattle.edit_plan.specs.Models.{planned, planOn, planBy, rootPlan, resultBy}
+use Rattle.edit_plan.specs.Models.{planned, planBy, rootPlan, resultBy}
 use Rattle.edit_plan.proofs.Plans.{plan-way}
 use Rattle.edit_plan.specs.declared.Plan as planning
 use Rattle.edit_make.specs.Models.{makeOn, makeBy}

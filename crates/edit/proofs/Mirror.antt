@@ -1,5 +1,5 @@
 -- The code's way is the definition's, on well-formed tables.
-use mathlib.Core.Path.{_≡_, refl, sym, ap, ap₂, _∙_, subst}
+use mathlib.Core.Path.{_≡_, refl, sym, ap, _∙_, subst}
 use mathlib.Core.Logic.{_≢_, _⊎_, inl, inr, ⊎-elim}
 use mathlib.Core.Bool.{Bool, true, false, true≢false}
 use mathlib.Core.List.{List, [], _∷_, _++_}
@@ -45,11 +45,11 @@ use Rattle.edit.specs.Edit.{wordsOf, oneLeaf, needOf, cellNeed, upNeed, 
 use Rattle.edit_way.specs.Models.{isEnd, eightParts, hashOver}
 use Rattle.edit_plan.specs.Models.{planned, leafFound, wholeOf, hashWith, kidsFound, slotPlan, cellPlan, needPlan, upPlan, planBy}
 use Rattle.edit_plan.specs.declared.Plan as planning
-use Rattle.edit_way.proofs.Words.{tab-get}
+use Rattle.edit_way.proofs.Words.{end-flat, end-leaf, tab-get}
 use Rattle.edit_make.specs.Models.{owedBy, sumOver, heightOver, resum, placedOver, leafAnewBy, branchAnewBy, upBy, makeBy}
 use Rattle.edit_make.proofs.Steps.{make-zero, make-more, make-leaf}
 use Rattle.edit.proofs.Growing.{each-nil, each-cons, grown-trans, grown-extends}
-use Rattle.edit.proofs.Kept.{end-flat, end-is, small-value, hash-over, sum-over, sum-fits, hash-set, resum-set, height-set, part-stays, parts-stay, hash-stays, value-stays, height-stays, sum-stays, others-placed}
+use Rattle.edit.proofs.Kept.{small-value, hash-over, sum-over, sum-fits, hash-set, resum-set, height-set, part-stays, parts-stay, hash-stays, value-stays, height-stays, sum-stays, others-placed}
 use Rattle.edit.proofs.Planning.{all-yes, leaf-both, flag-leaf, leaf-flagged, words-length, words-at, Cell-came, cell-none, cell-leaf, cell-lack, cell-came, plan-is, parts-there}
 use Rattle.edit.proofs.Upward.{Low, Done, low-have, low-lack, placed, lowers, eight, others-live, set-at, set-other, lack-inj, have-lack, over, make-done}
 
@@ -187,7 +187,7 @@ module _ {tallest : ℕ} {t : Tables} (w : WellFormed cubeKids tallest t) where
             cases (ℕ-discrete s 0)
             (λ y. true≢false (sym (subst (λ (k : ℕ). allOf (eqb k) (tabFrom cubeKids 0 f) ≡ true) y all) ∙ e))
             (λ y.
-            let g = end-is s (r .0) y in
+            let g = end-leaf s (r .0) y in
             let i = leaf-flagged m pos w (f 0) (there 0 (omega arith)) (omega arith) in
             true≢false (sym (rw (i, ← z) all) ∙ q))
 

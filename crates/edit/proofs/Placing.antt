@@ -1,5 +1,5 @@
 -- The places that the code gives to a node's other parts are those that the definition gives, one after the other.
-use mathlib.Core.Path.{_≡_, refl, sym, ap, ap₂, _∙_}
+use mathlib.Core.Path.{_≡_, refl, sym, ap, _∙_}
 use mathlib.Core.Logic.{_≢_}
 use mathlib.Core.Bool.{Bool, not, false}
 use mathlib.Core.List.{List, [], _∷_}
@@ -10,7 +10,7 @@ use native.Mathlib.Omega.{arith}
 use lib.Dec.{eqb}
 use lib.ListN.{length, set, replicate}
 use borrow.Author.Tests.{eq-eqb, ne-eqb}
-use Rattle.nodes.specs.Words.{Nodes, nodes, wordOf, factOf, factPut, putOf, slot, places}
+use Rattle.nodes.specs.Words.{Nodes, nodes, factOf, factPut, putOf, slot, places}
 use Rattle.nodes.specs.Tally.{oneIf}
 use Rattle.nodes.proofs.Access.{Within, word-fact, put-same, put-put}
 use Rattle.nodes.proofs.Sums.{cases, split}

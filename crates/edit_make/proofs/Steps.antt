@@ -25,7 +25,6 @@ use Rattle.edit_way.specs.Models.{octants, wayOf}
 use Rattle.edit_way.specs.declared.Way.{Way}
 use Rattle.edit_way.proofs.Ways.{Rises, top, step}
 use Rattle.edit_plan.specs.Models.{planned}
-use Rattle.edit_plan.specs.declared.Plan.{Plan}
 use Rattle.edit_plan.proofs.Plans.{way-rises}
 use Rattle.edit_make.specs.Models.{owedBy, placeFor, sumOver, heightOver, placedIf, placedWhere, leafAnewBy, upBy, holdAt, makeUp, passed, fromOf, lowOf, makeOn, makeBy}
 

@@ -11,8 +11,6 @@ use Rattle.nodes.specs.Words.{Words, sum, places, nodes, factOf, factPut, slot}
 use Rattle.nodes.specs.Values.{valueAt, heightAt}
 use Rattle.find_hash.specs.Hash.{leafHash, rekidsHash, homeIn}
 use Rattle.find.specs.Cells.{probe}
-use Rattle.paths.specs.declared.Cell.{Cell}
-use Rattle.tree.specs.Cells.{pathTo}
 use Rattle.tree.specs.Anew.{part}
 use Rattle.arena.specs.Tables.{Tables, tablesOf, cap, W}
 use Rattle.arena.specs.Calls.{Out, said, refused, freshIn}

@@ -1,18 +1,60 @@
 -- What the code reads of the lent lists is what the definitions read of the words.
 use mathlib.Core.Path.{_≡_, refl, sym, ap, _∙_}
-use mathlib.Core.Logic.{inl, inr}
+use mathlib.Core.Logic.{_≢_, _⊎_, inl, inr, ⊎-elim}
+use mathlib.Core.Bool.{true, false, true≢false}
 use mathlib.Core.List.{List}
-use Prim.Native.Nat.{ℕ, zero, suc, _+_, _<_}
+use Prim.Native.Nat.{ℕ, zero, suc, _+_, _^_, _<_}
 use native.Mathlib.Omega.{arith}
-use lib.ListN.{getD}
+use lib.ListN.{getD, replicate}
+use borrow.Author.Tests.{eq-eqb, ne-eqb, le-leb, lt-leb}
+use Rattle.basics.specs.Limits.{kidWords}
 use Rattle.nodes.specs.Words.{Words, factOf, wordOf, nodes, kidOf, slot}
-use Rattle.nodes.specs.Tally.{tabFrom}
+use Rattle.nodes.specs.Tally.{tabFrom, kidsOf}
 use Rattle.nodes.proofs.Access.{word-kid}
 use Rattle.nodes.proofs.Sums.{tabFrom-ext}
-use Rattle.tree.specs.Tree.{Kind, empty, leaf, branch, kind}
+use Rattle.tree.specs.Tree.{Flat, Leaf, Branch, Kind, empty, leaf, branch, kind}
 use Rattle.tree.specs.Anew.{part}
 use Rattle.tree.proofs.Making.{part-flat, part-branch}
-use Rattle.edit_way.specs.Models.{eightParts, hashOver}
+use Rattle.edit_way.specs.Models.{isEnd, eightParts, hashOver}
+
+-- ---- ends
+
+three : (a : ℕ) → (a ≡ 0) ⊎ (Leaf a ⊎ Branch a)
+three a = go (kind a)
+  where
+    go : Kind a → (a ≡ 0) ⊎ (Leaf a ⊎ Branch a)
+    go (empty e) = inl e
+    go (leaf e) = inr (inl e)
+    go (branch b) = inr (inr b)
+
+pub end-flat : (a : ℕ) → Flat a → isEnd a ≡ true
+unfolding isEnd
+end-flat a (inl e) = rw (eq-eqb a 0 e)
+end-flat a (inr h) = rw (ne-eqb a 0 (omega arith), le-leb (2 ^ 63) a h)
+
+pub end-branch : (a : ℕ) → Branch a → isEnd a ≡ false
+unfolding isEnd
+end-branch a b = rw (ne-eqb a 0 (b .0), lt-leb (2 ^ 63) a (b .1))
+
+pub is-flat : (a : ℕ) → isEnd a ≡ true → Flat a
+is-flat a e = ⊎-elim (λ z. inl z) (λ z. ⊎-elim (λ h. inr h) (λ b. absurd (true≢false (sym e ∙ end-branch a b))) z) (three a)
+
+pub end-leaf : (a : ℕ) → isEnd a ≡ true → a ≢ 0 → Leaf a
+end-leaf a e d = ⊎-elim (λ z. absurd (d z)) (λ h. h) (is-flat a e)
+
+pub is-branch : (a : ℕ) → isEnd a ≡ false → Branch a
+is-branch a e = ⊎-elim (λ z. absurd (true≢false (sym (end-flat a (inl z)) ∙ e))) (λ z. ⊎-elim (λ h. absurd (true≢false (sym (end-flat a (inr h)) ∙ e))) (λ b. b) z) (three a)
+
+-- ---- parts
+
+module _ (U : Words) (a : ℕ) where
+  pub parts-flat : Flat a → eightParts U a ≡ replicate 8 a
+  unfolding eightParts tabFrom
+  parts-flat f = tabFrom-ext 8 0 (part U a) (λ i. a) (λ j p q. part-flat U a j f)
+
+  pub parts-branch : Branch a → eightParts U a ≡ kidsOf kidWords U (slot a)
+  unfolding eightParts kidsOf
+  parts-branch b = tabFrom-ext 8 0 (part U a) (U (slot a)) (λ j p q. part-branch U a j b)
 
 -- what stands at place i of a list f j, f (j+1), ..
 pub tab-get : (k j : ℕ) (f : ℕ → ℕ) (i : ℕ) → i < k → getD (tabFrom k j f) i 0 ≡ f (j + i)

@@ -49,10 +49,7 @@ pub fn is_end(id: u64) -> bool
 pub fn part(kids: &[u64], id: u64, c: usize) -> u64
     ensures { λ r. ⌜ r ≡ partOf (kidOf (now (kids .entry))) id c ⌝ }
 {
-    if id == BlockId::EMPTY.0 {
-        return id;
-    }
-    if LOWEST_LEAF <= id {
+    if is_end(id) {
         return id;
     }
     kid(kids, slot_of(id), c)
@@ -62,10 +59,7 @@ pub fn part(kids: &[u64], id: u64, c: usize) -> u64
 pub fn parts(kids: &[u64], id: u64) -> Kids
     ensures { λ r. ⌜ r ≡ eightParts (kidOf (now (kids .entry))) id ⌝ }
 {
-    if id == BlockId::EMPTY.0 {
-        return [id; KID_WORDS];
-    }
-    if LOWEST_LEAF <= id {
+    if is_end(id) {
         return [id; KID_WORDS];
     }
     children(kids, slot_of(id))

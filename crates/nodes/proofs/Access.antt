@@ -11,7 +11,7 @@ use borrow.Author.Tests.{lt-ltb, le-ltb, ne-eqb}
 use Rattle.nodes.specs.Tally.{kidsOf}
 use Rattle.nodes.specs.Words.{own, value, mark, entry, rowIn, rowAt, rowSet, rowFrom, rowPut, inRows, inFacts, Nodes, nodes, kidOf, factOf, wordOf, factPut, putOf, factsPut, written}
 use Rattle.nodes.proofs.Counts.{Others}
-use Rattle.nodes.proofs.Rows.{In, in-of, cell-out, cell-size, cell-same, cell-other, cell-twice, cell-again, put-out, row-size, row-same, row-other, row-over, row-again, rows-laid, facts-laid}
+use Rattle.nodes.proofs.Rows.{In, in-of, cell-out, cell-size, cell-same, cell-other, cell-twice, cell-again, cell-swap, put-out, row-size, row-same, row-other, row-over, row-again, rows-laid, facts-laid}
 use Rattle.nodes.proofs.Sums.{cases, split, tabFrom-ext}
 
 -- the slot's words lie inside both tables
@@ -146,6 +146,13 @@ module _ (x : Nodes) (s f v : ℕ) where
   put-put w = ap (nodes (x .kids)) (cases (decLt own f)
       (λ h. put-row (factPut (x .facts) s f v) s f w h ∙ rw (put-row (x .facts) s f v h, put-row (x .facts) s f w h) (cell-twice 11 inFacts (x .facts) s (f - 7) v w))
       (λ h. ap (λ (m : List ℕ). factPut m s f w) (put-none (x .facts) s f v (omega arith))))
+
+-- two facts in either order
+pub put-swap : (l : List ℕ) (s f v b g w : ℕ) → own < f → f ≤ entry → own < g → g ≤ entry → (b ≡ s → g ≡ f → ⊥) → factPut (factPut l s f v) b g w ≡ factPut (factPut l b g w) s f v
+put-swap l s f v b g w hf kf hg kg d =
+    put-row (factPut l s f v) b g w hg ∙ ap (λ (m : List ℕ). rowSet 11 inFacts m b (g - 7) w) (put-row l s f v hf)
+    ∙ cell-swap 11 inFacts facts-laid l s (f - 7) v b (g - 7) w (omega arith) (omega arith) (λ e q. d e (omega arith))
+    ∙ sym (put-row (factPut l b g w) s f v hf ∙ ap (λ (m : List ℕ). rowSet 11 inFacts m s (f - 7) v) (put-row l b g w hg))
 
 -- what was there written again
 pub put-word : (x : Nodes) (s f v : ℕ) → v ≡ wordOf x s f → putOf x s f v ≡ x

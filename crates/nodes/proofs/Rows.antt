@@ -1,6 +1,5 @@
 -- The laws of a table of r words a slot, for any number of words and any layout that has a place for each.
 use mathlib.Core.Path.{_≡_, refl, sym, ap, _∙_}
-use mathlib.Core.Logic.{_≢_}
 use mathlib.Core.Bool.{true, false}
 use mathlib.Core.List.{List, [], _∷_}
 use Prim.Native.Nat.{ℕ, zero, suc, _+_, _-_, _*_, _/_, _%_, _^_, _≤_, _<_}
@@ -123,6 +122,10 @@ module _ (r : ℕ) (at : Place) where
 
   -- ---- one word written
 
+  put-there : (l : List ℕ) (s p v : ℕ) → In r l s → p < r → rowSet r at l s p v ≡ set l (at (length l) s p) v
+  unfolding rowSet
+  put-there l s p v w h = rw (lt-ltb p r h, in-true r l s w)
+
   module _ (l : List ℕ) (s p v : ℕ) where
     -- the word is set, or nothing is
     cell-cases : {A : Type 0} → (In r l s → p < r → rowSet r at l s p v ≡ set l (at (length l) s p) v → A) → (rowSet r at l s p v ≡ l → A) → A
@@ -131,8 +134,7 @@ module _ (r : ℕ) (at : Place) where
         (λ a. split (rowIn r l s) (λ t. one (in-of r l s t) (ltb-true p r a) (rw (a, t))) (λ t. none (rw (a, t)))) (λ a. none (rw a))
 
     pub put-in : In r l s → p < r → rowSet r at l s p v ≡ set l (at (length l) s p) v
-    unfolding rowSet
-    put-in w h = rw (lt-ltb p r h, in-true r l s w)
+    put-in w h = put-there l s p v w h
 
     pub put-out : rowIn r l s ≡ false → rowSet r at l s p v ≡ l
     unfolding rowSet
@@ -150,15 +152,15 @@ module _ (r : ℕ) (at : Place) where
     cell-again e = cell-cases (λ w h q. q ∙ rw (e ∙ cell-in l s p w h) (set-getD l (at (length l) s p) 0)) (λ q. q)
 
     -- and then another
-    cell-two : (q w : ℕ) → In r l s → p < r → q < r → rowSet r at (rowSet r at l s p v) s q w ≡ set (set l (at (length l) s p) v) (at (length l) s q) w
-    unfolding rowSet
-    cell-two q w i h k =
+    cell-two : (b q w : ℕ) → In r l s → In r l b → p < r → q < r → rowSet r at (rowSet r at l s p v) b q w ≡ set (set l (at (length l) s p) v) (at (length l) b q) w
+    cell-two b q w i j h k =
+        let m = set l (at (length l) s p) v in
         let e = length-set l (at (length l) s p) v in
-        rw (lt-ltb p r h, lt-ltb q r k, in-true r l s i, in-size r l s (set l (at (length l) s p) v) e, in-true r l s i, e)
+        rw (put-in i h) (put-there m b q w (in-as r l b m e j) k ∙ ap (λ (n : ℕ). set m (at n b q) w) e)
 
   pub cell-twice : (l : List ℕ) (s p v w : ℕ) → rowSet r at (rowSet r at l s p v) s p w ≡ rowSet r at l s p w
   cell-twice l s p v w =
-      cell-cases l s p v (λ i h e. cell-two l s p v p w i h h ∙ set-set l (at (length l) s p) v w ∙ sym (put-in l s p w i h)) (λ e. rw e)
+      cell-cases l s p v (λ i h e. cell-two l s p v s p w i i h h ∙ set-set l (at (length l) s p) v w ∙ sym (put-in l s p w i h)) (λ e. rw e)
 
   -- ---- words one after the other written
 
@@ -202,14 +204,17 @@ module _ (r : ℕ) (at : Place) where
           (λ w h e. rw e (getD-set-other l (at (length l) s p) (at (length l) b q) v 0 (laid .apart (length l) s b p q (w .room) (i .room) h m d))) (λ e. rw e))
 
       -- two words in either order
-      cell-swap : (q w : ℕ) → p < r → q < r → q ≢ p → rowSet r at (rowSet r at l s p v) s q w ≡ rowSet r at (rowSet r at l s q w) s p v
-      cell-swap q w h k d = split (rowIn r l s)
-          (λ t.
+      pub cell-swap : (b q w : ℕ) → p < r → q < r → (b ≡ s → q ≡ p → ⊥) → rowSet r at (rowSet r at l s p v) b q w ≡ rowSet r at (rowSet r at l b q w) s p v
+      cell-swap b q w h k d = split (rowIn r l s)
+          (λ t. split (rowIn r l b)
+          (λ z.
           let i = in-of r l s t in
-          cell-two l s p v q w i h k
-          ∙ set-comm l (at (length l) s p) (at (length l) s q) v w (laid .apart (length l) s s q p (i .room) (i .room) k h (λ e f. d (sym f)))
-          ∙ sym (cell-two l s q w p v i k h))
-          (λ t. rw (put-out l s p v t, put-out l s q w t, put-out l s p v t))
+          let j = in-of r l b z in
+          cell-two l s p v b q w i j h k
+          ∙ set-comm l (at (length l) s p) (at (length l) b q) v w (λ e. laid .apart (length l) s b p q (i .room) (j .room) h k d (sym e))
+          ∙ sym (cell-two l b q w s p v j i k h))
+          (λ z. put-out (rowSet r at l s p v) b q w (in-size r l b (rowSet r at l s p v) (cell-size l s p v) ∙ z) ∙ sym (ap (λ (m : List ℕ). rowSet r at m s p v) (put-out l b q w z))))
+          (λ t. ap (λ (m : List ℕ). rowSet r at m b q w) (put-out l s p v t) ∙ sym (put-out (rowSet r at l b q w) s p v (in-size r l s (rowSet r at l b q w) (cell-size l b q w) ∙ t)))
 
     pub row-other : (l : List ℕ) (s p : ℕ) (vs : List ℕ) (b q : ℕ) → (b ≡ s → p ≤ q → q < p + length vs → ⊥) → rowAt r at (rowFrom r at l s p vs) b q ≡ rowAt r at l b q
     unfolding rowFrom
@@ -233,5 +238,5 @@ module _ (r : ℕ) (at : Place) where
     row-over l s p [] q v k a b = absurd (omega arith)
     row-over l s p (w ∷ vs) q v k a b = cases (ℕ-discrete q p)
         (λ (e : q ≡ p). ap (λ (m : List ℕ). rowFrom r at m s (suc p) vs) (rw e (cell-twice l s p v w)))
-        (λ d. ap (λ (m : List ℕ). rowFrom r at m s (suc p) vs) (cell-swap l s q v p w (omega arith) (omega arith) (λ e. d (sym e)))
+        (λ d. ap (λ (m : List ℕ). rowFrom r at m s (suc p) vs) (cell-swap l s q v s p w (omega arith) (omega arith) (λ e f. d (sym f)))
         ∙ row-over (rowSet r at l s p w) s (suc p) vs q v (omega arith) (omega arith) (omega arith))

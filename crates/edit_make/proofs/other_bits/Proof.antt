@@ -1,6 +1,6 @@
 use borrow.Author.Needs.{needs}
 use mathlib.Core.Path.{_≡_, refl}
-use Prim.Native.Nat.{ℕ, _+_, _-_, _*_, _/_, _%_, _^_, _≤_}
+use Prim.Native.Nat.{ℕ, _-_, _*_, _/_, _%_, _^_, _≤_}
 use native.Mathlib.Nat.{mul-le-mul-right, div-add-mod'}
 use native.Mathlib.Omega.{arith}
 use Rattle.edit_make.specs.Models.{otherBits}

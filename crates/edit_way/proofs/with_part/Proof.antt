@@ -1,5 +1,5 @@
 use borrow.Author.Needs.{needs}
-use mathlib.Core.Path.{_≡_, refl, sym, ap, _∙_, subst}
+use mathlib.Core.Path.{_≡_, sym, ap, _∙_, subst}
 use mathlib.Core.List.{List, [], _∷_}
 use Prim.Native.Nat.{ℕ, _+_, _<_}
 use native.Mathlib.Decide.{ℕ-discrete}
@@ -10,7 +10,7 @@ use lib.Seq.{getD-set-same, getD-set-other}
 use borrow.Author.Tests.{eq-eqb, ne-eqb}
 use Rattle.basics.specs.Pick.{pick}
 use Rattle.nodes.specs.Tally.{tabFrom}
-use Rattle.nodes.proofs.Sums.{cases, tab-list, tabFrom-ext}
+use Rattle.nodes.proofs.Sums.{cases, tab-list}
 use Rattle.edit_way.proofs.with_part.Statement.{statement}
 use Rattle.edit_way.proofs.with_part.Tie as tie
 
