@@ -24,7 +24,7 @@ use Rattle.find_hash.specs.Hash.{leafHash, kidsHash, homeIn}
 use Rattle.find.specs.Cells.{insertAt, probe, cell}
 use Rattle.find.proofs.Contents.{kids-are, probe-as}
 use Rattle.arena.specs.Calls.{Out, said, empties, noneOf, freshIn, freshFacts, givenBy, slotGiven, named, freshNode, leafAnew, branchAnew}
-use Rattle.arena.specs.Models.{moreOf, freshAt, leafFresh, branchFresh, sumBy}
+use Rattle.arena.specs.Models.{moreOf, freshAt, leafFresh, branchWith, branchFresh, sumBy}
 use Rattle.arena.specs.Node.{leafId, branchId, sumFor, valueFor, heightFor, Node}
 use Rattle.arena.specs.Tables.{liveIn, Tables, tables, cap, W, LiveSlot}
 use Rattle.arena.proofs.Branches.{some-kid, occ-at, occ-in}
@@ -362,7 +362,7 @@ module _ {t : Tables} (d : List ℕ) (i : Inv t d) (room : liveIn (t .arena) + 1
 
   pub branch-fresh : (n : ℕ) (ks : List ℕ) (v up sm k h q at : ℕ) → v ≡ valueFor n (W t) ks → up ≡ heightFor n (W t) ks → sm ≡ sumFor n (W t) ks → k ≡ kidsHash ks → Ends k at
       → branchFresh t ks v up sm k h q at ≡ branchAnew n t ks h q
-  unfolding branchFresh branchAnew
+  unfolding branchWith branchAnew
   branch-fresh n ks v up sm k h q at ev eu es ek z =
       let w = whole in
       let a = w .0 in

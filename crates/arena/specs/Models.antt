@@ -83,10 +83,15 @@ leafFresh t v k h q at =
     let id = newLeaf (s % 2 ^ 32) (generationOf (W t s own)) in
     said 0 id (tables (givenBy moreOf (t .arena)) (t .nodes .kids) (factsPut (t .nodes .facts) s (freshFacts id v 0 0 k h q)) (set (t .find) at (s % 65536)))
 
-unfoldable pub branchFresh : Tables → List ℕ → ℕ → ℕ → ℕ → ℕ → ℕ → ℕ → ℕ → Out
-branchFresh t ks v up sum k h q at =
+-- a fresh branch with these two bytes in its id
+unfoldable pub branchWith : Tables → List ℕ → ℕ → ℕ → ℕ → ℕ → ℕ → ℕ → ℕ → ℕ → ℕ → Out
+branchWith t ks types mask v up sum k h q at =
     let s = freshIn t in
-    freshAt t (newBranch (s % 2 ^ 32) (generationOf (W t s own)) (kidTypes ks) (kidMask ks)) ks v up sum k h q at
+    freshAt t (newBranch (s % 2 ^ 32) (generationOf (W t s own)) types mask) ks v up sum k h q at
+
+-- with those of its children
+abbrev pub branchFresh : Tables → List ℕ → ℕ → ℕ → ℕ → ℕ → ℕ → ℕ → ℕ → Out
+branchFresh t ks v up sum k h q at = branchWith t ks (kidTypes ks) (kidMask ks) v up sum k h q at
 
 -- ## Intern leaf
 

@@ -16,6 +16,8 @@ use basics::TALLEST;
 use find::search;
 use find_hash::kids_hash;
 use ids::BlockId;
+use new_id::mask_of;
+use new_id::types_of;
 use new_node::free_slots;
 use new_node::fresh_branch;
 use new_value::Sums;
@@ -241,6 +243,8 @@ fn branch_new(
         find,
         at,
         ks,
+        types_of(ks),
+        mask_of(ks),
         sums.value,
         sums.top + 1,
         sum,

@@ -1,7 +1,7 @@
 -- What a node keeps of its parts, on well-formed tables, and what becomes of it when one part changes: the hash, the sum of the values, the height.
-use mathlib.Core.Path.{_≡_, sym, ap, _∙_, subst}
+use mathlib.Core.Path.{_≡_, refl, sym, ap, _∙_, subst}
 use mathlib.Core.Logic.{_≢_, inl, inr}
-use mathlib.Core.Bool.{false, not}
+use mathlib.Core.Bool.{Bool, true, false, not}
 use mathlib.Core.List.{List, [], _∷_}
 use Prim.Native.Nat.{ℕ, _+_, _-_, _*_, _%_, _^_, _≤_, _<_}
 use native.Mathlib.Decide.{ℕ-discrete, decLt}
@@ -13,6 +13,7 @@ use Rattle.basics.specs.Limits.{cubeKids, kidWords, largestValue}
 use Rattle.basics.specs.Sums.{sumTo}
 use Rattle.ids.specs.Ids.{isLeaf, leafFlag, maskOf}
 use Rattle.nodes.specs.Words.{Words, sum, hash, places, mark, slot}
+use Rattle.nodes.specs.Tally.{oneIf}
 use Rattle.nodes.specs.Values.{valueAt, heightAt, maxTo}
 use Rattle.nodes.proofs.Counts.{live-nonzero}
 use Rattle.nodes.proofs.Sums.{cases, sumTo-ext, tabFrom-ext, tabFrom-length}
@@ -25,18 +26,19 @@ use Rattle.tree.proofs.Grow.{extends-keeps, value-later, height-later}
 use Rattle.tree.proofs.Making.{part-flat, part-branch}
 use Rattle.arena.specs.Calls.{each}
 use Rattle.arena.specs.Models.{moreOf, bumped, topFor, sumBy}
-use Rattle.arena.specs.Node.{BranchNode, kidMask, sumFor, heightFor}
+use Rattle.arena.specs.Node.{BranchNode, bitsOf, kidMask, kidTypes, sumFor, heightFor}
 use Rattle.arena.specs.Tables.{Tables, cap, W, LiveSlot, WellFormed}
-use Rattle.arena.proofs.Bits.{bits-below, mask-kids}
+use Rattle.arena.proofs.Bits.{mask-kids, types-kids}
 use Rattle.arena.proofs.Fresh.{Grown}
 use Rattle.arena.proofs.Ids.{node-branch}
 use Rattle.arena.proofs.Inv.{sized-within}
 use Rattle.arena.proofs.Places.{more-few}
 use Rattle.edit_way.specs.Models.{eightParts, hashOver}
 use Rattle.edit_way.proofs.Words.{end-flat, end-branch, parts-at, parts-flat, parts-branch}
-use Rattle.edit_make.specs.Models.{sumOver, heightOver, resum, placedWhere, otherBits, sevenPlaced, placedOver}
+use Rattle.edit_make.specs.Models.{sumOver, heightOver, resum, placedWhere, otherBits, withBit, typesOver, maskOver, sevenPlaced, placedOver}
 use Rattle.edit.proofs.Growing.{grown-live, grown-extends}
-use Rattle.edit.proofs.Placing.{where-placed, seven-placed, none-placed}
+use Rattle.edit.proofs.Placing.{with-bits, where-placed, seven-placed, none-placed}
+use Rattle.edit.proofs.Planning.{leaf-flagged}
 use Rattle.edit.proofs.Upward.{set-at, set-other, max-under}
 
 -- ---- the eight parts
@@ -99,6 +101,51 @@ module _ {tallest : ℕ} {t : Tables} (w : WellFormed cubeKids tallest t) where
         go (branch b) =
             rw (end-branch a b) (node b .summed
             ∙ sym (sumTo-ext 8 (λ j. valueAt (W t) (part (W t) a j)) (λ j. valueAt (W t) (W t (slot a) j)) (λ j h. ap (valueAt (W t)) (part-branch (W t) a j b))))
+
+-- ---- the two bytes of the parts
+
+even-bits : (p : ℕ → Bool) (a : ℕ) → p a ≡ true → bitsOf p (replicate 8 a) ≡ 255
+unfolding bitsOf oneIf
+even-bits p a e = rw e
+
+none-bits : (p : ℕ → Bool) → p 0 ≡ false → bitsOf p (replicate 8 0) ≡ 0
+unfolding bitsOf oneIf
+none-bits p e = rw e
+
+module _ {tallest : ℕ} {t : Tables} (w : WellFormed cubeKids tallest t) (a : ℕ) (l : LiveOr0 (cap t) (W t) a) where
+  fit : cubeKids ≤ kidWords
+  fit = omega arith
+
+  pub mask-over : maskOver a ≡ kidMask (eightParts (W t) a)
+  unfolding maskOver kidMask
+  mask-over = go (kind a)
+    where
+      go : Kind a → maskOver a ≡ kidMask (eightParts (W t) a)
+      go (empty e) = rw (parts-flat (W t) a (inl e), e) (sym (none-bits (λ y. not (eqb y 0)) refl))
+      go (leaf e) =
+          let d : a ≢ 0 = (λ z. omega arith) in
+          rw (parts-flat (W t) a (inr e), ne-eqb a 0 d, end-flat a (inr e)) (sym (even-bits (λ y. not (eqb y 0)) a (rw (ne-eqb a 0 d))))
+      go (branch b) = rw (ne-eqb a 0 (b .0), end-branch a b, parts-branch (W t) a b) (mask-kids fit w a (live l (b .0)) (low-flag a (b .1)))
+
+  pub types-over : typesOver a ≡ kidTypes (eightParts (W t) a)
+  unfolding typesOver kidTypes
+  types-over = go (kind a)
+    where
+      go : Kind a → typesOver a ≡ kidTypes (eightParts (W t) a)
+      go (empty e) = rw (parts-flat (W t) a (inl e), e) (sym (none-bits isLeaf (low-flag 0 (omega arith))))
+      go (leaf e) =
+          let d : a ≢ 0 = (λ z. omega arith) in
+          rw (parts-flat (W t) a (inr e), ne-eqb a 0 d, end-flat a (inr e)) (sym (even-bits isLeaf a (leaf-flagged fit (omega arith) w a l e)))
+      go (branch b) = rw (ne-eqb a 0 (b .0), end-branch a b, parts-branch (W t) a b) (types-kids fit w a (live l (b .0)) (low-flag a (b .1)))
+
+  module _ (c y : ℕ) (h : c < cubeKids) where
+    pub mask-set : withBit (maskOver a) c (not (eqb y 0)) ≡ kidMask (set (eightParts (W t) a) c y)
+    unfolding kidMask
+    mask-set = with-bits (λ k. not (eqb k 0)) (eightParts (W t) a) c (maskOver a) mask-over (parts-length (W t) a) h y
+
+    pub types-set : withBit (typesOver a) c (isLeaf y) ≡ kidTypes (set (eightParts (W t) a) c y)
+    unfolding kidTypes
+    types-set = with-bits isLeaf (eightParts (W t) a) c (typesOver a) types-over (parts-length (W t) a) h y
 
 -- ---- one part changed: number c of the parts of a in U is y in V, where the others have the values and heights that they had
 
@@ -208,9 +255,7 @@ module _ {tallest : ℕ} {t u : Tables} {d : List ℕ} {k : ℕ} (w : WellFormed
       → placedWhere (u .nodes .facts) (eightParts (W t) a) (otherBits (maskOf a) c) ≡ each (bumped places) (u .nodes .facts) (set (eightParts (W t) a) c 0)
   unfolding kidMask
   masked e =
-      let n = parts-length (W t) a in
-      let small = bits-below (λ y. not (eqb y 0)) (eightParts (W t) a) in
-      where-placed (u .nodes .facts) (eightParts (W t) a) c (maskOf a) e (omega (arith, ap (λ (i : ℕ). 2 ^ i) n)) (omega arith)
+      where-placed (u .nodes .facts) (eightParts (W t) a) c (maskOf a) e (parts-length (W t) a) h
 
   pub others-placed : placedOver (u .nodes .facts) (eightParts (W t) a) a c ≡ each (bumped places) (u .nodes .facts) (set (eightParts (W t) a) c 0)
   unfolding placedOver

@@ -1,7 +1,7 @@
 -- The code's way is the definition's, on well-formed tables.
-use mathlib.Core.Path.{_≡_, refl, sym, ap, _∙_, subst}
+use mathlib.Core.Path.{_≡_, refl, sym, ap, ap₂, _∙_, subst}
 use mathlib.Core.Logic.{_≢_, _⊎_, inl, inr, ⊎-elim}
-use mathlib.Core.Bool.{Bool, true, false, true≢false}
+use mathlib.Core.Bool.{Bool, true, false, not, true≢false}
 use mathlib.Core.List.{List, [], _∷_, _++_}
 use Prim.Native.Nat.{ℕ, zero, suc, _+_, _-_, _/_, _≤_, _<_}
 use native.Mathlib.Decide.{ℕ-discrete}
@@ -25,11 +25,11 @@ use Rattle.tree.specs.Anew.{part, replace}
 use Rattle.tree.specs.Lacks.{Need, have, lack, Plan}
 use Rattle.tree.proofs.Grow.{extends-keeps, value-later, height-later}
 use Rattle.tree.proofs.Making.{part-there, part-low, replace-same, replace-other}
-use Rattle.arena.specs.Node.{sumFor, valueFor, heightFor}
+use Rattle.arena.specs.Node.{kidTypes, kidMask, sumFor, valueFor, heightFor}
 use Rattle.nodes.specs.Values.{heightAt, valueAt}
 use Rattle.arena.specs.Tables.{liveIn, Tables, tablesOf, cap, W, LiveSlot, WellFormed}
 use Rattle.arena.specs.Calls.{Out, said, allOf, each, placedKid, leafAnew, branchAnew, leafSlot, branchSlot}
-use Rattle.arena.specs.Models.{moreOf, kidsFor, sumBy}
+use Rattle.arena.specs.Models.{moreOf, branchWith, kidsFor, sumBy}
 use Rattle.arena.proofs.Branches.{branch-words, slot-lone}
 use Rattle.arena.proofs.Eight.{all-at}
 use Rattle.arena.proofs.Fits.{both}
@@ -46,10 +46,10 @@ use Rattle.edit_way.specs.Models.{isEnd, eightParts, hashOver}
 use Rattle.edit_plan.specs.Models.{planned, leafFound, wholeOf, hashWith, kidsFound, slotPlan, cellPlan, needPlan, upPlan, planBy}
 use Rattle.edit_plan.specs.declared.Plan as planning
 use Rattle.edit_way.proofs.Words.{end-flat, end-leaf, tab-get}
-use Rattle.edit_make.specs.Models.{owedBy, sumOver, heightOver, resum, placedOver, leafAnewBy, branchAnewBy, upBy, makeBy}
+use Rattle.edit_make.specs.Models.{owedBy, sumOver, heightOver, resum, withBit, typesOver, maskOver, placeFor, placedOver, leafAnewBy, branchAnewBy, upBy, makeBy}
 use Rattle.edit_make.proofs.Steps.{make-zero, make-more, make-leaf}
 use Rattle.edit.proofs.Growing.{each-nil, each-cons, grown-trans, grown-extends}
-use Rattle.edit.proofs.Kept.{small-value, hash-over, sum-over, sum-fits, hash-set, resum-set, height-set, part-stays, parts-stay, hash-stays, value-stays, height-stays, sum-stays, others-placed}
+use Rattle.edit.proofs.Kept.{types-set, mask-set, small-value, hash-over, sum-over, sum-fits, hash-set, resum-set, height-set, part-stays, parts-stay, hash-stays, value-stays, height-stays, sum-stays, others-placed}
 use Rattle.edit.proofs.Planning.{all-yes, leaf-both, flag-leaf, leaf-flagged, words-length, words-at, Cell-came, cell-none, cell-leaf, cell-lack, cell-came, plan-is, parts-there}
 use Rattle.edit.proofs.Upward.{Low, Done, low-have, low-lack, placed, lowers, eight, others-live, set-at, set-other, lack-inj, have-lack, over, make-done}
 
@@ -270,20 +270,21 @@ leaf-same d x h q i room = leaf-fresh d i room x h q _ (number-ends d i room (le
 up-is : (low : Out) (a c h q : ℕ) (ks all : List ℕ) (v : Tables) (was k s x g : ℕ) → eightParts (W (low .after)) a ≡ ks → part (W (low .after)) a c ≡ was
     → hashOver (W (low .after)) a ≡ k → sumOver (W (low .after)) a ≡ s → valueAt (W (low .after)) was ≡ x → heightAt (W (low .after)) a ≡ g
     → tablesOf (low .after .arena) (nodes (low .after .nodes .kids) (placedOver (low .after .nodes .facts) ks a c)) (low .after .find) ≡ v → set ks c (low .id) ≡ all
-    → upBy low a c h q ≡ branchAnewBy v all (heightOver (W v) all (low .id) g) (resum s x (valueAt (W v) (low .id))) (rekidsHash k c was (low .id)) h q
+    → upBy low a c h q ≡ branchAnewBy v all (withBit (typesOver a) c (isLeaf (low .id))) (withBit (maskOver a) c (not (eqb (low .id) 0))) (heightOver (W v) all (low .id) g) (resum s x (valueAt (W v) (low .id))) (rekidsHash k c was (low .id)) h q
 unfolding upBy
 up-is low a c h q ks all v was k s x g eks ewas ek es ex eg ev eall =
     rw (ek, es, eg, eks, ewas, ex, eall)
-    (ap (λ (y : Tables). branchAnewBy y all (heightOver (W y) all (low .id) g) (resum s x (valueAt (W y) (low .id))) (rekidsHash k c was (low .id)) h q) ev)
+    (ap (λ (y : Tables). branchAnewBy y all (withBit (typesOver a) c (isLeaf (low .id))) (withBit (maskOver a) c (not (eqb (low .id) 0))) (heightOver (W y) all (low .id) g) (resum s x (valueAt (W y) (low .id))) (rekidsHash k c was (low .id)) h q) ev)
 
 value-sum : (U : Words) (ks : List ℕ) (s : ℕ) → s ≡ sumFor cubeKids U ks → s / 8 ≡ valueFor cubeKids U ks
 unfolding sumFor valueFor
 value-sum U ks s e = ap (λ (z : ℕ). z / 8) e
 
-branch-same : {t : Tables} (d ks : List ℕ) (up s k h q : ℕ) → Inv t d → liveIn (t .arena) + 1 < cap t
-    → up ≡ heightFor cubeKids (W t) ks → s ≡ sumFor cubeKids (W t) ks → k ≡ kidsHash ks → branchAnewBy t ks up s k h q ≡ branchAnew cubeKids t ks h q
+branch-same : {t : Tables} (d ks : List ℕ) (ty ma up s k h q : ℕ) → Inv t d → liveIn (t .arena) + 1 < cap t
+    → up ≡ heightFor cubeKids (W t) ks → s ≡ sumFor cubeKids (W t) ks → k ≡ kidsHash ks → ty ≡ kidTypes ks → ma ≡ kidMask ks → branchAnewBy t ks ty ma up s k h q ≡ branchAnew cubeKids t ks h q
 unfolding branchAnewBy
-branch-same {t} d ks up s k h q i room eu es ek = branch-fresh d i room cubeKids ks (s / 8) up s k h q _ (value-sum (W t) ks s es) eu es ek (number-ends d i room k)
+branch-same {t} d ks ty ma up s k h q i room eu es ek et em =
+    ap₂ (λ (x y : ℕ). branchWith t ks x y (s / 8) up s k h q (placeFor t k)) et em ∙ branch-fresh d i room cubeKids ks (s / 8) up s k h q _ (value-sum (W t) ks s es) eu es ek (number-ends d i room k)
 
 kids-fit : cubeKids ≤ kidWords
 kids-fit = omega arith
@@ -345,8 +346,8 @@ module _ {tallest : ℕ} (high : tallest ≤ 900) {t : Tables} (w : WellFormed c
       up-is o a c h q (eightParts (W t) a) ks v (part (W t) a c) (hashOver (W t) a) (sumOver (W t) a) (valueAt (W t) (part (W t) a c)) (heightAt (W t) a)
       (parts-stay kids-fit made (r .grown) a l) (part-stays kids-fit made (r .grown) a l c b) (hash-stays kids-fit made (r .grown) a l) (sum-stays kids-fit made (r .grown) a l)
       (value-stays kids-fit made (r .grown) a l (part (W t) a c) (there c b)) (height-stays kids-fit made (r .grown) a l) put e
-      ∙ (branch-same (ks ++ []) ks _ _ _ h q (g .inv) (let y = g .lives in let k = r .grown .lives in let u = g .caps in let f = r .grown .caps in omega arith)
-      (rw e at eu) (rw e at et) (rw e at ek))
+      ∙ (branch-same (ks ++ []) ks _ _ _ _ _ h q (g .inv) (let y = g .lives in let k = r .grown .lives in let u = g .caps in let f = r .grown .caps in omega arith)
+      (rw e at eu) (rw e at et) (rw e at ek) (rw e at (types-set w a l c (o .id) b)) (rw e at (mask-set w a l c (o .id) b)))
 
   -- the code's making is the definition's
   module _ (d c a k h q : ℕ) (p : List ℕ) (l : LiveOr0 (cap t) (W t) a) (low : heightAt (W t) a ≤ suc d) (b : c < cubeKids) (cell : Cell cubeKids d p) (tall : suc d ≤ tallest)

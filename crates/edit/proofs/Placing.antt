@@ -8,7 +8,7 @@ use native.Mathlib.Nat.{mul-le-mul-right, div-add-mod', pow-succ', div-div-eq-di
 use native.Mathlib.Decide.{ℕ-discrete}
 use native.Mathlib.Omega.{arith}
 use lib.Dec.{eqb}
-use lib.ListN.{length, set, replicate}
+use lib.ListN.{length, set, replicate, length-set}
 use borrow.Author.Tests.{eq-eqb, ne-eqb}
 use Rattle.nodes.specs.Words.{Nodes, nodes, factOf, factPut, putOf, slot, places}
 use Rattle.nodes.specs.Tally.{oneIf}
@@ -17,7 +17,8 @@ use Rattle.nodes.proofs.Sums.{cases, split}
 use Rattle.arena.specs.Calls.{each}
 use Rattle.arena.specs.Models.{moreOf, bumped}
 use Rattle.arena.specs.Node.{bitsOf}
-use Rattle.edit_make.specs.Models.{placedIf, placedWhere, otherBits, sevenPlaced}
+use Rattle.arena.proofs.Bits.{bits-below}
+use Rattle.edit_make.specs.Models.{placedIf, placedWhere, otherBits, withBit, sevenPlaced}
 
 -- ---- a mask without one of its bits
 
@@ -33,28 +34,48 @@ one-small : (b : Bool) → oneIf b ≤ 1
 unfolding oneIf
 one-small b = split b (λ e. rw e (omega arith)) (λ e. rw e (omega arith))
 
--- the bits of a list are those of the list without one id, and that id's bit
-pub bits-without : (p : ℕ → Bool) (ks : List ℕ) (c : ℕ) → p 0 ≡ false → c < length ks → bitsOf p ks - bitsOf p ks / 2 ^ c % 2 * 2 ^ c ≡ bitsOf p (set ks c 0)
-unfolding bitsOf oneIf
-bits-without p [] c none l = absurd (omega arith)
-bits-without p (k ∷ ks) zero none l = rw none (omega (arith, one-small (p k)))
-bits-without p (k ∷ ks) (suc c) none l =
+-- the bits of a list in which number c is replaced: those of the list but for bit c, and the new one's
+bits-with : (p : ℕ → Bool) (ks : List ℕ) (c y : ℕ) → c < length ks → bitsOf p ks - bitsOf p ks / 2 ^ c % 2 * 2 ^ c + oneIf (p y) * 2 ^ c ≡ bitsOf p (set ks c y)
+unfolding bitsOf
+bits-with p [] c y l = absurd (omega arith)
+bits-with p (k ∷ ks) zero y l = omega (arith, one-small (p k))
+bits-with p (k ∷ ks) (suc c) y l =
     let b = oneIf (p k) in
     let r = bitsOf p ks in
     let low = one-small (p k) in
     let half : (b + 2 * r) / 2 ≡ r = omega arith in
     let down : (b + 2 * r) / 2 ^ suc c ≡ r / 2 ^ c = ap (λ (n : ℕ). (b + 2 * r) / n) (pow-succ' 2 c) ∙ sym (div-div-eq-div-mul (b + 2 * r) 2 (2 ^ c)) ∙ ap (λ (n : ℕ). n / 2 ^ c) half in
-    let twice : r / 2 ^ c % 2 * 2 ^ suc c ≡ 2 * (r / 2 ^ c % 2 * 2 ^ c) = ap (λ (n : ℕ). r / 2 ^ c % 2 * n) (pow-succ' 2 c) ∙ mul-left-comm (r / 2 ^ c % 2) 2 (2 ^ c) in
-    let ih = bits-without p ks c none (omega arith) in
+    let twice : (x : ℕ) → x * 2 ^ suc c ≡ 2 * (x * 2 ^ c) = (λ x. ap (λ (n : ℕ). x * n) (pow-succ' 2 c) ∙ mul-left-comm x 2 (2 ^ c)) in
+    let ih = bits-with p ks c y (omega arith) in
     let fits = bit-fits r c in
-    rw (down, twice) (omega arith)
+    rw (down, twice (r / 2 ^ c % 2), twice (oneIf (p y))) (omega arith)
 
-other-bits : (p : ℕ → Bool) (ks : List ℕ) (c m : ℕ) → m ≡ bitsOf p ks → m < 2 ^ 8 → p 0 ≡ false → c < length ks → otherBits m c ≡ bitsOf p (set ks c 0)
-unfolding otherBits
-other-bits p ks c m e small none l =
-    let fits = bit-fits m c in
-    let same : m / 2 ^ c % 2 * 2 ^ c % 2 ^ 8 ≡ m / 2 ^ c % 2 * 2 ^ c = omega arith in
-    ap (λ (n : ℕ). m - n) same ∙ ap (λ (n : ℕ). n - n / 2 ^ c % 2 * 2 ^ c) e ∙ bits-without p ks c none l
+module _ (p : ℕ → Bool) (ks : List ℕ) (c m : ℕ) (e : m ≡ bitsOf p ks) (eight : length ks ≡ 8) (l : c < 8) where
+  byte : (y : ℕ) → bitsOf p (set ks c y) < 2 ^ 8
+  byte y = let n : 2 ^ length (set ks c y) ≡ 2 ^ 8 = ap (λ (i : ℕ). 2 ^ i) (length-set ks c y ∙ eight) in omega (arith, bits-below p (set ks c y))
+
+  plain : otherBits m c ≡ bitsOf p ks - bitsOf p ks / 2 ^ c % 2 * 2 ^ c
+  unfolding otherBits
+  plain =
+      let fits = bit-fits m c in
+      let n : 2 ^ length ks ≡ 2 ^ 8 = ap (λ (i : ℕ). 2 ^ i) eight in
+      let small = bits-below p ks in
+      let same : m / 2 ^ c % 2 * 2 ^ c % 2 ^ 8 ≡ m / 2 ^ c % 2 * 2 ^ c = omega arith in
+      ap (λ (n : ℕ). m - n) same ∙ ap (λ (n : ℕ). n - n / 2 ^ c % 2 * 2 ^ c) e
+
+  -- the byte with the new one's bit
+  pub with-bits : (y : ℕ) → withBit m c (p y) ≡ bitsOf p (set ks c y)
+  unfolding withBit
+  with-bits y =
+      let w = bits-with p ks c y (omega arith) in
+      let b = byte y in
+      let same : oneIf (p y) * 2 ^ c % 2 ^ 8 ≡ oneIf (p y) * 2 ^ c = omega arith in
+      rw (plain, same) (omega arith)
+
+  -- and without it
+  other-bits : p 0 ≡ false → otherBits m c ≡ bitsOf p (set ks c 0)
+  unfolding oneIf
+  other-bits none = let w = rw none at (bits-with p ks c 0 (omega arith)) in plain ∙ omega arith
 
 -- ---- a place for each whose bit is 1
 
@@ -89,8 +110,8 @@ where-others l (k ∷ ks) zero = none-here l ks k (bitsOf some ks) ∙ where-all
 where-others l (k ∷ ks) (suc c) =
     rw (place-one l k (bitsOf some (set ks c 0)), half-of (some k) (bitsOf some (set ks c 0))) (where-others (bumped places l k) ks c)
 
-pub where-placed : (l ks : List ℕ) (c m : ℕ) → m ≡ bitsOf some ks → m < 2 ^ 8 → c < length ks → placedWhere l ks (otherBits m c) ≡ each (bumped places) l (set ks c 0)
-where-placed l ks c m e small h = ap (placedWhere l ks) (other-bits some ks c m e small refl h) ∙ where-others l ks c
+pub where-placed : (l ks : List ℕ) (c m : ℕ) → m ≡ bitsOf some ks → length ks ≡ 8 → c < 8 → placedWhere l ks (otherBits m c) ≡ each (bumped places) l (set ks c 0)
+where-placed l ks c m e eight h = ap (placedWhere l ks) (other-bits some ks c m e eight h refl) ∙ where-others l ks c
 
 -- ---- seven places of one end
 

@@ -1,20 +1,21 @@
 -- What the functions answer and leave, of any tables: mirrors of the code. No reader has to believe them.
-use mathlib.Core.Bool.{Bool}
+use mathlib.Core.Bool.{Bool, not}
 use mathlib.Core.List.{List, [], _∷_}
 use Prim.Native.Nat.{ℕ, zero, suc, _+_, _-_, _*_, _/_, _%_, _^_}
 use lib.Dec.{eqb, leb, ltb}
 use lib.ListN.{getD, set}
 use Rattle.basics.specs.Limits.{deepest, cubeKids}
 use Rattle.basics.specs.Pick.{pick}
-use Rattle.ids.specs.Ids.{maskOf}
+use Rattle.ids.specs.Ids.{isLeaf, typesOf, maskOf}
 use Rattle.nodes.specs.Words.{Words, sum, places, nodes, factOf, factPut, slot}
+use Rattle.nodes.specs.Tally.{oneIf}
 use Rattle.nodes.specs.Values.{valueAt, heightAt}
 use Rattle.find_hash.specs.Hash.{leafHash, rekidsHash, homeIn}
 use Rattle.find.specs.Cells.{probe}
 use Rattle.tree.specs.Anew.{part}
 use Rattle.arena.specs.Tables.{Tables, tablesOf, cap, W}
 use Rattle.arena.specs.Calls.{Out, said, refused, freshIn}
-use Rattle.arena.specs.Models.{moreOf, placedBy, leafFresh, branchFresh, topFor}
+use Rattle.arena.specs.Models.{moreOf, placedBy, leafFresh, branchWith, topFor}
 use Rattle.edit_way.specs.declared.Way.{Way}
 use Rattle.edit_way.specs.Models.{isEnd, eightParts, hashOver}
 use Rattle.edit_plan.specs.Models.{planned}
@@ -64,10 +65,23 @@ sevenPlaced l a = pick (eqb a 0) l (factPut l (slot a) places ((factOf l (slot a
 unfoldable pub placedOver : List ℕ → List ℕ → ℕ → ℕ → List ℕ
 placedOver l ks a c = pick (isEnd a) (sevenPlaced l a) (placedWhere l ks (otherBits (maskOf a) c))
 
+-- ## The two bytes of a branch's id
+
+-- a byte with bit c as `on` says
+unfoldable pub withBit : ℕ → ℕ → Bool → ℕ
+withBit m c on = (otherBits m c + oneIf on * 2 ^ c % 2 ^ 8) % 2 ^ 8
+
+-- the types and the mask of a branch with the parts of a; an end's eight are alike
+unfoldable pub typesOver : ℕ → ℕ
+typesOver a = pick (eqb a 0) 0 (pick (isEnd a) 255 (typesOf a))
+
+unfoldable pub maskOver : ℕ → ℕ
+maskOver a = pick (eqb a 0) 0 (pick (isEnd a) 255 (maskOf a))
+
 -- ## Nodes
 
-unfoldable pub branchAnewBy : Tables → List ℕ → ℕ → ℕ → ℕ → ℕ → ℕ → Out
-branchAnewBy t ks up s k h q = branchFresh t ks (s / 8) up s k h q (placeFor t k)
+unfoldable pub branchAnewBy : Tables → List ℕ → ℕ → ℕ → ℕ → ℕ → ℕ → ℕ → ℕ → Out
+branchAnewBy t ks types mask up s k h q = branchWith t ks types mask (s / 8) up s k h q (placeFor t k)
 
 -- in the place of a, over its part number c that was made: the others get their places, then the branch
 unfoldable pub upBy : Out → ℕ → ℕ → ℕ → ℕ → Out
@@ -77,7 +91,7 @@ upBy low a c h q =
     let was = part (W u) a c in
     let t = tablesOf (u .arena) (nodes (u .nodes .kids) (placedOver (u .nodes .facts) ks a c)) (u .find) in
     let all = set ks c (low .id) in
-    branchAnewBy t all (heightOver (W t) all (low .id) (heightAt (W u) a)) (resum (sumOver (W u) a) (valueAt (W u) was) (valueAt (W t) (low .id)))
+    branchAnewBy t all (withBit (typesOver a) c (isLeaf (low .id))) (withBit (maskOver a) c (not (eqb (low .id) 0))) (heightOver (W t) all (low .id) (heightAt (W u) a)) (resum (sumOver (W u) a) (valueAt (W u) was) (valueAt (W t) (low .id)))
     (rekidsHash (hashOver (W u) a) c was (low .id)) h q
 
 -- ## Upward along a way

@@ -31,14 +31,15 @@ use nodes::SUM;
 use nodes::fact;
 use nodes_write::put_fact;
 ghost use mathlib.Core.Path.{_≡_};
-ghost use Prim.Native.Nat.{_-_, _≤_, _<_};
+ghost use Prim.Native.Nat.{_-_, _*_, _%_, _^_, _≤_, _<_};
 ghost use lib.Dec.{eqb};
 ghost use Rattle.basics.specs.Limits.{deepest};
 ghost use Rattle.basics.specs.Pick.{pick};
 ghost use Rattle.nodes.specs.Words.{factOf};
+ghost use Rattle.nodes.specs.Tally.{oneIf};
 ghost use Rattle.find_hash.specs.Hash.{homeIn};
 ghost use Rattle.find.specs.Cells.{probe};
-ghost use Rattle.edit_make.specs.Models.{sumOver, heightOver, resum as resumOf, placedIf, otherBits, placedWhere, sevenPlaced, placedOver, leafAnewBy, branchAnewBy, upBy, holdAt, lowOf, fromOf, passed as passedOf, makeUp, makeOn};
+ghost use Rattle.edit_make.specs.Models.{sumOver, heightOver, resum as resumOf, placedIf, otherBits, placedWhere, withBit, typesOver, maskOver, sevenPlaced, placedOver, leafAnewBy, branchAnewBy, upBy, holdAt, lowOf, fromOf, passed as passedOf, makeUp, makeOn};
 ghost use Rattle.arena.specs.Calls.{madeOf, freshSlot};
 ghost use Rattle.arena.specs.Lent.{before, made};
 ghost use Rattle.arena.specs.Models.{moreOf};
@@ -134,6 +135,56 @@ fn other_bits(mask: u8, c: usize) -> u8
     mask - (((mask >> n) % 2) << n)
 }
 
+fn one_if(on: bool) -> u8
+    ensures { λ r. ⌜ r ≡ oneIf on ⌝ }
+{
+    if on { 1 } else { 0 }
+}
+
+// Bit c alone if `on`, else 0.
+fn bit_if(c: usize, on: bool) -> u8
+    requires { ⌜ c < 8 ⌝ }
+    ensures { λ r. ⌜ r ≡ oneIf on * 2 ^ c % 2 ^ 8 ⌝ }
+{
+    let n = c as u32;
+    one_if(on) << n
+}
+
+// A byte with bit c as `on` says.
+fn with_bit(byte: u8, c: usize, on: bool) -> u8
+    requires { ⌜ c < 8 ⌝ }
+    ensures { λ r. ⌜ r ≡ withBit byte c on ⌝ }
+{
+    let others = other_bits(byte, c) as u32;
+    let bit = bit_if(c, on) as u32;
+    ((others + bit) % 256) as u8
+}
+
+// The types and the mask of a branch with the parts of id; an end's eight are alike.
+fn types_over(id: u64) -> u8
+    ensures { λ r. ⌜ r ≡ typesOver id ⌝ }
+{
+    if id == BlockId::EMPTY.0 {
+        return 0;
+    }
+    if is_end(id) {
+        return 255;
+    }
+    BlockId(id).types()
+}
+
+fn mask_over(id: u64) -> u8
+    ensures { λ r. ⌜ r ≡ maskOver id ⌝ }
+{
+    if id == BlockId::EMPTY.0 {
+        return 0;
+    }
+    if is_end(id) {
+        return 255;
+    }
+    BlockId(id).mask()
+}
+
 // Seven places more for the node of id; EMPTY: nothing.
 fn place_seven(facts: &mut [u32], id: u64)
     ensures { λ _. ⌜ now (facts .exit) ≡ sevenPlaced (now (facts .entry)) id ⌝ }
@@ -164,19 +215,36 @@ fn branch_anew(
     facts: &mut [u32],
     find: &mut [u16],
     ks: Kids,
+    types: u8,
+    mask: u8,
     up: u32,
     sum: u32,
     k: u32,
     h: u32,
     q: u32,
 ) -> Made
-    ensures { λ r. ⌜ made a r kids facts find ≡ branchAnewBy (before a kids facts find) ks up sum k h q ⌝ }
+    ensures { λ r. ⌜ made a r kids facts find ≡ branchAnewBy (before a kids facts find) ks types mask up sum k h q ⌝ }
 {
     let at = place_for(a, facts, find, k);
-    fresh_branch(a, kids, facts, find, at, ks, sum / 8, up, sum, k, h, q)
+    fresh_branch(
+        a,
+        kids,
+        facts,
+        find,
+        at,
+        ks,
+        types,
+        mask,
+        sum / 8,
+        up,
+        sum,
+        k,
+        h,
+        q,
+    )
 }
 
-// The branch in the place of `old` over the part `low`, number c, which has its place; the others get theirs. Its hash, sum and height come from what `old` keeps.
+// The branch in the place of `old` over the part `low`, number c, which has its place; the others get theirs. Its two bytes, hash, sum and height come from those of `old`.
 fn branch_over(
     capacity: usize,
     low: Made,
@@ -192,6 +260,8 @@ fn branch_over(
     ensures { λ r. ⌜ madeOf capacity r (now (kids .exit)) (now (facts .exit)) (now (find .exit)) ≡ upBy (madeOf capacity low (now (kids .entry)) (now (facts .entry)) (now (find .entry))) old c h q ⌝ }
 {
     let new = low.id.0;
+    let types = with_bit(types_over(old), c, BlockId(new).is_leaf());
+    let mask = with_bit(mask_over(old), c, !BlockId(new).is_empty());
     let ks = parts(kids, old);
     let was = part(kids, old, c);
     let hash = rehash(hash_over(facts, old), c, was, new);
@@ -206,7 +276,20 @@ fn branch_over(
         capacity: capacity,
         slots: low.slots,
     };
-    branch_anew(a, kids, facts, find, all, up, total, hash, h, q)
+    branch_anew(
+        a,
+        kids,
+        facts,
+        find,
+        all,
+        types,
+        mask,
+        up,
+        total,
+        hash,
+        h,
+        q,
+    )
 }
 
 // The holds of a node made at level l of a cube of the depth: the topmost has one, which is the caller's; any other has a place instead.

@@ -24,7 +24,7 @@ fn leaf_bit(k: u64) -> u8
 }
 
 // Mask bit i is 1 exactly if child i isn't EMPTY.
-fn mask_of(ks: Kids) -> u8
+pub fn mask_of(ks: Kids) -> u8
     ensures { λ r. ⌜ r ≡ kidMask ks ⌝ }
 {
     kid_bit(ks[0])
@@ -38,7 +38,7 @@ fn mask_of(ks: Kids) -> u8
 }
 
 // Types bit i exactly if child i is a leaf.
-fn types_of(ks: Kids) -> u8
+pub fn types_of(ks: Kids) -> u8
     ensures { λ r. ⌜ r ≡ kidTypes ks ⌝ }
 {
     leaf_bit(ks[0])
@@ -51,15 +51,22 @@ fn types_of(ks: Kids) -> u8
         + 128 * leaf_bit(ks[7])
 }
 
-// The id of a branch in slot s, whose own word is `o`.
-pub fn branch_id(ks: Kids, s: usize, o: u64) -> u64
-    ensures { λ r. ⌜ r ≡ newBranch (s % 2 ^ 32) (generationOf o) (kidTypes ks) (kidMask ks) ⌝ }
+// The id of a branch in slot s, whose own word is `o`, with these two bytes.
+pub fn branch_with(types: u8, mask: u8, s: usize, o: u64) -> u64
+    ensures { λ r. ⌜ r ≡ newBranch (s % 2 ^ 32) (generationOf o) types mask ⌝ }
 {
     let id = BlockId::new_branch(
         (s % 0x1_0000_0000) as u32,
         BlockId(o).generation(),
-        types_of(ks),
-        mask_of(ks),
+        types,
+        mask,
     );
     id.0
+}
+
+// The id of a branch of the children ks in slot s, whose own word is `o`.
+pub fn branch_id(ks: Kids, s: usize, o: u64) -> u64
+    ensures { λ r. ⌜ r ≡ newBranch (s % 2 ^ 32) (generationOf o) (kidTypes ks) (kidMask ks) ⌝ }
+{
+    branch_with(types_of(ks), mask_of(ks), s, o)
 }

@@ -9,7 +9,7 @@ use arena::slots_of;
 use basics::Kids;
 use find::put_cell;
 use ids::BlockId;
-use new_id::branch_id;
+use new_id::branch_with;
 use nodes::ENTRY;
 use nodes::fact;
 use nodes::own;
@@ -22,7 +22,7 @@ ghost use Rattle.ids.specs.Ids.{generationOf, newLeaf};
 ghost use Rattle.nodes.specs.Words.{factOf};
 ghost use Rattle.arena.specs.Calls.{madeOf, freeSlots, freshSlot, givenBy};
 ghost use Rattle.arena.specs.Lent.{before, made};
-ghost use Rattle.arena.specs.Models.{moreOf, leafFresh, branchFresh};
+ghost use Rattle.arena.specs.Models.{moreOf, leafFresh, branchWith};
 ghost use Rattle.arena.specs.Tables.{stateIn, stateOf, tables};
 
 // How many slots are free.
@@ -92,7 +92,7 @@ pub fn fresh_leaf(
     }
 }
 
-// A fresh branch of the children ks, with the stored value v and the height up, the sum and the hash k.
+// A fresh branch of the children ks, with the two bytes of these, the stored value v and the height up, the sum and the hash k.
 pub fn fresh_branch(
     a: Arena,
     kids: &mut [u64],
@@ -100,6 +100,8 @@ pub fn fresh_branch(
     find: &mut [u16],
     at: usize,
     ks: Kids,
+    types: u8,
+    mask: u8,
     v: u32,
     up: u32,
     sum: u32,
@@ -107,10 +109,10 @@ pub fn fresh_branch(
     h: u32,
     q: u32,
 ) -> Made
-    ensures { λ r. ⌜ made a r kids facts find ≡ branchFresh (before a kids facts find) ks v up sum k h q at ⌝ }
+    ensures { λ r. ⌜ made a r kids facts find ≡ branchWith (before a kids facts find) ks types mask v up sum k h q at ⌝ }
 {
     let s = fresh_slot(a, facts);
-    let id = branch_id(ks, s, own(facts, s));
+    let id = branch_with(types, mask, s, own(facts, s));
     put_children(kids, s, ks);
     put_facts(facts, s, id, v, up, sum, k, h, q, 0);
     put_cell(find, at, s);
