@@ -135,6 +135,7 @@ fn other_bits(mask: u8, c: usize) -> u8
     mask - (((mask >> n) % 2) << n)
 }
 
+// 1 if `on`, else 0.
 fn one_if(on: bool) -> u8
     ensures { λ r. ⌜ r ≡ oneIf on ⌝ }
 {
@@ -160,7 +161,7 @@ fn with_bit(byte: u8, c: usize, on: bool) -> u8
     ((others + bit) % 256) as u8
 }
 
-// The types and the mask of a branch with the parts of id; an end's eight are alike.
+// The types of a branch with the parts of id; an end's eight are alike.
 fn types_over(id: u64) -> u8
     ensures { λ r. ⌜ r ≡ typesOver id ⌝ }
 {
@@ -173,6 +174,7 @@ fn types_over(id: u64) -> u8
     BlockId(id).types()
 }
 
+// And its mask.
 fn mask_over(id: u64) -> u8
     ensures { λ r. ⌜ r ≡ maskOver id ⌝ }
 {
@@ -292,14 +294,14 @@ fn branch_over(
     )
 }
 
-// The holds of a node made at level l of a cube of the depth: the topmost has one, which is the caller's; any other has a place instead.
+// The holds of a node that is made with l levels below it: the topmost, which has all of the depth, has the caller's; any other has a place instead.
 fn hold_at(l: u32, depth: u32) -> u32
     ensures { λ r. ⌜ (r ≡ holdAt l depth) × (r ≤ 1) ⌝ }
 {
     if l == depth { 1 } else { 0 }
 }
 
-// The lowest of what is to stand above: the leaf made anew where it is missing too, else the plan's part, which gets its place.
+// What the new branches stand over: the leaf, made anew where it is missing too, else the plan's part, which gets its place.
 fn make_lowest(
     a: Arena,
     kids: &mut [u64],
@@ -323,7 +325,7 @@ fn make_lowest(
     }
 }
 
-// The level of the lowest branch that is to be made.
+// How many levels the lowest branch that is to be made stands above the cell, less one: its number on the way.
 fn lowest_level(depth: u32, plan: Plan) -> u32
     ensures { λ r. ⌜ (r ≡ fromOf depth plan) × (r ≤ depth) ⌝ }
 {
@@ -346,7 +348,7 @@ fn passed(path: u32, n: u32) -> u32
     digits
 }
 
-// From level `from` upward to the root: a branch in the place of each node of the way.
+// From number `from` of the way upward to the root: a branch in the place of each node.
 fn make_up(
     capacity: usize,
     low: Made,

@@ -1,6 +1,6 @@
 use borrow.Author.Needs.{needs}
 use mathlib.Core.Path.{_≡_, refl}
-use Prim.Native.Nat.{_≤_}
+use Prim.Native.Nat.{_≤_, _<_}
 use lib.ListN.{length}
 use Rattle.arena.specs.Models.{givenBack}
 use Rattle.arena.proofs.Taking.{back-on, back-end}
@@ -18,4 +18,8 @@ pub give-back-spec : {M : Type 1} → statement M
 give-back-spec =
     tie.close
     (tie.spec Inv-loop μ-loop (λ c. (search needs, search needs, search needs, refl)) (λ c. search needs) (λ c. search needs) (λ c. search needs)
-    (λ c κs. search needs) (λ c. search needs) (λ c. (search needs, search needs, search needs, search back-on)) (λ c. search needs) (λ c. search back-end))
+    (λ c κs. search needs) (λ c. search needs)
+    (λ c.
+    let some : 0 < c .before .before .before .before .before .loop .left = search needs in
+    (search needs, search needs, search needs, search back-on))
+    (λ c. search needs) (λ c. search back-end))
