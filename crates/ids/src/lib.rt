@@ -1,14 +1,13 @@
 // Ids of nodes: a compact 64-bit number that carries a node's kind, its children's kinds and presence, its generation and its slot.
-ghost use mathlib.Core.Path.{_≡_};
-ghost use mathlib.Core.Bool.{not};
-ghost use lib.Dec.{eqb};
-ghost use Rattle·ids·specs.specs.Ids.{empty, invalid, indexOf, generation_of, typesOf, maskOf, has_child, is_leaf, isBranch, packing_no, new_leaf, new_branch};
+ghost use Rattle.std.specs.Prelude.{◌≡◌, not, eqb};
+ghost use Rattle.ids.specs.Ids.{empty, invalid, index_of, generation_of, types_of, mask_of, has_child, is_leaf, is_branch, packing_no, new_leaf, new_branch};
 
 // The lowest id of a leaf: bit 63 is the leaf flag.
 pub const LOWEST_LEAF: u64 = 0x8000_0000_0000_0000;
 
 // An id. Its 64 bits, from the highest: leaf (1), types (8), mask (8), generation (15), index (32).
 #[repr(C)]
+#[derive(Drop)]
 pub struct BlockId(pub u64);
 
 impl BlockId {
@@ -24,20 +23,20 @@ impl BlockId {
     pub const MAX_GENERATION: u16 = 0x7FFE;
 
     pub fn from_raw(raw: u64) -> Self
-        ensures { λ r. ⌜ r .0 ≡ raw ⌝ }
+        ensures { result.0 ≡ raw }
     {
         BlockId(raw)
     }
 
     pub fn raw(self) -> u64
-        ensures { λ r. ⌜ r ≡ self .0 ⌝ }
+        ensures { result ≡ self.0 }
     {
         self.0
     }
 
     // The number of the refusal of packing, 12, or 0 where it accepts.
     pub fn packing_no(generation: u16) -> u32
-        ensures { λ r. ⌜ r ≡ packing_no generation ⌝ }
+        ensures { result ≡ packing_no generation }
     {
         if generation <= BlockId::MAX_GENERATION {
             0
@@ -48,7 +47,7 @@ impl BlockId {
 
     // The id of a leaf, or INVALID where packing refuses.
     pub fn new_leaf(index: u32, generation: u16) -> Self
-        ensures { λ r. ⌜ r .0 ≡ new_leaf index generation ⌝ }
+        ensures { result.0 ≡ new_leaf index generation }
     {
         if BlockId::packing_no(generation) != 0 {
             return BlockId::INVALID;
@@ -58,7 +57,7 @@ impl BlockId {
 
     // The id of a branch, or INVALID where packing refuses.
     pub fn new_branch(index: u32, generation: u16, types: u8, mask: u8) -> Self
-        ensures { λ r. ⌜ r .0 ≡ new_branch index generation types mask ⌝ }
+        ensures { result.0 ≡ new_branch index generation types mask }
     {
         if BlockId::packing_no(generation) != 0 {
             return BlockId::INVALID;
@@ -72,20 +71,20 @@ impl BlockId {
     }
 
     pub fn index(self) -> u32
-        ensures { λ r. ⌜ r ≡ indexOf (self .0) ⌝ }
+        ensures { result ≡ index_of self.0 }
     {
         (self.0 % 0x1_0000_0000) as u32
     }
 
     pub fn generation(self) -> u16
-        ensures { λ r. ⌜ r ≡ generation_of (self .0) ⌝ }
+        ensures { result ≡ generation_of self.0 }
     {
         (self.0 / 0x1_0000_0000 % 0x8000) as u16
     }
 
     // Which children are leaves, a bit each; 0 of a leaf.
     pub fn types(self) -> u8
-        ensures { λ r. ⌜ r ≡ typesOf (self .0) ⌝ }
+        ensures { result ≡ types_of self.0 }
     {
         if self.is_leaf() {
             return 0;
@@ -95,7 +94,7 @@ impl BlockId {
 
     // Which children there are, a bit each; 0 of a leaf.
     pub fn mask(self) -> u8
-        ensures { λ r. ⌜ r ≡ maskOf (self .0) ⌝ }
+        ensures { result ≡ mask_of self.0 }
     {
         if self.is_leaf() {
             return 0;
@@ -105,7 +104,7 @@ impl BlockId {
 
     // Is there a child of this number? No of a leaf, and no above 7.
     pub fn has_child(self, child_index: u8) -> bool
-        ensures { λ r. ⌜ r ≡ has_child (self .0) «child_index» ⌝ }
+        ensures { result ≡ has_child self.0 child_index }
     {
         if 8 <= child_index {
             return false;
@@ -114,31 +113,31 @@ impl BlockId {
     }
 
     pub fn is_leaf(self) -> bool
-        ensures { λ r. ⌜ r ≡ is_leaf (self .0) ⌝ }
+        ensures { result ≡ is_leaf self.0 }
     {
         self.0 / 0x8000_0000_0000_0000 == 1
     }
 
     pub fn is_branch(self) -> bool
-        ensures { λ r. ⌜ r ≡ isBranch (self .0) ⌝ }
+        ensures { result ≡ is_branch self.0 }
     {
         self.0 / 0x8000_0000_0000_0000 == 0
     }
 
     pub fn is_invalid(self) -> bool
-        ensures { λ r. ⌜ r ≡ eqb (self .0) invalid ⌝ }
+        ensures { result ≡ eqb self.0 invalid }
     {
         self.0 == BlockId::INVALID.0
     }
 
     pub fn is_valid(self) -> bool
-        ensures { λ r. ⌜ r ≡ not (eqb (self .0) invalid) ⌝ }
+        ensures { result ≡ not (eqb self.0 invalid) }
     {
         self.0 != BlockId::INVALID.0
     }
 
     pub fn is_empty(self) -> bool
-        ensures { λ r. ⌜ r ≡ eqb (self .0) empty ⌝ }
+        ensures { result ≡ eqb self.0 empty }
     {
         self.0 == BlockId::EMPTY.0
     }
