@@ -1,6 +1,8 @@
 // The arena: its state, which goes by value beside three lent tables, `kids` and `facts` with the nodes (crate nodes) and `find`, which says what
 // slot has a content (crate find); and what the calls on it share. What each call answers and leaves is in specs/Calls.antt; a fresh arena, hold
 // and counts are in the crate arena_hold, intern leaf in arena_leaf, intern branch in arena_branch, release in arena_release.
+#![tactic(auto)]
+
 ghost use Rattle.std.specs.Prelude.{◌≡◌, List, ℕ, ◌-◌};
 ghost use Rattle.nodes.specs.Words.{holds as holds_word, places as places_word, fact_of, fact_put, slot};
 ghost use Rattle.arena.specs.Calls.{made_of, each, fit_of, live_of, live_or_empty, none_of, there_no};
@@ -15,7 +17,7 @@ use nodes_write::put_fact;
 
 // An arena's state: how many slots its tables have; and in one word the lowest slot never given out, in its low half, and how many are freed, in its high half.
 #[repr(C)]
-#[derive(Drop)]
+#[derive(Clone, Copy)]
 pub struct Arena {
     pub capacity: usize,
     pub slots: u64,
@@ -23,7 +25,7 @@ pub struct Arena {
 
 // The answer of a call that makes a node: refusal number or 0, the node's id, and `slots` of the state afterwards.
 #[repr(C)]
-#[derive(Drop)]
+#[derive(Clone, Copy)]
 pub struct Made {
     pub no: u32,
     pub id: BlockId,
@@ -32,7 +34,7 @@ pub struct Made {
 
 // The answer of a call that answers no id.
 #[repr(C)]
-#[derive(Drop)]
+#[derive(Clone, Copy)]
 pub struct Answer {
     pub no: u32,
     pub slots: u64,
@@ -40,7 +42,7 @@ pub struct Answer {
 
 // The answer of `counts`.
 #[repr(C)]
-#[derive(Drop)]
+#[derive(Clone, Copy)]
 pub struct Counted {
     pub no: u32,
     pub holds: u64,

@@ -1,5 +1,7 @@
 // Intern branch: the live branch of eight children if there is one, else a fresh one. What it answers and leaves is in the crate arena's
 // specs/Calls.antt.
+#![tactic(auto)]
+
 ghost use Rattle.std.specs.Prelude.{◌≡◌, List, ℕ, ◌%◌, ◌^◌, ◌≤◌, ◌<◌, eqb};
 ghost use Rattle.basics.specs.Limits.{deepest, cube_kids, kid_words};
 ghost use Rattle.basics.specs.Pick.{pick};

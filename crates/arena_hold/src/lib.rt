@@ -1,4 +1,6 @@
 // A fresh arena, hold and counts. What each call answers and leaves is in the crate arena's specs/Calls.antt.
+#![tactic(auto)]
+
 ghost use Rattle.std.specs.Prelude.{◌≡◌, length, replicate};
 ghost use Rattle.arena.specs.Calls.{answered_of, counted, hold_of, counts_of, fresh_of};
 ghost use Rattle.arena.specs.Lent.{before, answered};

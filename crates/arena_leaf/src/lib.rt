@@ -1,4 +1,6 @@
 // Intern leaf: the live leaf of a value if there is one, else a fresh one. What it answers and leaves is in the crate arena's specs/Calls.antt.
+#![tactic(auto)]
+
 ghost use Rattle.std.specs.Prelude.{◌≡◌, List, ℕ, ◌≤◌};
 ghost use Rattle.basics.specs.Limits.{kid_words};
 ghost use Rattle.find_hash.specs.Hash.{leaf_hash};

@@ -1,4 +1,6 @@
 // Release: takes one hold, and recycles what has neither hold nor place. What it answers and leaves is in the crate arena's specs/Calls.antt.
+#![tactic(auto)]
+
 ghost use Rattle.std.specs.Prelude.{◌≡◌, List, ℕ, ◌+◌, ◌*◌, ◌%◌, ◌^◌, ◌≤◌};
 ghost use Rattle.basics.specs.Limits.{deepest, kid_words};
 ghost use Rattle.ids.specs.Ids.{generation_of};

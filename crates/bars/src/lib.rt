@@ -1,5 +1,7 @@
 // The bar (request 1 of 02): the cells from x to x + more at y and z are edited with one value, in rising order, and each passing root is released
 // after the next is made. What it answers and leaves: specs/Bars.antt.
+#![tactic(auto)]
+
 ghost use Rattle.std.specs.Prelude.{◌≡◌, ◌+◌, ◌^◌, ◌<◌};
 ghost use Rattle.basics.specs.Limits.{deepest, cube_kids};
 ghost use Rattle.paths.specs.Paths.{place};

@@ -1,5 +1,6 @@
 // Definitions and laws that speak of no id, table or tree: the limits, a choice by a test, ladders of tests, the bits of a number, sums and averages, the characters of a text.
 // In code only the limits: see specs/ and proofs/ for the rest.
+#![tactic(auto)]
 
 // The deepest tree: no depth, and no node's height, is above it.
 pub const DEEPEST: u32 = 6;

@@ -3,6 +3,8 @@
 //
 // Every case begins with a fresh arena of 8 slots, of which 7 can be given out: as many as the path of one cell at depth 6 has nodes. Its tables have
 // 944 bytes.
+#![tactic(auto)]
+
 use arena::{Arena, Made};
 use ids::BlockId;
 use libc::STDOUT_FILENO;

@@ -1,5 +1,7 @@
 // The arena for C and Rust: each function calls the one of its name in the crates `arena_hold`, `arena_leaf`, `arena_branch` and `arena_release`, and its contract
 // cites the same definition. A slice goes as its address and its length, an id as its raw number, eight ids as a struct that holds them.
+#![tactic(auto)]
+
 ghost use Rattle.std.specs.Prelude.{◌≡◌, ℕ, ◌≤◌};
 ghost use Rattle.basics.specs.Limits.{deepest, cube_kids, kid_words};
 ghost use Rattle.arena.specs.Calls.{answered_of, counted, Fair, raw_ids, fresh_of, intern_leaf_of, intern_branch_of, hold_of, release_of, counts_of};
@@ -11,7 +13,7 @@ use ids::BlockId;
 
 // The eight child ids of a branch. An array alone can't be passed.
 #[repr(C)]
-#[derive(Drop)]
+#[derive(Clone, Copy)]
 pub struct Children {
     pub ids: [BlockId; KID_WORDS],
 }

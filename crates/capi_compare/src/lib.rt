@@ -1,5 +1,7 @@
 // Comparison for C and Rust. The function calls the one it stands for in the crate `compare`, and its contract cites the same definition. A slice goes as its
 // address and its length, an id as its raw number.
+#![tactic(auto)]
+
 ghost use Rattle.std.specs.Prelude.{◌≡◌};
 ghost use Rattle.arena.specs.Lent.{before};
 ghost use Rattle.compare.specs.Compare.{compared, compare_of};

@@ -1,5 +1,7 @@
 // Ids for C and Rust: each function calls the one of its name in the crate `ids`, and its contract cites the same definition.
 // A refusal is a number beside the answer: 0 where the call is accepted.
+#![tactic(auto)]
+
 ghost use Rattle.std.specs.Prelude.{◌≡◌, not, eqb};
 ghost use Rattle.ids.specs.Ids.{empty, invalid, index_of, generation_of, types_of, mask_of, has_child, is_leaf, is_branch, packing_no, new_leaf, new_branch};
 
@@ -7,7 +9,7 @@ use ids::BlockId;
 
 // What packing answers: an id, or INVALID and the number of the refusal.
 #[repr(C)]
-#[derive(Drop)]
+#[derive(Clone, Copy)]
 pub struct Packed {
     pub no: u32,
     pub id: u64,

@@ -1,5 +1,7 @@
 // Whole models for C and Rust: the arena check, lookup, expansion and the edit. Each function calls the one it stands for in the crates `check_arena`,
 // `read_cell`, `read_cube` and `edit`, and its contract cites the same definition. A slice goes as its address and its length, an id as its raw number.
+#![tactic(auto)]
+
 ghost use Rattle.std.specs.Prelude.{◌≡◌, true, ◌↔◌};
 ghost use Rattle.basics.specs.Limits.{deepest, cube_kids};
 ghost use Rattle.arena.specs.Tables.{WellFormed};

@@ -1,5 +1,7 @@
 // Paths, and the text of an id, for C and Rust: each function calls the one of its name in the crates `paths` and `ids_text`, and its contract cites
 // the same definition. A refusal is a number beside the answer: 0 where the call is accepted.
+#![tactic(auto)]
+
 ghost use Rattle.std.specs.Prelude.{◌≡◌};
 ghost use Rattle.paths.specs.Paths.{path_of, decoded_of, child_index_of};
 ghost use Rattle.capi_paths.specs.Cells.{position_at};
@@ -10,7 +12,7 @@ use paths::IVec3;
 
 // The text of an id; the bytes from `len` on are 0.
 #[repr(C)]
-#[derive(Drop)]
+#[derive(Clone, Copy)]
 pub struct Text {
     pub bytes: [u8; 41],
     pub len: usize,
@@ -18,7 +20,7 @@ pub struct Text {
 
 // The cell of a path, or 0, 0, 0 and the number of the refusal.
 #[repr(C)]
-#[derive(Drop)]
+#[derive(Clone, Copy)]
 pub struct Cell {
     pub no: u32,
     pub x: i32,
@@ -28,7 +30,7 @@ pub struct Cell {
 
 // The number of a child, 0 to 7, or 0 and the number of the refusal.
 #[repr(C)]
-#[derive(Drop)]
+#[derive(Clone, Copy)]
 pub struct Child {
     pub no: u32,
     pub index: usize,

@@ -1,5 +1,7 @@
 // Readings in metres for C and Rust: a record taken apart, and a reading entered. Each function calls the one it stands for in the crates `metres` and
 // `readings`, and its contract cites the same definition. A slice goes as its address and its length, an id as its raw number.
+#![tactic(auto)]
+
 ghost use Rattle.std.specs.Prelude.{◌≡◌};
 ghost use Rattle.basics.specs.Limits.{deepest, cube_kids};
 ghost use Rattle.metres.specs.Record.{struct_of, reading_of};

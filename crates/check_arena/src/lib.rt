@@ -1,5 +1,7 @@
 // The arena check: yes exactly if the lent tables are well formed, on any tables whatever they hold. Each pass takes time linear in the
 // capacity, and the first that says no ends the check. See specs/Models.antt.
+#![tactic(auto)]
+
 ghost use Rattle.std.specs.Prelude.{◌≡◌, ◌↔◌, true, ◌+◌, leb};
 ghost use Rattle.basics.specs.Limits.{deepest, cube_kids, kid_words};
 ghost use Rattle.nodes.specs.Words.{kid_of, fact_of, holds, places};

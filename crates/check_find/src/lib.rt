@@ -1,4 +1,6 @@
 // The finding table of any tables, whatever they hold, in one pass over its cells and one over the slots. See specs/Models.antt.
+#![tactic(auto)]
+
 ghost use Rattle.std.specs.Prelude.{◌≡◌, length, get_or};
 ghost use Rattle.nodes.specs.Lent.{words_in};
 ghost use Rattle.find.specs.Cells.{seat};

@@ -1,5 +1,7 @@
 // Of any tables, whatever they hold: how many nodes live, and the stack of the freed slots, in a pass over the slots and one over the stack. What they
 // answer is in specs/Models.antt. Each takes time linear in what it goes over, and stops where it says no.
+#![tactic(auto)]
+
 ghost use Rattle.std.specs.Prelude.{◌≡◌, ◌≤◌};
 ghost use Rattle.nodes.specs.Words.{fact_of};
 ghost use Rattle.nodes.specs.Tally.{live_bit, live_count};

@@ -1,5 +1,7 @@
 // The tally of all nodes of any tables, whatever they hold, in three passes over the slots: a counter in the mark word of live slots, 0 before and 0
 // again after. See specs/Models.antt.
+#![tactic(auto)]
+
 ghost use Rattle.std.specs.Prelude.{◌≡◌};
 ghost use Rattle.check_freed.specs.Models.{all_in};
 ghost use Rattle.check_places.specs.Models.{count_to, unmarked, clear_to, agree_at};

@@ -1,4 +1,6 @@
 // Comparison: two roots of one arena side by side, cell by cell.
+#![tactic(auto)]
+
 ghost use Rattle.std.specs.Prelude.{◌≡◌, ◌≤◌, leb, length};
 ghost use Rattle.basics.specs.Limits.{deepest, cube_kids};
 ghost use Rattle.nodes.specs.Words.{fact_of};
@@ -17,7 +19,7 @@ use new_value::height_at;
 
 // The answer of a comparison: the refusal or 0, how many cells differ, how many pairs were opened.
 #[repr(C)]
-#[derive(Drop)]
+#[derive(Clone, Copy)]
 pub struct Compared {
     pub no: u32,
     pub count: u32,

@@ -1,4 +1,6 @@
 // Two roots side by side, counted: in how many cells they differ.
+#![tactic(auto)]
+
 ghost use Rattle.std.specs.Prelude.{◌≡◌, true, ◌<◌, ◌≤◌};
 ghost use Rattle.basics.specs.Limits.{deepest, cube_kids};
 ghost use Rattle.nodes.specs.Lent.{words_in};

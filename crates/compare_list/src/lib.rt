@@ -1,4 +1,6 @@
 // Two roots side by side, listed: the cells that differ, in rising path code with both values, in a lent list of three parts.
+#![tactic(auto)]
+
 ghost use Rattle.std.specs.Prelude.{◌≡◌, true, false, ◌+◌, ◌*◌, ◌^◌, ◌<◌, ◌≤◌, length, set};
 ghost use Rattle.basics.specs.Limits.{deepest, cube_kids};
 ghost use Rattle.nodes.specs.Lent.{words_in};
@@ -14,14 +16,14 @@ use nodes::children;
 use read_cell::value;
 
 // How many cells differ, and how many pairs were opened.
-#[derive(Drop)]
+#[derive(Clone, Copy)]
 pub struct Found {
     pub cells: u32,
     pub opened: u32,
 }
 
 // How far a walk came: the place after the last cell written, and the pairs opened.
-#[derive(Drop)]
+#[derive(Clone, Copy)]
 struct Walk {
     at: usize,
     opened: u32,

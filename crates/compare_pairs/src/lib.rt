@@ -1,5 +1,7 @@
 // Pairs of ids: the places of an id, and which pairs are opened.
 // Definitions of the differing cells and of the pairs opened: specs/Differing.antt.
+#![tactic(auto)]
+
 ghost use Rattle.std.specs.Prelude.{◌≡◌};
 ghost use Rattle.nodes.specs.Words.{kid_of};
 ghost use Rattle.tree.specs.Anew.{part};

@@ -1,5 +1,7 @@
 // The edit of one voxel: a dry run that finds what is there already and counts what is not (crate `edit_plan`), and then the making of the rest, leaf
 // first and upward (crate `edit_make`). What the call answers and leaves: specs/Edit.antt.
+#![tactic(auto)]
+
 ghost use Rattle.std.specs.Prelude.{◌≡◌};
 ghost use Rattle.basics.specs.Limits.{deepest, cube_kids};
 ghost use Rattle.arena.specs.Calls.{Fair};

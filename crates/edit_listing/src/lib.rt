@@ -2,6 +2,8 @@
 // What the call answers and leaves: specs/Listing.antt here and in the crate listing.
 //
 // A record is x, y, z and the value, 16 bits each, low byte first. After an accepted edit the old root is released; after a refused one it stays.
+#![tactic(auto)]
+
 ghost use Rattle.std.specs.Prelude.{◌≡◌, ◌+◌, ◌*◌, ◌<◌, ◌≤◌, length, get_or};
 ghost use Rattle.basics.specs.Bytes.{word16};
 ghost use Rattle.basics.specs.Limits.{deepest, cube_kids};

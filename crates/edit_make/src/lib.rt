@@ -1,4 +1,6 @@
 // The making of an edit: the nodes of the result that are not there, made anew, leaf first and upward.
+#![tactic(auto)]
+
 ghost use Rattle.std.specs.Prelude.{◌≡◌, ◌-◌, ◌*◌, ◌%◌, ◌^◌, ◌≤◌, ◌<◌, eqb};
 ghost use Rattle.basics.specs.Limits.{deepest};
 ghost use Rattle.basics.specs.Pick.{pick};

@@ -1,4 +1,6 @@
 // The dry run of an edit: what of the result is there already, and how many nodes are not. It changes nothing.
+#![tactic(auto)]
+
 ghost use Rattle.std.specs.Prelude.{◌≡◌, ◌≤◌, ◌<◌, eqb};
 ghost use Rattle.basics.specs.Limits.{deepest};
 ghost use Rattle.nodes.specs.Words.{fact_of};
@@ -17,7 +19,7 @@ use nodes::own;
 use paths::Cell;
 
 // What a dry run found: how many nodes are to be made, and the part below them that is there.
-#[derive(Drop)]
+#[derive(Clone, Copy)]
 pub struct Plan {
     pub new: u32,
     pub id: u64,

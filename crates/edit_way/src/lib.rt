@@ -1,4 +1,6 @@
 // The way of an edit, from the root down to the cell, and what the nodes on it stand for: their parts, and the hash of these.
+#![tactic(auto)]
+
 ghost use Rattle.std.specs.Prelude.{◌≡◌, ◌<◌, eqb, set};
 ghost use Rattle.basics.specs.Pick.{pick};
 ghost use Rattle.nodes.specs.Words.{kid_of, fact_of};
@@ -17,7 +19,7 @@ pub const LEVELS: usize = 6;
 
 // A way down: at number l the node that has l levels between it and the cell, the id that stands where the cell is, and the child numbers taken, the last of them as the
 // lowest octal digit.
-#[derive(Drop)]
+#[derive(Clone, Copy)]
 pub struct Way {
     pub ids: [u64; LEVELS],
     pub end: u64,

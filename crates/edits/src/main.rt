@@ -5,6 +5,8 @@
 // a line for each record: its number, the refusal, the root. Then `short K` for a cut last record of K bytes, and last `live N`, the nodes that live.
 // Where the file can't be opened or read, or a line can't be written, or the tables do not fit the slots, it says so on standard error and writes no
 // `live` line.
+#![tactic(auto)]
+
 ghost use Rattle.std.specs.Prelude.{◌+◌, ◌≤◌, length};
 
 use libc::{STDERR_FILENO, STDIN_FILENO, STDOUT_FILENO};
@@ -25,14 +27,14 @@ const BLOCK: usize = 64;
 const LINES: usize = 672;
 
 // How many bytes were read, and whether reading failed.
-#[derive(Drop)]
+#[derive(Clone, Copy)]
 struct Got {
     len: usize,
     failed: bool,
 }
 
 // What a block came to: the run so far, the bytes of a cut record, and whether it was the last block and whether something failed.
-#[derive(Drop)]
+#[derive(Clone, Copy)]
 struct Turn {
     run: Run,
     cut: usize,

@@ -1,4 +1,6 @@
 // The finding table: which slot has a content. See specs/Content.antt and specs/Cells.antt.
+#![tactic(auto)]
+
 ghost use Rattle.std.specs.Prelude.{◌≡◌, ◌%◌, ◌≤◌, eqb, get_or, set};
 ghost use Rattle.basics.specs.Pick.{pick};
 ghost use Rattle.nodes.specs.Words.{kid_of, fact_of};
@@ -12,7 +14,7 @@ use ids::BlockId;
 use nodes::{HASH, VALUE, children, fact, own};
 
 // Where a search ended: the cell, and the slot that it names, 0 for none.
-#[derive(Drop)]
+#[derive(Clone, Copy)]
 pub struct Found {
     pub slot: usize,
     pub cell: usize,

@@ -1,4 +1,6 @@
 // The hash of a content, the hash after a change of one child, and the first cell of the finding table to look at for a hash. See specs/Hash.antt.
+#![tactic(auto)]
+
 ghost use Rattle.std.specs.Prelude.{◌≡◌};
 ghost use Rattle.find_hash.specs.Hash.{factor as factor_of, term as term_of, kids_hash, rekids_hash, leaf_hash, even_hash, home_in};
 

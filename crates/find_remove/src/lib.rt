@@ -1,4 +1,6 @@
 // A slot taken out of the finding table. See specs/Cells.antt of crate `find`.
+#![tactic(auto)]
+
 ghost use Rattle.std.specs.Prelude.{◌≡◌};
 ghost use Rattle.nodes.specs.Words.{fact_of};
 ghost use Rattle.find.specs.Content.{home_at};

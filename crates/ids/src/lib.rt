@@ -1,4 +1,6 @@
 // Ids of nodes: a compact 64-bit number that carries a node's kind, its children's kinds and presence, its generation and its slot.
+#![tactic(auto)]
+
 ghost use Rattle.std.specs.Prelude.{◌≡◌, not, eqb};
 ghost use Rattle.ids.specs.Ids.{empty, invalid, index_of, generation_of, types_of, mask_of, has_child, is_leaf, is_branch, packing_no, new_leaf, new_branch};
 
@@ -7,7 +9,7 @@ pub const LOWEST_LEAF: u64 = 0x8000_0000_0000_0000;
 
 // An id. Its 64 bits, from the highest: leaf (1), types (8), mask (8), generation (15), index (32).
 #[repr(C)]
-#[derive(Drop)]
+#[derive(Clone, Copy)]
 pub struct BlockId(pub u64);
 
 impl BlockId {

@@ -1,4 +1,6 @@
 // The text of an id.
+#![tactic(auto)]
+
 ghost use Rattle.std.specs.Prelude.{◌≡◌, ◌+◌, ◌<◌, ◌≤◌};
 ghost use Rattle.basics.specs.Codes.{codes};
 ghost use Rattle.basics.specs.Puts.{puts_from};
@@ -7,7 +9,7 @@ ghost use Rattle.ids_text.specs.Text.{digit as digit_of, hex, leaf_text, branch_
 use ids::BlockId;
 
 // A text of at most 41 bytes; those from `len` on are 0.
-#[derive(Drop)]
+#[derive(Clone, Copy)]
 pub struct IdText {
     pub bytes: [u8; 41],
     pub len: usize,

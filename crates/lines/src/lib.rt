@@ -1,4 +1,6 @@
 // Text and numbers, written into lent bytes: what the lines of a listing are made of.
+#![tactic(auto)]
+
 ghost use Rattle.std.specs.Prelude.{◌≡◌, ◌+◌, ◌≤◌, [], ◌∷◌, ◌++◌, length, set};
 ghost use Rattle.basics.specs.Puts.{puts_from};
 ghost use Rattle.lines.specs.Lines.{digits_of, decimal};

@@ -1,5 +1,7 @@
 // The listing of records, whatever a record does: the lines that say what came of each, and how the run goes on from its answer.
 // What the calls answer and leave: specs/Listing.antt. Records that edit are in the crate edit_listing.
+#![tactic(auto)]
+
 ghost use Rattle.std.specs.Prelude.{◌≡◌, ◌+◌, ◌^◌, ◌<◌, ◌≤◌, [], ◌∷◌, ◌++◌, length, take};
 ghost use Rattle.basics.specs.Limits.{deepest, cube_kids};
 ghost use Rattle.basics.specs.Puts.{puts_from};
@@ -20,7 +22,7 @@ use std::num::wrapping_add_u64;
 const WIDEST: usize = 84;
 
 // What stands between two records: the arena's state, the root, and how many records there were.
-#[derive(Drop)]
+#[derive(Clone, Copy)]
 pub struct Run {
     pub arena: Arena,
     pub root: BlockId,
@@ -28,7 +30,7 @@ pub struct Run {
 }
 
 // What a block came to: how many records it took and how many bytes their lines have.
-#[derive(Drop)]
+#[derive(Clone, Copy)]
 pub struct Ran {
     pub run: Run,
     pub records: usize,
@@ -36,14 +38,14 @@ pub struct Ran {
 }
 
 // What the start came to, and what a record did: the run, and the refusal, 0 if there is none.
-#[derive(Drop)]
+#[derive(Clone, Copy)]
 pub struct Step {
     pub run: Run,
     pub no: u32,
 }
 
 // What a record came to, and how many bytes its line has.
-#[derive(Drop)]
+#[derive(Clone, Copy)]
 pub struct Lined {
     pub run: Run,
     pub len: usize,

@@ -1,6 +1,8 @@
 // Readings in metres: one record of 40 bytes taken apart, and the cells that it asks for. What the calls answer: specs/Record.antt.
 //
 // A record is its kind (u32), its value (u16), two zero bytes, and four f64: x, y, z and the second x; all low byte first. An unused number is all zero bits.
+#![tactic(auto)]
+
 ghost use Rattle.std.specs.Prelude.{◌≡◌, false, ◌+◌, ◌≤◌, length, pos, T};
 ghost use Rattle.std.specs.Float.{binary64, fin};
 ghost use Rattle.std.specs.Float.Ieee.{to_bits};
@@ -23,7 +25,7 @@ const SHOT: u64 = 1;
 const BAR: u64 = 2;
 
 // A point in metres.
-#[derive(Drop)]
+#[derive(Clone, Copy)]
 pub struct Metres {
     pub x: f64,
     pub y: f64,
@@ -31,7 +33,7 @@ pub struct Metres {
 }
 
 // What a record says: a point with a value, a bar from a point to a second x with a value, a pause; or the number of its refusal.
-#[derive(Drop)]
+#[derive(Clone, Copy)]
 pub enum Reading {
     Point(Metres, u16),
     Bar(Metres, f64, u16),
@@ -41,7 +43,7 @@ pub enum Reading {
 
 // A reading as numbers: the refusal, or 0 and what the record says, with zeros for what it has not.
 #[repr(C)]
-#[derive(Drop)]
+#[derive(Clone, Copy)]
 pub struct ReadingFields {
     pub no: u32,
     pub kind: u32,
@@ -53,7 +55,7 @@ pub struct ReadingFields {
 }
 
 // What a record asks for: nothing, the cells from the first x to the last at y and z with a value (first x, last x, y, z, value); or the number of its refusal.
-#[derive(Drop)]
+#[derive(Clone, Copy)]
 pub enum Aim {
     Nothing,
     Cells(u16, u16, u16, u16, u16),
@@ -61,14 +63,14 @@ pub enum Aim {
 }
 
 // The cell of a coordinate, or none.
-#[derive(Drop)]
+#[derive(Clone, Copy)]
 pub enum Coordinate {
     At(u16),
     Outside,
 }
 
 // The cell of a point, or none.
-#[derive(Drop)]
+#[derive(Clone, Copy)]
 enum Spot {
     In(u16, u16, u16),
     Out,

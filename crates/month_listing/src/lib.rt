@@ -1,5 +1,7 @@
 // What the program `months` prints of two files of edit records: the refused records of each side, the cells in which the sides differ, and the numbers at
 // the end. What each call answers and leaves: specs/Months.antt.
+#![tactic(auto)]
+
 ghost use Rattle.std.specs.Prelude.{◌≡◌, ℕ, ◌+◌, ◌-◌, ◌<◌, ◌≤◌, ◌^◌, List, [], ◌∷◌, ◌++◌, length, get_or};
 ghost use Rattle.basics.specs.Limits.{deepest, cube_kids};
 ghost use Rattle.basics.specs.Puts.{puts_from};
@@ -23,14 +25,14 @@ use paths::{decode_child_index_path, to_cell};
 const WIDEST_CELL: usize = 126;
 
 // Which of the two files.
-#[derive(Drop)]
+#[derive(Clone, Copy)]
 pub enum Side {
     Left,
     Right,
 }
 
 // How many cells a block took, and how many bytes their lines have.
-#[derive(Drop)]
+#[derive(Clone, Copy)]
 pub struct Cells {
     pub cells: usize,
     pub len: usize,

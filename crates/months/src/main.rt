@@ -7,6 +7,8 @@
 // cells differ. Last come `cells N`, how many differ, `opened N`, how many pairs of nodes were opened, and `live N`, the nodes that live. Without two arguments it
 // says how to call it; where a file can't be opened or read, or a line can't be written, or the tables do not fit the slots, it says so; both on standard error,
 // and then it writes no `live` line.
+#![tactic(auto)]
+
 ghost use Rattle.std.specs.Prelude.{◌+◌, ◌≤◌, length};
 
 use compare::compare;
@@ -34,14 +36,14 @@ const BLOCK: usize = 64;
 const LINES: usize = 1008;
 
 // How many bytes were read, and whether reading failed.
-#[derive(Drop)]
+#[derive(Clone, Copy)]
 struct Got {
     len: usize,
     failed: bool,
 }
 
 // What a block came to: the run so far, the bytes of a cut record, and whether it was the last block and whether something failed.
-#[derive(Drop)]
+#[derive(Clone, Copy)]
 struct Turn {
     run: Run,
     cut: usize,
@@ -50,7 +52,7 @@ struct Turn {
 }
 
 // What a file came to, and whether something failed.
-#[derive(Drop)]
+#[derive(Clone, Copy)]
 struct Entered {
     run: Run,
     failed: bool,

@@ -1,4 +1,6 @@
 // The mask and the types of eight children, and the id of a branch that has them. Intern branch and the edit name their new branches with it.
+#![tactic(auto)]
+
 ghost use Rattle.std.specs.Prelude.{◌≡◌, not, ◌%◌, ◌^◌, ◌≤◌, eqb};
 ghost use Rattle.ids.specs.Ids.{generation_of, is_leaf, new_branch};
 ghost use Rattle.nodes.specs.Tally.{one_if};

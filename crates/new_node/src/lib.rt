@@ -1,4 +1,6 @@
 // A new node: a free slot, a leaf's id in it, and the node written and named. Intern leaf, intern branch and the edit all make their nodes with these.
+#![tactic(auto)]
+
 ghost use Rattle.std.specs.Prelude.{◌≡◌, List, ℕ, ◌%◌, ◌^◌};
 ghost use Rattle.ids.specs.Ids.{generation_of, new_leaf};
 ghost use Rattle.nodes.specs.Words.{fact_of};

@@ -1,5 +1,7 @@
 // What children come to: the sum of their stored values, the stored value of a branch with them, and the height of the tallest. Intern branch and the edit
 // work out their new branches with these.
+#![tactic(auto)]
+
 ghost use Rattle.std.specs.Prelude.{◌≡◌, max};
 ghost use Rattle.basics.specs.Limits.{cube_kids};
 ghost use Rattle.nodes.specs.Words.{fact_of};
@@ -12,7 +14,7 @@ use basics::{CUBE_KIDS, Kids};
 use nodes::{HEIGHT, VALUE, fact};
 
 // The sum of the children's stored values, the stored value of their branch, and the height of the tallest of them.
-#[derive(Drop)]
+#[derive(Clone, Copy)]
 pub struct Sums {
     pub sum: u64,
     pub value: u32,

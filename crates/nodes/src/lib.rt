@@ -1,5 +1,7 @@
 // The words of the nodes in their two lent tables, `kids` and `facts`: see specs/Words.antt. Every function is total: what lies outside a
 // table reads 0, and a slot for whose words it has no room lies outside.
+#![tactic(auto)]
+
 ghost use Rattle.std.specs.Prelude.{◌≡◌, ◌<◌, ◌^◌, ltb};
 ghost use Rattle.basics.specs.Limits.{kid_words};
 ghost use Rattle.basics.specs.Pick.{pick};

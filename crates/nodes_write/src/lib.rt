@@ -1,5 +1,7 @@
 // The words of the nodes written, one fact or a whole slot, in their two lent tables, `kids` and `facts`: see specs/Words.antt of crate `nodes`.
 // Every public function is total: what lies outside a table is not written.
+#![tactic(auto)]
+
 ghost use Rattle.std.specs.Prelude.{◌≡◌, [], ◌∷◌, ◌+◌, ◌<◌, length};
 ghost use Rattle.basics.specs.Limits.{kid_words};
 ghost use Rattle.basics.specs.Puts.{puts_from};

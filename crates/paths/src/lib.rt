@@ -1,4 +1,6 @@
 // Paths: where a cell lies in the octree, as one number of interleaved bits, and as one child number a level.
+#![tactic(auto)]
+
 ghost use Rattle.std.specs.Prelude.{◌≡◌, ◌^◌, ◌<◌, ◌≤◌};
 ghost use Rattle.std.specs.Int.Signed.{mag};
 ghost use Rattle.basics.specs.Limits.{deepest};
@@ -18,7 +20,7 @@ const MASK_4: u32 = 0x9249249;
 
 // The place of a cell.
 #[repr(C)]
-#[derive(Drop)]
+#[derive(Clone, Copy)]
 pub struct IVec3 {
     pub x: i32,
     pub y: i32,
@@ -26,7 +28,7 @@ pub struct IVec3 {
 }
 
 // A cell of the cube of a depth, its coordinates as numbers.
-#[derive(Drop)]
+#[derive(Clone, Copy)]
 pub struct Cell {
     pub x: u32,
     pub y: u32,
@@ -35,14 +37,14 @@ pub struct Cell {
 }
 
 // The number of a child, 0 to 7, or the refusal.
-#[derive(Drop)]
+#[derive(Clone, Copy)]
 pub struct ChildIndex {
     pub no: u32,
     pub index: usize,
 }
 
 // The cell of a path, or the refusal.
-#[derive(Drop)]
+#[derive(Clone, Copy)]
 pub struct Decoded {
     pub no: u32,
     pub position: IVec3,

@@ -1,4 +1,6 @@
 // Reading: the end that a cell's path leads to, and lookup.
+#![tactic(auto)]
+
 ghost use Rattle.std.specs.Prelude.{◌≡◌, ◌%◌, ◌^◌, ◌≤◌, eqb, ltb};
 ghost use Rattle.basics.specs.Limits.{deepest};
 ghost use Rattle.basics.specs.Pick.{pick};
@@ -15,7 +17,7 @@ use nodes::{VALUE, fact, kid, stored};
 use paths::{Cell, IVec3, octant, to_cell};
 
 // Where a path ended: the id reached, and its level.
-#[derive(Drop)]
+#[derive(Clone, Copy)]
 pub struct End {
     pub id: BlockId,
     pub level: u32,
@@ -23,7 +25,7 @@ pub struct End {
 
 // The answer of lookup.
 #[repr(C)]
-#[derive(Drop)]
+#[derive(Clone, Copy)]
 pub struct Looked {
     pub no: u32,
     pub value: u16,

@@ -1,4 +1,6 @@
 // Expansion: the cells of a model into a lent cube.
+#![tactic(auto)]
+
 ghost use Rattle.std.specs.Prelude.{◌≡◌, ◌+◌, ◌*◌, ◌^◌, ◌<◌, ◌≤◌, eqb};
 ghost use Rattle.basics.specs.Limits.{deepest_cube, cube_kids};
 ghost use Rattle.nodes.specs.Lent.{words_in};

@@ -2,6 +2,8 @@
 // what came of each. What the call answers and leaves: specs/Listing.antt here and in the crate listing; what a record says: the crate metres.
 //
 // After an accepted record, a pause too, the old root is released; after a refused one it stays. A cut last record is entered like any other, and refused.
+#![tactic(auto)]
+
 ghost use Rattle.std.specs.Prelude.{◌≡◌, ◌<◌, ◌≤◌, length};
 ghost use Rattle.basics.specs.Limits.{deepest, cube_kids};
 ghost use Rattle.metres.specs.Record.{record_bytes};

@@ -1,5 +1,7 @@
 // Readings in metres entered into a model: a shot is an edit, a bar the edits of its cells in rising order, a pause a hold on the old root. What the call
 // answers and leaves: specs/Enter.antt. What a record says: crate `metres`; the bar: crate `bars`.
+#![tactic(auto)]
+
 ghost use Rattle.std.specs.Prelude.{◌≡◌};
 ghost use Rattle.basics.specs.Limits.{deepest, cube_kids};
 ghost use Rattle.arena.specs.Calls.{Fair};

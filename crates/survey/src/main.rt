@@ -5,6 +5,8 @@
 // record: its number, the refusal, the root; a cut last record has its line too. Last comes `live N`, the nodes that live. K is a number in digits; above 6
 // every record is refused with 2. Where K is missing or no number, or there are more arguments, it says how to call it; where the file can't be opened or
 // read, or a line can't be written, or the tables do not fit the slots, it says so; both on standard error, and then it writes no `live` line.
+#![tactic(auto)]
+
 ghost use Rattle.std.specs.Prelude.{◌≡◌, ◌+◌, ◌≤◌, min, length};
 ghost use Rattle.survey.specs.Digits.{too_fine, edge_of};
 
@@ -31,21 +33,21 @@ const LINES: usize = 672;
 const TOO_FINE: u32 = FINEST_EDGE + 1;
 
 // What the argument K says.
-#[derive(Drop)]
+#[derive(Clone, Copy)]
 enum Edge {
     Of(u32),
     Unsaid,
 }
 
 // How many bytes were read, and whether reading failed.
-#[derive(Drop)]
+#[derive(Clone, Copy)]
 struct Got {
     len: usize,
     failed: bool,
 }
 
 // What a block came to: the run so far, and whether it was the last block and whether something failed.
-#[derive(Drop)]
+#[derive(Clone, Copy)]
 struct Turn {
     run: Run,
     last: bool,

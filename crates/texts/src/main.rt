@@ -13,6 +13,8 @@
 //
 // RAW is in hex and the rest is in decimal. Of a generation the low 16 bits count, of types and mask the low 8; x, y and z are signed. A refusal
 // stands after the colon as 'refused' and its number. Another kind gives 'unknown KIND'. A cut last record of K bytes gives 'short K'.
+#![tactic(auto)]
+
 ghost use Rattle.std.specs.Prelude.{◌<◌};
 
 use ids::BlockId;

@@ -1,5 +1,7 @@
 // Each public call's contract determines its answer and the tables afterwards (proofs/One.antt). Nobody calls the functions below: each shows that the
 // contract of the call in its body is the one of which that is proved (specs/).
+#![tactic(auto)]
+
 ghost use Rattle.unique.specs.Asked.{PlainMeets, from_raw, raw, packing_no, new_leaf, new_branch, index, generation, types, mask, has_child, is_leaf, is_branch, is_invalid, is_valid, is_empty, text, path, position, child, parse};
 ghost use Rattle.unique.specs.Asked.{Meets, fresh, hold, counts, leaf, branch, release, look, expand, edit, enter, compare, check};
 ghost use Rattle.unique.specs.Listing.{ListingMeets, start, records, reading_records, ending, side_records, side_short, second, cells, closing};
