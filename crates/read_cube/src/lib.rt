@@ -1,7 +1,7 @@
 // Expansion: the cells of a model into a lent cube.
 #![tactic(auto)]
 
-ghost use Rattle.std.specs.Prelude.{◌≡◌, ◌+◌, ◌*◌, ◌^◌, ◌<◌, ◌≤◌, eqb};
+ghost use Rattle.std.specs.Prelude.{◌≡◌, ◌+◌, ◌*◌, ◌^◌, ◌<◌, ◌≤◌, eqb, length};
 ghost use Rattle.basics.specs.Limits.{deepest_cube, cube_kids};
 ghost use Rattle.nodes.specs.Lent.{words_in};
 ghost use Rattle.nodes.specs.Words.{fact_of};
@@ -26,7 +26,7 @@ fn mul(a: usize, b: usize) -> usize
 
 // n cells from `at`.
 fn fill_row(cube: &mut [u16], at: usize, n: usize, v: u16)
-    requires* { do ⌜ at + n ≤ (← ⟦cube.len()⟧) ⌝ }
+    requires { at + n ≤ length cube.old }
     ensures { cube.new ≡ fill_row at n v cube.old }
 {
     let mut x: usize = 0;
@@ -39,7 +39,7 @@ fn fill_row(cube: &mut [u16], at: usize, n: usize, v: u16)
 // n rows of n cells, `row` apart.
 fn fill_plane(cube: &mut [u16], at: usize, n: usize, row: usize, v: u16)
     requires n_bound { (n ≤ 64) × (row ≤ 64) }
-    requires* n_bound_2 { do ⌜ at + n * row + n ≤ (← ⟦cube.len()⟧) + row ⌝ }
+    requires n_bound_2 { at + n * row + n ≤ length cube.old + row }
     ensures { cube.new ≡ fill_plane row at n n v cube.old }
 {
     let mut z: usize = 0;
@@ -52,7 +52,7 @@ fn fill_plane(cube: &mut [u16], at: usize, n: usize, row: usize, v: u16)
 // n planes of n rows of n cells, `plane` apart.
 fn fill_block(cube: &mut [u16], at: usize, n: usize, row: usize, plane: usize, v: u16)
     requires n_bound { (n ≤ 64) × (row ≤ 64) × (plane ≤ 4096) }
-    requires* n_bound_2 { do ⌜ at + n * plane + n * row + n ≤ (← ⟦cube.len()⟧) + plane + row ⌝ }
+    requires n_bound_2 { at + n * plane + n * row + n ≤ length cube.old + plane + row }
     ensures { cube.new ≡ fill_block row plane at n n v cube.old }
 {
     let mut y: usize = 0;
@@ -65,7 +65,7 @@ fn fill_block(cube: &mut [u16], at: usize, n: usize, row: usize, plane: usize, v
 // The same, with loops of their own for the sides of small octants.
 fn fill_leaf(cube: &mut [u16], at: usize, n: usize, row: usize, plane: usize, v: u16)
     requires n_bound { (n ≤ 64) × (row ≤ 64) × (plane ≤ 4096) }
-    requires* n_bound_2 { do ⌜ at + n * plane + n * row + n ≤ (← ⟦cube.len()⟧) + plane + row ⌝ }
+    requires n_bound_2 { at + n * plane + n * row + n ≤ length cube.old + plane + row }
     ensures { cube.new ≡ fill_block row plane at n n v cube.old }
 {
     if n == 8 {
@@ -99,7 +99,7 @@ fn offset(c: usize, h: usize, row: usize, plane: usize) -> usize
 
 // The values of two ids, side by side.
 fn fill_pair(facts: &[u32], cube: &mut [u16], a: u64, b: u64, at: usize)
-    requires* { do ⌜ at + 2 ≤ (← ⟦cube.len()⟧) ⌝ }
+    requires { at + 2 ≤ length cube.old }
     ensures { cube.new ≡ pair_of (fact_of facts.now) a b at cube.old }
 {
     cube[at] = value(facts, a);
@@ -108,7 +108,7 @@ fn fill_pair(facts: &[u32], cube: &mut [u16], a: u64, b: u64, at: usize)
 
 // The values of eight ids, as octants that are single cells.
 fn fill_eight(facts: &[u32], cube: &mut [u16], ids: Kids, at: usize, row: usize, plane: usize)
-    requires* { do ⌜ at + plane + row + 2 ≤ (← ⟦cube.len()⟧) ⌝ }
+    requires { at + plane + row + 2 ≤ length cube.old }
     ensures { cube.new ≡ eight_of (fact_of facts.now) ids row plane at cube.old }
 {
     fill_pair(facts, cube, ids[0], ids[1], at);
@@ -127,7 +127,7 @@ fn fill_cells(
     row: usize,
     plane: usize,
 )
-    requires* { do ⌜ at + plane + row + 2 ≤ (← ⟦cube.len()⟧) ⌝ }
+    requires { at + plane + row + 2 ≤ length cube.old }
     ensures { cube.new ≡ parts_to (words_in kids facts) cube_kids row plane 0 1 id at 8 cube.old }
 {
     fill_eight(facts, cube, children(kids, slot_of(id)), at, row, plane);
@@ -144,7 +144,7 @@ fn fill_small(
     plane: usize,
 )
     requires row_bound { (row ≤ 64) × (plane ≤ 4096) }
-    requires* row_bound_2 { do ⌜ at + plane + row + 2 ≤ (← ⟦cube.len()⟧) ⌝ }
+    requires row_bound_2 { at + plane + row + 2 ≤ length cube.old }
     ensures { cube.new ≡ grow (words_in kids facts) cube_kids row plane 1 2 id at cube.old }
 {
     if id == BlockId::EMPTY.0 {
@@ -168,7 +168,7 @@ fn fill_smalls(
     plane: usize,
 )
     requires row_bound { (row ≤ 64) × (plane ≤ 4096) }
-    requires* row_bound_2 { do ⌜ at + 3 * plane + 3 * row + 4 ≤ (← ⟦cube.len()⟧) ⌝ }
+    requires row_bound_2 { at + 3 * plane + 3 * row + 4 ≤ length cube.old }
     ensures { cube.new ≡ parts_to (words_in kids facts) cube_kids row plane 1 2 id at 8 cube.old }
 {
     let s = slot_of(id);
@@ -194,7 +194,7 @@ fn fill_octant(
     plane: usize,
 )
     requires side_value { (side ≡ 2 ^ left) × (side ≤ 64) × (row ≤ 64) × (plane ≤ 4096) }
-    requires* side_bound { do ⌜ at + side * plane + side * row + side ≤ (← ⟦cube.len()⟧) + plane + row ⌝ }
+    requires side_bound { at + side * plane + side * row + side ≤ length cube.old + plane + row }
     ensures { cube.new ≡ grow (words_in kids facts) cube_kids row plane left side id at cube.old }
 {
     if left == 0 {
@@ -233,7 +233,7 @@ fn fill_octants(
     plane: usize,
 )
     requires h_value { (h ≡ 2 ^ left) × (h ≤ 32) × (row ≤ 64) × (plane ≤ 4096) }
-    requires* h_bound { do ⌜ at + 2 * h * plane + 2 * h * row + 2 * h ≤ (← ⟦cube.len()⟧) + plane + row ⌝ }
+    requires h_bound { at + 2 * h * plane + 2 * h * row + 2 * h ≤ length cube.old + plane + row }
     ensures { cube.new ≡ parts_to (words_in kids facts) cube_kids row plane left h id at 8 cube.old }
 {
     let s = slot_of(id);
@@ -248,7 +248,7 @@ fn fill_octants(
 // The whole cube of side s: one value where the root is a leaf, else 0 and then the root's octants.
 fn fill_cube(kids: &[u64], facts: &[u32], cube: &mut [u16], id: u64, depth: u32, s: usize)
     requires s_value { (s ≡ 2 ^ depth) × (s ≤ 64) }
-    requires* s_bound { do ⌜ 0 + s * (s * s) + s * s + s ≤ (← ⟦cube.len()⟧) + s * s + s ⌝ }
+    requires s_bound { 0 + s * (s * s) + s * s + s ≤ length cube.old + s * s + s }
     ensures { cube.new ≡ cube_from (words_in kids facts) s depth id cube.old }
 {
     let n = cube.len();
