@@ -8,10 +8,10 @@ use Rattle.arena_branch.proofs.give_back.Statement.{statement}
 use Rattle.arena_branch.proofs.give_back.Tie as tie
 
 -- invariant: giving back those of the first n is giving back those of the first `left`, which are left
-abbrev invariant_loop : tie.invariant_loop
+abbrev invariant_loop : tie.invariant-loop
 invariant_loop facts₀ n ks left₀ facts left = (left ≤ 8) × (length ks ≡ 8) × (length facts ≡ length facts₀) × (given_back facts₀ ks n ≡ given_back facts ks left)
 
-abbrev decreases_loop : tie.decreases_loop
+abbrev decreases_loop : tie.decreases-loop
 decreases_loop facts₀ n ks left₀ facts left = left
 
 pub give_back_spec : {M : Type 1} → statement M

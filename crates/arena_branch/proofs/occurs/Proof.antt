@@ -25,10 +25,10 @@ module _ (y : ℕ) (ks : List ℕ) (n i : ℕ) (z : length ks ≡ 8) (e : n + oc
   last l = let p = ap (occ y) (drop_none ks i z l) in omega (arith, occ_nil y)
 
 -- invariant: n and the times that y stands from number i on are the times that it stands in all
-abbrev invariant_loop : tie.invariant_loop
+abbrev invariant_loop : tie.invariant-loop
 invariant_loop y ks n₀ i₀ n i = (i ≤ 8) × (length ks ≡ 8) × (n ≤ i) × (n + occ y (drop i ks) ≡ occ y ks)
 
-abbrev decreases_loop : tie.decreases_loop
+abbrev decreases_loop : tie.decreases-loop
 decreases_loop y ks n₀ i₀ n i = 8 - i
 
 pub occurs_spec : {M : Type 1} → statement M

@@ -53,8 +53,8 @@ invariant_loop capacity slots kids₀ facts₀ find₀ levels ids gone₀ i₀ k
 abbrev decreases_loop : all-lts.decreases_loop
 decreases_loop capacity slots kids₀ facts₀ find₀ levels ids gone₀ i₀ kids facts find gone i = 8 - i
 
-pub +drop-all-drop-slot-spec : {M : Type 1} → statement M
-+drop-all-drop-slot-spec = close μ_all μ_slot (λ t. all-lts.spec (
+pub +drop_all_drop_slot_spec : {M : Type 1} → statement M
++drop_all_drop_slot_spec = close μ_all μ_slot (λ t. all-lts.spec (
   take-reads.Asked,
   take-reads.Learnt,
   slot-of-reads.Asked,

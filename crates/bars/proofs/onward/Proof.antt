@@ -8,12 +8,12 @@ use Rattle.bars.proofs.Steps.{Left, left_start, left_again, left_stop, left_none
 use Rattle.bars.proofs.onward.Statement.{statement}
 use Rattle.bars.proofs.onward.Tie as tie
 
-abbrev invariant_loop : tie.invariant_loop
+abbrev invariant_loop : tie.invariant-loop
 invariant_loop capacity kids₀ facts₀ find₀ depth y z x more value last₀ i₀ kids facts find last i =
     (i ≤ more) × (x + more < 2 ^ 31) × (length kids ≡ length kids₀) × (length facts ≡ length facts₀) × (length find ≡ length find₀)
     × Left depth y z value x more (made_of capacity last₀ kids₀ facts₀ find₀) (made_of capacity last kids facts find) i
 
-abbrev decreases_loop : tie.decreases_loop
+abbrev decreases_loop : tie.decreases-loop
 decreases_loop capacity kids₀ facts₀ find₀ depth y z x more value last₀ i₀ kids facts find last i = more - i
 
 loop_holds : tie.Need-loop-init invariant_loop decreases_loop

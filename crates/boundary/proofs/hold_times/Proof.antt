@@ -7,10 +7,10 @@ use Rattle.boundary.proofs.hold_times.Statement.{statement}
 use Rattle.boundary.proofs.hold_times.Tie as tie
 
 -- invariant: the facts keep their length
-abbrev invariant_loop : tie.invariant_loop
+abbrev invariant_loop : tie.invariant-loop
 invariant_loop a kids facts₀ find id times no₀ i₀ facts no' i = length facts ≡ length facts₀
 
-abbrev decreases_loop : tie.decreases_loop
+abbrev decreases_loop : tie.decreases-loop
 decreases_loop a kids facts₀ find id times no₀ i₀ facts no' i = times - i
 
 pub hold_times_spec : {M : Type 1} → statement M

@@ -7,11 +7,11 @@ use Rattle.boundary.proofs.recycle.Statement.{statement}
 use Rattle.boundary.proofs.recycle.Tie as tie
 
 -- invariant: the tables keep their lengths
-abbrev invariant_loop : tie.invariant_loop
+abbrev invariant_loop : tie.invariant-loop
 invariant_loop kids₀ facts₀ find₀ times state₀ i₀ kids facts find state i =
     (length kids ≡ length kids₀) × (length facts ≡ length facts₀) × (length find ≡ length find₀)
 
-abbrev decreases_loop : tie.decreases_loop
+abbrev decreases_loop : tie.decreases-loop
 decreases_loop kids₀ facts₀ find₀ times state₀ i₀ kids facts find state i = times - i
 
 pub recycle_spec : {M : Type 1} → statement M

@@ -48,8 +48,8 @@ invariant_loop kids facts a b left c₀ cells₀ c cells =
 abbrev decreases_loop : places-lts.decreases_loop
 decreases_loop kids facts a b left c₀ cells₀ c cells = 8 - c
 
-pub +count-pair-count-places-spec : {M : Type 1} → statement M
-+count-pair-count-places-spec = close μ_pair μ_places (λ t. pair-lts.spec (
+pub +count_pair_count_places_spec : {M : Type 1} → statement M
++count_pair_count_places_spec = close μ_pair μ_places (λ t. pair-lts.spec (
   goes-on-reads.Asked,
   goes-on-reads.Learnt,
   count-cells-reads.Asked,

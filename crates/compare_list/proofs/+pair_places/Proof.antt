@@ -50,8 +50,8 @@ invariant_loop kids facts codes₀ lefts₀ rights₀ a b left size base at c₀
 abbrev decreases_loop : places-lts.decreases_loop
 decreases_loop kids facts codes₀ lefts₀ rights₀ a b left size base at c₀ from₀ to₀ opened₀ codes lefts rights c from to opened = 8 - c
 
-pub +pair-places-spec : {M : Type 1} → statement M
-+pair-places-spec = close μ_pair μ_places (λ t. pair-lts.spec (
+pub +pair_places_spec : {M : Type 1} → statement M
++pair_places_spec = close μ_pair μ_places (λ t. pair-lts.spec (
   goes-on-reads.Asked,
   goes-on-reads.Learnt,
   eight-cells-reads.Asked,

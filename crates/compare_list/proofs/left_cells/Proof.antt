@@ -13,14 +13,14 @@ use Rattle.compare_list.proofs.Steps.{row_of, places_none, left_step, places_all
 use Rattle.compare_list.proofs.left_cells.Statement.{statement}
 use Rattle.compare_list.proofs.left_cells.Tie as tie
 
-abbrev invariant_loop : tie.invariant_loop
+abbrev invariant_loop : tie.invariant-loop
 invariant_loop kids facts codes₀ lefts₀ rights₀ a b base at row v c₀ code₀ to₀ codes lefts rights c code to =
     (c ≤ 8) × (base + 8 ≤ most_cells) × (code ≡ base + c) × (to ≤ code)
     × Laid at (places_to (word_of (nodes kids facts)) 0 base a b c) (opened_to (word_of (nodes kids facts)) 0 a b c) to 1 codes₀ lefts₀ rights₀ codes lefts rights
     × (length codes ≡ length codes₀) × (length lefts ≡ length lefts₀) × (length rights ≡ length rights₀)
     × (row ≡ kids_of kid_words (kid_of kids) (slot a)) × (v ≡ val (fact_of facts) b) × (branches a ≡ true) × (branches b ≡ false)
 
-abbrev decreases_loop : tie.decreases_loop
+abbrev decreases_loop : tie.decreases-loop
 decreases_loop kids facts codes₀ lefts₀ rights₀ a b base at row v c₀ code₀ to₀ codes lefts rights c code to = 8 - c
 
 loop_again : tie.Need-loop-preserved invariant_loop decreases_loop

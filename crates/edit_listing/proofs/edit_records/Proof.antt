@@ -8,11 +8,11 @@ use Rattle.edit_listing.proofs.edit_records.Statement.{statement}
 use Rattle.edit_listing.proofs.edit_records.Tie as tie
 
 -- invariant: the first i records are entered and their lines written, and there is room for the rest
-abbrev invariant_loop : tie.invariant_loop
+abbrev invariant_loop : tie.invariant-loop
 invariant_loop kids₀ facts₀ find₀ bytes out₀ most now₀ i₀ len₀ kids facts find out now i len =
     Loop edits (whole_in (length bytes)) now₀ kids₀ facts₀ find₀ bytes out₀ most now kids facts find out i len
 
-abbrev decreases_loop : tie.decreases_loop
+abbrev decreases_loop : tie.decreases-loop
 decreases_loop kids₀ facts₀ find₀ bytes out₀ most now₀ i₀ len₀ kids facts find out now i len = most - i
 
 room : (c : tie.After-record-in invariant_loop decreases_loop) → c.before.before.before.before.before.loop.len ≤ length c.before.before.before.before.before.loop.out

@@ -40,10 +40,10 @@ out : (s : ℕ) (t : List ℕ) (h : ℕ) → length t ≤ h → h ≡ probe (eqb
 out s t h l = sym (probe_end (eqb s) t h l)
 
 -- invariant: the search for the number from its start ends where one from cell i ends
-abbrev invariant_loop : tie.invariant_loop
+abbrev invariant_loop : tie.invariant-loop
 invariant_loop find s from i₀ i = probe (eqb s) find from ≡ probe (eqb s) find i
 
-abbrev decreases_loop : tie.decreases_loop
+abbrev decreases_loop : tie.decreases-loop
 decreases_loop find s from i₀ i = length find - i
 
 pub number_from_spec : {M : Type 1} → statement M

@@ -31,10 +31,10 @@ module _ (home : ℕ → ℕ) (u : List ℕ) (t : List ℕ) (i j : ℕ) (e : u �
   skip h l n q k = e ∙ shift_skip home t i j l n (omega arith)
 
 -- invariant: taking the cell out leaves what moving the entries from j on down into the hole leaves
-abbrev invariant_loop : tie.invariant_loop
+abbrev invariant_loop : tie.invariant-loop
 invariant_loop find₀ facts capacity at hole₀ j₀ find hole j = (hole < j) × (hole < length find) × (length find ≡ length find₀) × (erase (home_at capacity (fact_of facts)) find₀ at ≡ shift (home_at capacity (fact_of facts)) find hole j)
 
-abbrev decreases_loop : tie.decreases_loop
+abbrev decreases_loop : tie.decreases-loop
 decreases_loop find₀ facts capacity at hole₀ j₀ find hole j = length find₀ - j
 
 pub erase_at_spec : {M : Type 1} → statement M

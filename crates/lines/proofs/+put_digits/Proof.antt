@@ -20,8 +20,8 @@ put_digits_at t = and 1 put-digits-kinds.ps (is 1 put-digits-kinds.ps μ_put_dig
 abbrev put_digits_below : ℕ → In 1 put-digits-kinds.ps
 put_digits_below t = and 1 put-digits-kinds.ps (falls 1 put-digits-kinds.ps ◌<◌ μ_put_digits t) put-digits.Pre
 
-pub +put-digits-spec : {M : Type 1} → statement M
-+put-digits-spec = close μ_put_digits λ t. put-digits-lts.spec (
+pub +put_digits_spec : {M : Type 1} → statement M
++put_digits_spec = close μ_put_digits λ t. put-digits-lts.spec (
   put_reads.Asked,
   put_reads.Learnt,
   put_digits_below t,
@@ -32,10 +32,10 @@ pub +put-digits-spec : {M : Type 1} → statement M
     (λ c. digits_none _ _ _ _ (omega arith)) (λ c. search rules) (λ c. search rules) (λ c κs. search rules) (λ c. search rules)
     (λ c.
     let low = c.before.before.before.before in
-    digits_low _ _ _ _ _ low.before.if1.false low.if2.true c.before.before.put.ensures)
+    digits_low _ _ _ _ _ low.before.if-left-eq0.false low.if-n-lt10.true c.before.before.put.ensures)
     (λ c. search rules) (λ c κs. search rules) (λ c. search rules) (λ c. search rules) (λ c κs. search rules)
     (λ c. search rules) (λ c. search rules)
     (λ c.
     let front = c.before.before.before.before.before.before in
     let high = front.before.before in
-    digits_high _ _ _ _ _ _ _ high.before.if1.false high.if2.false front.put-digits.ensures c.before.before.put2.ensures)
+    digits_high _ _ _ _ _ _ _ high.before.if-left-eq0.false high.if-n-lt10.false front.put_digits-front.ensures c.before.before.put-2.ensures)

@@ -8,10 +8,10 @@ use Rattle.lines.proofs.put_text.Statement.{statement}
 use Rattle.lines.proofs.put_text.Tie as tie
 
 -- invariant: the first i bytes of the text are written
-abbrev invariant_loop : tie.invariant_loop
+abbrev invariant_loop : tie.invariant-loop
 invariant_loop out₀ at text i₀ out i = (i ≤ length text) × (length out ≡ length out₀) × (out ≡ puts_from out₀ at (take i text))
 
-abbrev decreases_loop : tie.decreases_loop
+abbrev decreases_loop : tie.decreases-loop
 decreases_loop out₀ at text i₀ out i = length text - i
 
 pub put_text_spec : {M : Type 1} → statement M

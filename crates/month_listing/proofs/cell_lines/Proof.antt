@@ -6,10 +6,10 @@ use Rattle.month_listing.proofs.cell_lines.Statement.{statement}
 use Rattle.month_listing.proofs.cell_lines.Tie as tie
 
 -- invariant: the lines of the first i cells are written, and there is room for the rest
-abbrev invariant_loop : tie.invariant_loop
+abbrev invariant_loop : tie.invariant-loop
 invariant_loop codes lefts rights from count out₀ most i₀ len₀ out i len = Loop codes lefts rights from count out₀ most out i len
 
-abbrev decreases_loop : tie.decreases_loop
+abbrev decreases_loop : tie.decreases-loop
 decreases_loop codes lefts rights from count out₀ most i₀ len₀ out i len = most - i
 
 add_at : tie.Need-overflow-add-at invariant_loop decreases_loop

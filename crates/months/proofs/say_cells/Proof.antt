@@ -7,10 +7,10 @@ use Rattle.months.proofs.say_cells.Statement.{statement}
 use Rattle.months.proofs.say_cells.Tie as tie
 
 -- invariant: no more cells are written than there are
-abbrev invariant_loop : tie.invariant_loop
+abbrev invariant_loop : tie.invariant-loop
 invariant_loop codes lefts rights count from₀ from = from ≤ count
 
-abbrev decreases_loop : tie.decreases_loop
+abbrev decreases_loop : tie.decreases-loop
 decreases_loop codes lefts rights count from₀ from = count - from
 
 took : (c : tie.After-cell-lines invariant_loop decreases_loop)

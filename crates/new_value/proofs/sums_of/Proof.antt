@@ -11,10 +11,10 @@ use Rattle.new_value.proofs.sums_of.Statement.{statement}
 use Rattle.new_value.proofs.sums_of.Tie as tie
 
 -- invariant: `sum` and `top` are the sum and the tallest of the first i children
-abbrev invariant_loop : tie.invariant_loop
+abbrev invariant_loop : tie.invariant-loop
 invariant_loop facts ks sum₀ top₀ i₀ sum top i = (i ≤ cube_kids) × (sum + i ≤ 2 ^ 32 * i) × (sum ≡ sum_for i (fact_of facts) ks) × (top ≡ top_for (fact_of facts) ks i)
 
-abbrev decreases_loop : tie.decreases_loop
+abbrev decreases_loop : tie.decreases-loop
 decreases_loop facts ks sum₀ top₀ i₀ sum top i = cube_kids - i
 
 pub sums_of_spec : {M : Type 1} → statement M

@@ -7,6 +7,6 @@ use Rattle.paths.proofs.low_bits.Tie as tie
 pub low_bits_spec : {M : Type 1} → statement M
 low_bits_spec =
     tie.close
-    (tie.spec (λ c κs. search rules) (λ c. and_le_r c.before.magnitude.result 1023)
-    (λ c. low_below _ c.before.before.ranges.x c.if1.true _ c.before.magnitude.ensures)
-    (λ c. low_plain _ c.before.before.ranges.x c.if1.false _ c.before.magnitude.ensures))
+    (tie.spec (λ c κs. search rules) (λ c. and_le_r c.before.magnitude-n.result 1023)
+    (λ c. low_below _ c.before.before.ranges.x c.if-x-lt0.true _ c.before.magnitude-n.ensures)
+    (λ c. low_plain _ c.before.before.ranges.x c.if-x-lt0.false _ c.before.magnitude-n.ensures))

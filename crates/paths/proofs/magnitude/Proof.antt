@@ -5,6 +5,6 @@ use Rattle.paths.proofs.magnitude.Tie as tie
 pub magnitude_spec : {M : Type 1} → statement M
 magnitude_spec =
     tie.close
-    (tie.spec (λ c. turn_fits _ c.before.ranges.x c.if1.true) (λ c. turn_cast _ c.before.ranges.x c.if1.true)
-    (λ c. turn_mag _ c.before.ranges.x c.if1.true) (λ c. plain_cast _ c.before.ranges.x c.if1.false)
-    (λ c. plain_mag _ c.before.ranges.x c.if1.false))
+    (tie.spec (λ c. turn_fits _ c.before.ranges.x c.if-x-lt0.true) (λ c. turn_cast _ c.before.ranges.x c.if-x-lt0.true)
+    (λ c. turn_mag _ c.before.ranges.x c.if-x-lt0.true) (λ c. plain_cast _ c.before.ranges.x c.if-x-lt0.false)
+    (λ c. plain_mag _ c.before.ranges.x c.if-x-lt0.false))

@@ -8,4 +8,4 @@ octant_spec =
     tie.close
     (tie.spec (λ c. search rules) (λ c. search rules) (λ c. search rules) (λ c. search rules) (λ c. search rules)
     (λ c. search rules) (λ c. search rules) (λ c. search rules) (λ c. octant_sum _ _ _ _)
-    (λ c. octant_past _ _ _ _ c.if1.false c.before.ranges.x c.before.ranges.y c.before.ranges.z))
+    (λ c. octant_past _ _ _ _ c.if-b-lt32.false c.before.ranges.x c.before.ranges.y c.before.ranges.z))

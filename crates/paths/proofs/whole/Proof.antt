@@ -6,5 +6,5 @@ use Rattle.paths.proofs.whole.Tie as tie
 pub whole_spec : {M : Type 1} → statement M
 whole_spec =
     tie.close
-    (tie.spec (λ c. whole_below _ c.before.ranges.x c.if1.true) (λ c κs. search rules)
-    (λ c. whole_plain _ c.before.before.ranges.x c.before.if1.false _ c.magnitude.ensures))
+    (tie.spec (λ c. whole_below _ c.before.ranges.x c.if-x-lt0.true) (λ c κs. search rules)
+    (λ c. whole_plain _ c.before.before.ranges.x c.before.if-x-lt0.false _ c.magnitude.ensures))

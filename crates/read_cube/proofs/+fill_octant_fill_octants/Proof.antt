@@ -50,8 +50,8 @@ invariant_loop kids facts cube₀ id at left h row plane s c₀ cube c =
 abbrev decreases_loop : fill-octants-lts.decreases_loop
 decreases_loop kids facts cube₀ id at left h row plane s c₀ cube c = 8 - c
 
-pub +fill-octant-fill-octants-spec : {M : Type 1} → statement M
-+fill-octant-fill-octants-spec = close μ_one μ_all (λ t. fill-octant-lts.spec (
+pub +fill_octant_fill_octants_spec : {M : Type 1} → statement M
++fill_octant_fill_octants_spec = close μ_one μ_all (λ t. fill-octant-lts.spec (
   value-reads.Asked,
   value-reads.Learnt,
   fill-leaf-reads.Asked,

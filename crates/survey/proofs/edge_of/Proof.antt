@@ -9,10 +9,10 @@ use Rattle.survey.proofs.edge_of.Statement.{statement}
 use Rattle.survey.proofs.edge_of.Tie as tie
 
 -- invariant: the first i bytes are digits and say k
-abbrev invariant_loop : tie.invariant_loop
+abbrev invariant_loop : tie.invariant-loop
 invariant_loop text k₀ i₀ k i = (i ≤ length text) × (k ≤ too_fine) × (edge_after k (drop i text) ≡ edge_of text)
 
-abbrev decreases_loop : tie.decreases_loop
+abbrev decreases_loop : tie.decreases-loop
 decreases_loop text k₀ i₀ k i = length text - i
 
 pub edge_of_spec : {M : Type 1} → statement M

@@ -7,10 +7,10 @@ use Rattle.survey.proofs.fill.Statement.{statement}
 use Rattle.survey.proofs.fill.Tie as tie
 
 -- invariant: what was read fits the block, which keeps its length
-abbrev invariant_loop : tie.invariant_loop
+abbrev invariant_loop : tie.invariant-loop
 invariant_loop fd block₀ len₀ block len = (len ≤ length block₀) × (length block ≡ length block₀)
 
-abbrev decreases_loop : tie.decreases_loop
+abbrev decreases_loop : tie.decreases-loop
 decreases_loop fd block₀ len₀ block len = length block₀ - len
 
 pub fill_spec : {M : Type 1} → statement M

@@ -6,11 +6,11 @@ use Rattle.survey.proofs.list_blocks.Statement.{statement}
 use Rattle.survey.proofs.list_blocks.Tie as tie
 
 -- invariant: the tables keep their lengths
-abbrev invariant_loop : tie.invariant_loop
+abbrev invariant_loop : tie.invariant-loop
 invariant_loop fd kids₀ facts₀ find₀ k run₀ left₀ kids facts find run left =
     (length kids ≡ length kids₀) × (length facts ≡ length facts₀) × (length find ≡ length find₀)
 
-abbrev decreases_loop : tie.decreases_loop
+abbrev decreases_loop : tie.decreases-loop
 decreases_loop fd kids₀ facts₀ find₀ k run₀ left₀ kids facts find run left = left
 
 pub list_blocks_spec : {M : Type 1} → statement M

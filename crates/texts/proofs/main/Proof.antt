@@ -5,10 +5,10 @@ use Rattle.texts.proofs.main.Statement.{statement}
 use Rattle.texts.proofs.main.Tie as tie
 
 -- invariant: nothing is kept from one record to the next; `left` falls
-abbrev invariant_loop : tie.invariant_loop
+abbrev invariant_loop : tie.invariant-loop
 invariant_loop left₀ left = Unit {0}
 
-abbrev decreases_loop : tie.decreases_loop
+abbrev decreases_loop : tie.decreases-loop
 decreases_loop left₀ left = left
 
 loop_holds : tie.Need-loop-init invariant_loop decreases_loop
