@@ -1,12 +1,11 @@
 // The finding table: which slot has a content. See specs/Content.antt and specs/Cells.antt.
 #![tactic(auto)]
 
-ghost use Rattle.std.specs.Prelude.{◌≡◌, ◌%◌, ◌≤◌, eqb, get_or, set};
-ghost use Rattle.basics.specs.Pick.{pick};
+ghost use Rattle.std.specs.Prelude.{◌≡◌, ◌%◌, eqb, get_or, set};
 ghost use Rattle.nodes.specs.Words.{kid_of, fact_of};
 ghost use Rattle.nodes.specs.Lent.{words_in};
 ghost use Rattle.find.specs.Content.{agree, leaf_is, kids_are};
-ghost use Rattle.find.specs.Cells.{stops, leaf_cell, kids_cell, probe};
+ghost use Rattle.find.specs.Cells.{leaf_cell, kids_cell, probe};
 
 use basics::{KID_WORDS, Kids};
 use find_hash::home_in;
@@ -50,28 +49,11 @@ pub fn put_cell(find: &mut [u16], at: usize, s: usize)
 
 // ---- the search for a number
 
-// 1 if a cell with x is passed by in the search for the number s, 0 if the search ends there.
-fn step_past(x: usize, s: usize) -> usize
-    ensures { (result ≡ pick (stops (eqb s) x) 0 1) × (result ≤ 1) }
-{
-    if x == 0 {
-        return 0;
-    }
-    if s == x {
-        return 0;
-    }
-    1
-}
-
-// The first cell from `from` on that is empty or names s, or the table's end. (The first cell is passed by without a jump: in a full arena one home in four is
-// taken, and which one is no processor's guess.)
+// The first cell from `from` on that is empty or names s, or the table's end.
 pub fn number_from(find: &[u16], s: usize, from: usize) -> usize
     ensures { result ≡ probe (eqb s) find.now from }
 {
-    if find.len() <= from {
-        return from;
-    }
-    let mut i = from + step_past(cell(find, from), s);
+    let mut i = from;
     while i < find.len() {
         let x = cell(find, i);
         if x == 0 {

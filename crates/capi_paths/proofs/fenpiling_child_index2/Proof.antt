@@ -8,12 +8,12 @@ use Rattle.capi_paths.proofs.Kept.{kept}
 use Rattle.capi_paths.proofs.fenpiling_child_index2.Statement.{statement}
 use Rattle.capi_paths.proofs.fenpiling_child_index2.Tie as tie
 
-child_index2_requires : tie.Need-child-index2-requires
+child_index2_requires : tie.Need-child_index2-child-requires
 child_index2_requires c κs = search rules
 
 returns : tie.Need-returns
 returns c =
-    let e = c.child-index2.ensures ∙ ap (λ (p : IVec3). child_index_of p c.before.args.current c.before.args.max) (kept _ _ _ c.before.ranges.x c.before.ranges.y c.before.ranges.z) in
+    let e = c.child_index2-child.ensures ∙ ap (λ (p : IVec3). child_index_of p c.before.args.current c.before.args.max) (kept _ _ _ c.before.ranges.x c.before.ranges.y c.before.ranges.z) in
     (ap (λ (d : ChildIndex). d.no) e, ap (λ (d : ChildIndex). d.index) e)
 
 pub fenpiling_child_index2_spec : {M : Type 1} → statement M

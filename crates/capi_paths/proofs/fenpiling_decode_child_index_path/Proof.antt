@@ -6,13 +6,13 @@ use Rattle.capi_paths.proofs.Kept.{kept}
 use Rattle.capi_paths.proofs.fenpiling_decode_child_index_path.Statement.{statement}
 use Rattle.capi_paths.proofs.fenpiling_decode_child_index_path.Tie as tie
 
-decode_child_index_path_requires : tie.Need-decode-child-index-path-requires
+decode_child_index_path_requires : tie.Need-decode_child_index_path-cell-requires
 decode_child_index_path_requires c κs = search rules
 
 returns : tie.Need-returns
 returns c = (
-  ap (λ (d : Decoded). d.no) c.before.before.decode-child-index-path.ensures,
-  kept _ _ _ (search rules) (search rules) (search rules) ∙ ap (λ (d : Decoded). d.position) c.before.before.decode-child-index-path.ensures,
+  ap (λ (d : Decoded). d.no) c.before.before.decode_child_index_path-cell.ensures,
+  kept _ _ _ (search rules) (search rules) (search rules) ∙ ap (λ (d : Decoded). d.position-1) c.before.before.decode_child_index_path-cell.ensures,
 )
 
 pub fenpiling_decode_child_index_path_spec : {M : Type 1} → statement M

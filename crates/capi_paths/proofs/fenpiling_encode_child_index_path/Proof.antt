@@ -6,7 +6,7 @@ use Rattle.capi_paths.proofs.Kept.{kept}
 use Rattle.capi_paths.proofs.fenpiling_encode_child_index_path.Statement.{statement}
 use Rattle.capi_paths.proofs.fenpiling_encode_child_index_path.Tie as tie
 
-encode_child_index_path_requires : tie.Need-encode-child-index-path-requires
+encode_child_index_path_requires : tie.Need-encode_child_index_path-requires
 encode_child_index_path_requires c κs = search rules
 
 returns : tie.Need-returns

@@ -1,15 +1,12 @@
 use borrow.Author.Rules.{rules}
 use Prim.Native.Nat.{ℕ, ◌+◌, ◌-◌, ◌≤◌, ◌<◌}
-use mathlib.Core.Path.{◌≡◌, refl, sym, ap, ◌∙◌}
-use mathlib.Core.Bool.{Bool, true, false}
+use mathlib.Core.Path.{◌≡◌, refl, sym, ◌∙◌}
 use mathlib.Core.List.{List}
 use lib.Dec.{eqb}
 use lib.ListN.{length, get_or}
-use native.Mathlib.Omega.{arith}
 use borrow.Author.Tests.{eq-eqb, ne_eqb}
-use Rattle.basics.specs.Pick.{pick}
 use Rattle.find.proofs.number_from.Tie as tie
-use Rattle.find.specs.Cells.{stops, probe}
+use Rattle.find.specs.Cells.{probe}
 use Rattle.find.proofs.Steps.{stops_empty, stops_same, stops_not, probe_end, probe_here, probe_on}
 use Rattle.find.proofs.number_from.Statement.{statement}
 
@@ -26,19 +23,6 @@ module _ (s : ℕ) (t : List ℕ) (h i : ℕ) (e : probe (eqb s) t h ≡ probe (
   hit : (x : ℕ) → i < length t → x ≡ get_or t i 0 → s ≡ x → i ≡ probe (eqb s) t h
   hit x l d q = sym (e ∙ probe_here (eqb s) t i l (stops_same (eqb s) (get_or t i 0) (eq-eqb s (get_or t i 0) (q ∙ d))))
 
--- the first cell is passed by, or ends the search
-first : (s : ℕ) (t : List ℕ) (h x k : ℕ) → h < length t → x ≡ get_or t h 0 → k ≡ pick (stops (eqb s) x) 0 1 → probe (eqb s) t h ≡ probe (eqb s) t (h + k)
-first s t h x k l d e =
-    let y : k ≡ pick (stops (eqb s) (get_or t h 0)) 0 1 = e ∙ ap (λ (z : ℕ). pick (stops (eqb s) z) 0 1) d in
-    rw y (here (stops (eqb s) (get_or t h 0)) refl)
-  where
-    here : (b : Bool) → stops (eqb s) (get_or t h 0) ≡ b → probe (eqb s) t h ≡ probe (eqb s) t (h + pick b 0 1)
-    here true z = let w : h + 0 ≡ h = omega arith in rw w
-    here false z = probe_on (eqb s) t h l z
-
-out : (s : ℕ) (t : List ℕ) (h : ℕ) → length t ≤ h → h ≡ probe (eqb s) t h
-out s t h l = sym (probe_end (eqb s) t h l)
-
 -- invariant: the search for the number from its start ends where one from cell i ends
 abbrev invariant_loop : tie.invariant-loop
 invariant_loop find s from i₀ i = probe (eqb s) find from ≡ probe (eqb s) find i
@@ -49,5 +33,5 @@ decreases_loop find s from i₀ i = length find - i
 pub number_from_spec : {M : Type 1} → statement M
 number_from_spec =
     tie.close
-    (tie.spec invariant_loop decreases_loop (λ c. search out) (λ c κs. search rules) (λ c κs. search rules) (λ c. search rules) (λ c. search first) (λ c κs. search rules) (λ c. search empty)
+    (tie.spec invariant_loop decreases_loop (λ c. refl) (λ c κs. search rules) (λ c. search empty)
     (λ c. search hit) (λ c. search rules) (λ c. search rules) (λ c. search on) (λ c. search end))

@@ -9,10 +9,10 @@ use Rattle.ids_text.proofs.put_hex.Statement.{statement}
 use Rattle.ids_text.proofs.put_hex.Tie as tie
 
 -- invariant: the digits behind `place` are written, and `rest` is the number without them
-abbrev invariant_loop : tie.invariant-loop
+abbrev invariant_loop : tie.invariant-loop-place
 invariant_loop at n v out₀ rest₀ place₀ out rest place = (at ≤ place) × (place ≤ at + n) × (at + n ≤ 41) × (length out ≡ 41) × (rest ≡ v / 16 ^ (at + n - place)) × (out ≡ puts_from out₀ place (hex (at + n - place) v))
 
-abbrev decreases_loop : tie.decreases-loop
+abbrev decreases_loop : tie.decreases-loop-place
 decreases_loop at n v out₀ rest₀ place₀ out rest place = place - at
 
 pub put_hex_spec : {M : Type 1} → statement M

@@ -8,10 +8,10 @@ use Rattle.lines.proofs.put_text.Statement.{statement}
 use Rattle.lines.proofs.put_text.Tie as tie
 
 -- invariant: the first i bytes of the text are written
-abbrev invariant_loop : tie.invariant-loop
+abbrev invariant_loop : tie.invariant-loop-i
 invariant_loop out₀ at text i₀ out i = (i ≤ length text) × (length out ≡ length out₀) × (out ≡ puts_from out₀ at (take i text))
 
-abbrev decreases_loop : tie.decreases-loop
+abbrev decreases_loop : tie.decreases-loop-i
 decreases_loop out₀ at text i₀ out i = length text - i
 
 pub put_text_spec : {M : Type 1} → statement M

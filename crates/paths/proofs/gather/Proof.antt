@@ -7,10 +7,10 @@ use Rattle.paths.proofs.gather.Statement.{statement}
 use Rattle.paths.proofs.gather.Tie as tie
 
 -- invariant: `r` has the first n bits of the axis
-abbrev invariant_loop : tie.invariant-loop
+abbrev invariant_loop : tie.invariant-loop-n
 invariant_loop code axis r₀ n₀ r n = (n ≤ 10) × (r ≡ gather n axis code)
 
-abbrev decreases_loop : tie.decreases-loop
+abbrev decreases_loop : tie.decreases-loop-n
 decreases_loop code axis r₀ n₀ r n = 10 - n
 
 pub gather_spec : {M : Type 1} → statement M
