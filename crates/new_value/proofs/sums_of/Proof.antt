@@ -11,10 +11,10 @@ use Rattle.new_value.proofs.sums_of.Statement.{statement}
 use Rattle.new_value.proofs.sums_of.Tie as tie
 
 -- invariant: `sum` and `top` are the sum and the tallest of the first i children
-abbrev invariant_loop : tie.invariant-loop
+abbrev invariant_loop : tie.invariant-loop-i
 invariant_loop facts ks sum₀ top₀ i₀ sum top i = (i ≤ cube_kids) × (sum + i ≤ 2 ^ 32 * i) × (sum ≡ sum_for i (fact_of facts) ks) × (top ≡ top_for (fact_of facts) ks i)
 
-abbrev decreases_loop : tie.decreases-loop
+abbrev decreases_loop : tie.decreases-loop-i
 decreases_loop facts ks sum₀ top₀ i₀ sum top i = cube_kids - i
 
 pub sums_of_spec : {M : Type 1} → statement M
@@ -25,5 +25,5 @@ sums_of_spec =
     (λ c. search rules)
     (λ c.
     ⊎_elim (λ w. (search rules, search rules, search sum_node, search top_node)) (λ w. (search rules, search rules, search sum_none, search top_none))
-    c.if1.branch)
+    c.if-k-ne0.branch)
     (λ c. search rules) (λ c. search rules) (λ c. (search sum_last, search value_last, search top_last)))
