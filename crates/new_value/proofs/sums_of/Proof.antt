@@ -1,12 +1,12 @@
 use borrow.Author.Rules.{rules}
 use mathlib.Core.Path.{◌≡◌}
-use mathlib.Core.Logic.{⊎_elim}
 use Prim.Native.Nat.{◌+◌, ◌-◌, ◌*◌, ◌^◌, ◌≤◌}
 use Rattle.basics.specs.Limits.{cube_kids}
 use Rattle.nodes.specs.Words.{fact_of}
 use Rattle.arena.specs.Models.{top_for}
 use Rattle.arena.specs.Node.{sum_for}
 use Rattle.new_value.proofs.Steps.{sum_last, value_last, sum_node, sum_none, sum_start, top_last, top_node, top_none, top_start}
+use Rattle.new_value.proofs.sums_of.Lts.{then-k-ne0, else-k-ne0}
 use Rattle.new_value.proofs.sums_of.Statement.{statement}
 use Rattle.new_value.proofs.sums_of.Tie as tie
 
@@ -23,7 +23,8 @@ sums_of_spec =
     (tie.spec invariant_loop decreases_loop (λ c. (search rules, search rules, sum_start _ _, top_start _ _)) (λ c. search rules) (λ c. search rules)
     (λ c κs. search rules) (λ c κs. search rules) (λ c. search rules) (λ c. search rules) (λ c κs. search rules) (λ c κs. search rules) (λ c. search rules)
     (λ c. search rules)
-    (λ c.
-    ⊎_elim (λ w. (search rules, search rules, search sum_node, search top_node)) (λ w. (search rules, search rules, search sum_none, search top_none))
-    c.if-k-ne0.branch)
+    (λ c. elim c.if-k-ne0.branch [
+      | then-k-ne0 w ↦ (search rules, search rules, search sum_node, search top_node)
+      | else-k-ne0 w ↦ (search rules, search rules, search sum_none, search top_none)
+    ])
     (λ c. search rules) (λ c. search rules) (λ c. (search sum_last, search value_last, search top_last)))
