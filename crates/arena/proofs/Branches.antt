@@ -9,7 +9,7 @@ use native.Mathlib.Omega.{arith}
 use lib.Dec.{leb}
 use lib.ListN.{length, get_or}
 use borrow.Author.Tests.{eq-eqb, ne_eqb, leb-true, le-leb}
-use Rattle.nodes.specs.Tally.{Live, occ, same}
+use Rattle.nodes.specs.Tally.{Live, occ}
 use Rattle.nodes.specs.Words.{own, holds, places, mark, entry, Nodes, slot, floor, Words, word_of, put_of}
 use Rattle.nodes.proofs.Access.{SameSize, size_refl, size_trans, put_keeps, put_less}
 use Rattle.nodes.proofs.Counts.{live_same, total_append}

@@ -9,8 +9,8 @@ use native.Mathlib.Omega.{arith}
 use lib.ListN.{get_or}
 use borrow.Author.Tests.{eq-eqb, ne_eqb, lt-ltb, le-ltb}
 use Rattle.ids.specs.Ids.{generation_of}
-use Rattle.nodes.specs.Tally.{kids_of, Live, Free, Freed, occ, same}
-use Rattle.nodes.specs.Words.{own, value, height, spare, hash, holds, places, mark, entry, Nodes, nodes, slot, floor, word_of, put_of, written}
+use Rattle.nodes.specs.Tally.{kids_of, Live, Free, Freed, occ}
+use Rattle.nodes.specs.Words.{own, value, height, spare, hash, holds, places, mark, entry, Nodes, slot, floor, word_of, put_of, written}
 use Rattle.nodes.proofs.Access.{Within, SameSize, put_size, size_trans, within_size, written_size, written_others, written_entry, written_kid, written_own, written_fact, put_same, put_slot, put_field, put_keeps, written_kept}
 use Rattle.nodes.proofs.Counts.{floor_pos, Others, Counts, recycle_counts, kid_occ, total_append, total_cons}
 use Rattle.nodes.proofs.Frame.{Frame, frame_refl, frame_trans, frame_low}

@@ -9,7 +9,7 @@ use borrow.Author.Tests.{leb-true, eqb-true, le-leb, eq-eqb, lt-ltb, ltb-true, n
 use Rattle.basics.specs.Pick.{pick}
 use Rattle.basics.proofs.Rungs.{pick_no, past_no, past_yes}
 use Rattle.nodes.specs.Tally.{Live}
-use Rattle.nodes.specs.Words.{own, holds, nodes, slot, floor}
+use Rattle.nodes.specs.Words.{own, holds, slot, floor}
 use Rattle.nodes.proofs.Sums.{split}
 use Rattle.arena.specs.Calls.{fit_of, fits, room_of, live_of, of_id, there_no, full_of, hold_no, release_no}
 use Rattle.arena.specs.Tables.{State, live_in, Tables, cap, Sized, W}

@@ -6,8 +6,8 @@ use Prim.Native.Nat.{ℕ, suc, ◌+◌, ◌/◌, ◌%◌, ◌^◌, ◌≤◌, �
 use native.Mathlib.Decide.{ℕ_discrete, dec_lt}
 use native.Mathlib.Omega.{arith}
 use Rattle.ids.specs.Ids.{generation_of}
-use Rattle.nodes.specs.Tally.{kids_of, Live, Free, Freed, occ, same}
-use Rattle.nodes.specs.Words.{own, value, height, sum, spare, hash, holds, places, mark, entry, nodes, slot, floor, Words, word_of, Nodes}
+use Rattle.nodes.specs.Tally.{kids_of, Live, Free, Freed, occ}
+use Rattle.nodes.specs.Words.{own, value, height, sum, spare, hash, holds, places, mark, entry, slot, floor, Words, word_of, Nodes}
 use Rattle.nodes.proofs.Access.{SameSize, Within}
 use Rattle.nodes.proofs.Counts.{Others, kids_same, Counts, move_counts, counts_debt, drop_empty, live_same, kid_live, kid_occ}
 use Rattle.nodes.proofs.Frame.{Frame}

@@ -2,7 +2,7 @@
 use Prim.Native.Nat.{ℕ}
 use mathlib.Core.Path.{◌≡◌}
 use mathlib.Core.List.{List}
-use Rattle.nodes.specs.Words.{Nodes, nodes}
+use Rattle.nodes.specs.Words.{Nodes}
 use Rattle.arena.specs.Calls.{said}
 use Rattle.arena.specs.Tables.{State, tables_of, Tables}
 

@@ -10,8 +10,8 @@ use native.Mathlib.Omega.{arith}
 use lib.ListN.{length}
 use borrow.Author.Tests.{eq-eqb, ne_eqb, lt-ltb, le-ltb}
 use Rattle.ids.specs.Ids.{generation_of}
-use Rattle.nodes.specs.Tally.{kids_of, Live, occ, same, Under, here, down}
-use Rattle.nodes.specs.Words.{own, height, hash, holds, places, mark, entry, Nodes, nodes, written, slot, floor, Words, word_of, put_of}
+use Rattle.nodes.specs.Tally.{kids_of, Live, occ, Under, here, down}
+use Rattle.nodes.specs.Words.{own, height, hash, holds, places, mark, entry, Nodes, written, slot, floor, Words, word_of, put_of}
 use Rattle.nodes.proofs.Access.{Within, put_size, size_trans, within_size, written_over, put_same, put_slot, put_field, put_keeps, put_put, put_word, put_less}
 use Rattle.nodes.proofs.Counts.{floor_pos, kids_same, Counts, live_same, total_bound}
 use Rattle.nodes.proofs.Frame.{Frame, lives_iff}

@@ -5,7 +5,7 @@ use Rattle.basics.specs.Pick.{pick}
 use Rattle.ids.specs.Ids.{empty, invalid, is_leaf, generation_of}
 use Rattle.nodes.specs.Tally.{occ, kids_of}
 use Rattle.ids.specs.declared.BlockId.{BlockId}
-use Rattle.nodes.specs.Words.{Nodes, nodes, Words, word_of, put_of, written, own, value, holds, places, entry, slot, floor}
+use Rattle.nodes.specs.Words.{Nodes, Words, word_of, put_of, written, own, value, holds, places, entry, slot, floor}
 use Rattle.find_hash.specs.Hash.{leaf_hash, kids_hash, home_in}
 use Rattle.find.specs.Cells.{insert_at, remove}
 use Rattle.find.specs.Content.{agree, home_at}

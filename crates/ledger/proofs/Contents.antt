@@ -1,6 +1,6 @@
 -- At most one live node of each content, and what interning answers: the live node of the content asked for if there is one, else a fresh one.
 -- Hash equality is never enough: no answer depends on it.
-use mathlib.Core.Path.{◌≡◌, refl, sym, ap, ◌∙◌, subst}
+use mathlib.Core.Path.{◌≡◌, refl, sym, ap, ◌∙◌}
 use mathlib.Core.Bool.{false}
 use mathlib.Core.List.{List}
 use Prim.Native.Nat.{ℕ, ◌≤◌, ◌<◌}
@@ -9,14 +9,14 @@ use lib.ListN.{length, get_or}
 use Rattle.nodes.specs.Tally.{kids_of}
 use Rattle.nodes.specs.Words.{own, value, slot}
 use Rattle.nodes.proofs.Counts.{kids_same, live_inj}
-use Rattle.arena.specs.Calls.{Out, empties, leaf_slot, leaf_made, intern_leaf_of, held_at, none_of, unheld, branch_slot, branch_made, intern_branch_of}
+use Rattle.arena.specs.Calls.{Out, empties, leaf_slot, leaf_made, intern_leaf_of, none_of, unheld, branch_slot, branch_made, intern_branch_of}
 use Rattle.arena.specs.Node.{value_for}
 use Rattle.arena.specs.Tables.{Tables, tables_of, W, WellFormed}
 use Rattle.arena.proofs.Fits.{room_yes}
 use Rattle.ledger.specs.Fates.{Lives, Grew, HasContent, Interned}
 use Rattle.ledger.proofs.Balance.{leaf_has, branch_has, branch_held_grew}
 use Rattle.ledger.proofs.Found.{kid_word, kids_length, lives_slot, leaf_found_lem, leaf_missing, value_of, branch_found, branch_missing}
-use Rattle.ledger.proofs.Ladders.{Fine, branch_held, leaf_ways, branch_ways}
+use Rattle.ledger.proofs.Ladders.{Fine, leaf_ways, branch_ways}
 use Rattle.ledger.proofs.Writes.{held_grew, held_arena}
 
 module _ {n tallest : ℕ} {t : Tables} (m : n ≤ 8) (w : WellFormed n tallest t) where

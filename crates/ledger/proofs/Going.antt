@@ -11,7 +11,7 @@ use Rattle.nodes.specs.Words.{own, holds, slot, floor, word_of}
 use Rattle.nodes.proofs.Counts.{Counts, live_same, kid_live, live_own, tally_pos, occ_bare, kids_fewer}
 use Rattle.nodes.proofs.Frame.{total_nil, frame_refl, lives_iff}
 use Rattle.nodes.proofs.Sums.{cases}
-use Rattle.arena.specs.Calls.{Out, held_at, leaf_slot, intern_leaf_of, hold_of, release_of, less_of, takes, branch_slot, intern_branch_of, unheld, placed}
+use Rattle.arena.specs.Calls.{Out, held_at, leaf_slot, intern_leaf_of, hold_of, release_of, less_of, branch_slot, intern_branch_of, unheld}
 use Rattle.arena.specs.Tables.{Tables, tables_of, cap, W, LiveSlot, WellFormed}
 use Rattle.arena.proofs.Fits.{live_is, room_yes}
 use Rattle.arena.proofs.Ids.{node_low}

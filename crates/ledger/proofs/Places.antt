@@ -1,13 +1,12 @@
 -- The places of a node are the child places of live branches that name it: dead slots and leaves have EMPTY children.
-use mathlib.Core.Path.{◌≡◌, sym, ◌∙◌}
+use mathlib.Core.Path.{◌≡◌, ◌∙◌}
 use mathlib.Core.Logic.{◌≢◌}
-use mathlib.Core.Bool.{true, false}
-use Prim.Native.Nat.{ℕ, ◌≤◌, ◌<◌}
+use Prim.Native.Nat.{ℕ, ◌≤◌}
 use native.Mathlib.Decide.{dec_lt}
 use native.Mathlib.Omega.{arith}
 use borrow.Author.Tests.{le-leb, lt-leb}
 use Rattle.ids.specs.Ids.{is_leaf}
-use Rattle.nodes.specs.Tally.{kids_of, occ, tally, tally_live}
+use Rattle.nodes.specs.Tally.{tally, tally_live}
 use Rattle.nodes.specs.Words.{own, floor}
 use Rattle.nodes.proofs.Counts.{live_nonzero, occ_bare}
 use Rattle.nodes.proofs.Sums.{cases, split, sum_to_ext_lem}

@@ -8,7 +8,7 @@ use native.Mathlib.Nat.{lt_of_le_of_lt, eq-or-lt_of_le, le_of_suc-le-suc}
 use native.Mathlib.Omega.{arith}
 use lib.Dec.{eqb, ltb, lit<}
 use borrow.Author.Tests.{ltb-true, ltb-false, eqb-true}
-use lib.Bits.{bit_and, bit_or, and_le_r}
+use lib.Bits.{bit_or, and_le_r}
 use Rattle.basics.specs.Bits.{bit}
 use Rattle.basics.specs.Pick.{pick}
 use Rattle.paths.specs.Models.{Stage, stage, run, last, earlier, stages}
