@@ -158,7 +158,7 @@ pub fn all_empty(ids: Kids) -> bool
 
 // Refusals 1 and 4 of a call that is handed an id: the tables are not sized, or the id is neither EMPTY nor live.
 pub fn there_no(a: Arena, kids: &[u64], facts: &[u32], find: &[u16], id: u64) -> u32
-    ensures { result ≡ there_no (before a kids facts find) id }
+    ensures { result ≡ there_no (before a kids.now facts.now find.now) id }
 {
     if fit(a.capacity, kids.len(), facts.len(), find.len()) {
         if is_live_or_empty(a.capacity, facts, id) {

@@ -216,7 +216,7 @@ fn branch_new(
     at: usize,
 ) -> Made
     requires { (sums.top < deepest) × (k ≡ kids_hash ks) }
-    ensures { made a result kids facts find ≡ branch_new_by (before a kids facts find) ks sums.value sums.top (sums.sum % 2 ^ 32) at }
+    ensures { made a result kids.new facts.new find.new ≡ branch_new_by (before a kids.old facts.old find.old) ks sums.value sums.top (sums.sum % 2 ^ 32) at }
 {
     let sum = (sums.sum % 0x1_0000_0000) as u32;
     bump_all(facts, PLACES, ks);
@@ -251,7 +251,7 @@ fn branch_take(
     at: usize,
 ) -> Made
     requires { (sums.sum ≡ pick (eqb s 0) (sum_for cube_kids (fact_of facts.old) ks) 0) × (sums.value ≡ pick (eqb s 0) (value_for cube_kids (fact_of facts.old) ks) 0) × (sums.top ≡ pick (eqb s 0) (top_for (fact_of facts.old) ks cube_kids) 0) × (sums.top < deepest) × (k ≡ kids_hash ks) }
-    ensures { made a result kids facts find ≡ branch_take_by cube_kids (before a kids facts find) ks s at }
+    ensures { made a result kids.new facts.new find.new ≡ branch_take_by cube_kids (before a kids.old facts.old find.old) ks s at }
 {
     if !take_holds(facts, ks) {
         return refuse(a, 5);
@@ -274,7 +274,7 @@ fn branch_at(
     at: usize,
 ) -> Made
     requires { k ≡ kids_hash ks }
-    ensures { made a result kids facts find ≡ branch_at cube_kids deepest (before a kids facts find) ks s at }
+    ensures { made a result kids.new facts.new find.new ≡ branch_at cube_kids deepest (before a kids.old facts.old find.old) ks s at }
 {
     if !lives(a.capacity, facts, ks, s) {
         return refuse(a, 4);
@@ -289,7 +289,7 @@ fn branch_at(
 
 // The branch of these children: it is searched for first, since where it is there nothing of them but their holds has to be looked at.
 fn branch(a: Arena, kids: &mut [u64], facts: &mut [u32], find: &mut [u16], ks: Kids) -> Made
-    ensures { made a result kids facts find ≡ branch_by cube_kids deepest (before a kids facts find) ks }
+    ensures { made a result kids.new facts.new find.new ≡ branch_by cube_kids deepest (before a kids.old facts.old find.old) ks }
 {
     let k = kids_hash(ks);
     let f = search(find, kids, facts, a.capacity, k, ks);
@@ -298,7 +298,7 @@ fn branch(a: Arena, kids: &mut [u64], facts: &mut [u32], find: &mut [u16], ks: K
 
 // Intern branch on any tables. Refusals 1 and 7 first: of eight EMPTY ids neither 4 nor 5 can apply.
 fn branch_any(a: Arena, kids: &mut [u64], facts: &mut [u32], find: &mut [u16], ks: Kids) -> Made
-    ensures { made a result kids facts find ≡ intern_branch_by cube_kids deepest (before a kids facts find) ks }
+    ensures { made a result kids.new facts.new find.new ≡ intern_branch_by cube_kids deepest (before a kids.old facts.old find.old) ks }
 {
     if fit(a.capacity, kids.len(), facts.len(), find.len()) {
         if all_empty(ks) {
@@ -327,7 +327,7 @@ pub fn intern_branch(
     find: &mut [u16],
     children: [BlockId; KID_WORDS],
 ) -> Made
-    ensures { Fair cube_kids deepest (before arena kids facts find) → made arena result kids facts find ≡ intern_branch_of cube_kids deepest (before arena kids facts find) (raw_ids children) }
+    ensures { Fair cube_kids deepest (before arena kids.old facts.old find.old) → made arena result kids.new facts.new find.new ≡ intern_branch_of cube_kids deepest (before arena kids.old facts.old find.old) (raw_ids children) }
 {
     branch_any(arena, kids, facts, find, raw_ids(children))
 }

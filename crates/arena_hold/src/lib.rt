@@ -12,7 +12,7 @@ use nodes::{HOLDS, PLACES, fact};
 
 // Hold: the caller gets one hold more. EMPTY: nothing.
 pub fn hold(arena: Arena, kids: &[u64], facts: &mut [u32], find: &[u16], id: BlockId) -> Answer
-    ensures { answered arena result kids facts find ≡ hold_of (before arena kids facts find) id.0 }
+    ensures { answered arena result kids.now facts.new find.now ≡ hold_of (before arena kids.now facts.old find.now) id.0 }
 {
     let raw = id.0;
     let no = there_no(arena, kids, facts, find, raw);
@@ -44,7 +44,7 @@ pub fn hold(arena: Arena, kids: &[u64], facts: &mut [u32], find: &[u16], id: Blo
 
 // Counts: the holds and the places of a node.
 pub fn counts(arena: Arena, kids: &[u64], facts: &[u32], find: &[u16], id: BlockId) -> Counted
-    ensures { counted result ≡ counts_of (before arena kids facts find) id.0 }
+    ensures { counted result ≡ counts_of (before arena kids.now facts.now find.now) id.0 }
 {
     let raw = id.0;
     let no = there_no(arena, kids, facts, find, raw);

@@ -60,7 +60,7 @@ fn leaf(a: Arena, facts: &mut [u32], find: &mut [u16], v: u32) -> Made
 
 // Intern leaf on any tables.
 fn leaf_any(a: Arena, kids: &mut [u64], facts: &mut [u32], find: &mut [u16], value: u16) -> Made
-    ensures { made a result kids facts find ≡ intern_leaf_by (before a kids facts find) value }
+    ensures { made a result kids.new facts.new find.new ≡ intern_leaf_by (before a kids.old facts.old find.old) value }
 {
     if fit(a.capacity, kids.len(), facts.len(), find.len()) {
         if value == 0 {
@@ -87,7 +87,7 @@ pub fn intern_leaf(
     find: &mut [u16],
     value: u16,
 ) -> Made
-    ensures { (n tallest : ℕ) → n ≤ kid_words → Fair n tallest (before arena kids facts find) → made arena result kids facts find ≡ intern_leaf_of (before arena kids facts find) value }
+    ensures { (n tallest : ℕ) → n ≤ kid_words → Fair n tallest (before arena kids.old facts.old find.old) → made arena result kids.new facts.new find.new ≡ intern_leaf_of (before arena kids.old facts.old find.old) value }
 {
     leaf_any(arena, kids, facts, find, value)
 }

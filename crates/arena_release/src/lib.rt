@@ -80,7 +80,7 @@ fn drop_slot(
     s: usize,
     levels: u32,
 ) -> u64
-    ensures { after_in (state_in capacity result) kids facts find ≡ drop_slot levels (before_in (state_in capacity slots) kids facts find) s }
+    ensures { after_in (state_in capacity result) kids.new facts.new find.new ≡ drop_slot levels (before_in (state_in capacity slots) kids.old facts.old find.old) s }
 {
     let up = fact(facts, s, HEIGHT);
     let gone = recycle(capacity, slots, facts, find, s);
@@ -106,7 +106,7 @@ fn drop_all(
     ids: Kids,
     levels: u32,
 ) -> u64
-    ensures { after_in (state_in capacity result) kids facts find ≡ each (drop_place gone_by (levels + 1)) (before_in (state_in capacity slots) kids facts find) ids }
+    ensures { after_in (state_in capacity result) kids.new facts.new find.new ≡ each (drop_place gone_by (levels + 1)) (before_in (state_in capacity slots) kids.old facts.old find.old) ids }
 {
     let mut gone = slots;
     let mut i: usize = 0;
@@ -129,7 +129,7 @@ fn take_hold(
     find: &mut [u16],
     id: u64,
 ) -> u64
-    ensures { after_in (state_in capacity result) kids facts find ≡ release_by deepest (before_in (state_in capacity slots) kids facts find) id }
+    ensures { after_in (state_in capacity result) kids.new facts.new find.new ≡ release_by deepest (before_in (state_in capacity slots) kids.old facts.old find.old) id }
 {
     let s = slot_of(id);
     settle(facts, s);
@@ -141,7 +141,7 @@ fn take_hold(
 
 // Release on any tables. Refusals 1, 4 and 5; EMPTY: nothing. Where another hold is left the node stays, whatever its places.
 fn release_any(a: Arena, kids: &mut [u64], facts: &mut [u32], find: &mut [u16], id: u64) -> Answer
-    ensures { answered a result kids facts find ≡ release_any deepest (before a kids facts find) id }
+    ensures { answered a result kids.new facts.new find.new ≡ release_any deepest (before a kids.old facts.old find.old) id }
 {
     let no = there_no(a, kids, facts, find, id);
     if no != 0 {
@@ -186,7 +186,7 @@ pub fn release(
     find: &mut [u16],
     id: BlockId,
 ) -> Answer
-    ensures { (n tallest : ℕ) → n ≤ kid_words → tallest ≤ deepest → Fair n tallest (before arena kids facts find) → answered arena result kids facts find ≡ release_of tallest (before arena kids facts find) id.0 }
+    ensures { (n tallest : ℕ) → n ≤ kid_words → tallest ≤ deepest → Fair n tallest (before arena kids.old facts.old find.old) → answered arena result kids.new facts.new find.new ≡ release_of tallest (before arena kids.old facts.old find.old) id.0 }
 {
     release_any(arena, kids, facts, find, id.0)
 }

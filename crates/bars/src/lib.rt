@@ -38,8 +38,8 @@ fn next(
     position: IVec3,
     value: u16,
 ) -> Made
-    ensures { Fair cube_kids deepest (before a kids facts find)
-        → made a result kids facts find ≡ next_of (before a kids facts find) root.0 depth position value }
+    ensures { Fair cube_kids deepest (before a kids.old facts.old find.old)
+        → made a result kids.new facts.new find.new ≡ next_of (before a kids.old facts.old find.old) root.0 depth position value }
 {
     let answer = edit::set_voxel(a, kids, facts, find, root, depth, position, value);
     let edited = Arena {
@@ -70,7 +70,7 @@ fn onward(
     value: u16,
 ) -> Made
     requires { x + more < 2 ^ 31 }
-    ensures { Fair cube_kids deepest (before_in (state_in capacity first.slots) kids facts find)
+    ensures { Fair cube_kids deepest (before_in (state_in capacity first.slots) kids.old facts.old find.old)
         → made_of capacity result kids.new facts.new find.new ≡ on_of depth y z value (made_of capacity first kids.old facts.old find.old) x more }
 {
     let mut last = first;
@@ -107,8 +107,8 @@ pub fn set_bar(
     more: u16,
     value: u16,
 ) -> Made
-    ensures { Fair cube_kids deepest (before arena kids facts find)
-        → made arena result kids facts find ≡ bar_of (before arena kids facts find) root.0 depth y z x more value }
+    ensures { Fair cube_kids deepest (before arena kids.old facts.old find.old)
+        → made arena result kids.new facts.new find.new ≡ bar_of (before arena kids.old facts.old find.old) root.0 depth y z x more value }
 {
     let position = cell(x as u32, y, z);
     let first = edit::set_voxel(arena, kids, facts, find, root, depth, position, value);

@@ -36,7 +36,7 @@ pub fn fenpiling_intern_leaf(
     find: &mut [u16],
     value: u16,
 ) -> Made
-    ensures { (n tallest : ℕ) → n ≤ kid_words → Fair n tallest (before arena kids facts find) → made arena result kids facts find ≡ intern_leaf_of (before arena kids facts find) value }
+    ensures { (n tallest : ℕ) → n ≤ kid_words → Fair n tallest (before arena kids.old facts.old find.old) → made arena result kids.new facts.new find.new ≡ intern_leaf_of (before arena kids.old facts.old find.old) value }
 {
     arena_leaf::intern_leaf(arena, kids, facts, find, value)
 }
@@ -48,7 +48,7 @@ pub fn fenpiling_intern_branch(
     find: &mut [u16],
     children: Children,
 ) -> Made
-    ensures { Fair cube_kids deepest (before arena kids facts find) → made arena result kids facts find ≡ intern_branch_of cube_kids deepest (before arena kids facts find) (raw_ids children.ids) }
+    ensures { Fair cube_kids deepest (before arena kids.old facts.old find.old) → made arena result kids.new facts.new find.new ≡ intern_branch_of cube_kids deepest (before arena kids.old facts.old find.old) (raw_ids children.ids) }
 {
     let ids = children.ids;
     arena_branch::intern_branch(arena, kids, facts, find, ids)
@@ -61,7 +61,7 @@ pub fn fenpiling_hold(
     find: &[u16],
     id: u64,
 ) -> Answer
-    ensures { answered arena result kids facts find ≡ hold_of (before arena kids facts find) id }
+    ensures { answered arena result kids.now facts.new find.now ≡ hold_of (before arena kids.now facts.old find.now) id }
 {
     arena_hold::hold(arena, kids, facts, find, BlockId(id))
 }
@@ -73,13 +73,13 @@ pub fn fenpiling_release(
     find: &mut [u16],
     id: u64,
 ) -> Answer
-    ensures { (n tallest : ℕ) → n ≤ kid_words → tallest ≤ deepest → Fair n tallest (before arena kids facts find) → answered arena result kids facts find ≡ release_of tallest (before arena kids facts find) id }
+    ensures { (n tallest : ℕ) → n ≤ kid_words → tallest ≤ deepest → Fair n tallest (before arena kids.old facts.old find.old) → answered arena result kids.new facts.new find.new ≡ release_of tallest (before arena kids.old facts.old find.old) id }
 {
     arena_release::release(arena, kids, facts, find, BlockId(id))
 }
 
 pub fn fenpiling_counts(arena: Arena, kids: &[u64], facts: &[u32], find: &[u16], id: u64) -> Counted
-    ensures { counted result ≡ counts_of (before arena kids facts find) id }
+    ensures { counted result ≡ counts_of (before arena kids.now facts.now find.now) id }
 {
     arena_hold::counts(arena, kids, facts, find, BlockId(id))
 }

@@ -22,7 +22,7 @@ pub fn fenpiling_compare(
     lefts: &mut [u16],
     rights: &mut [u16],
 ) -> Compared
-    ensures { compared result codes.new lefts.new rights.new ≡ compare_of (before arena kids facts find) left right depth codes.old lefts.old rights.old }
+    ensures { compared result codes.new lefts.new rights.new ≡ compare_of (before arena kids.now facts.now find.now) left right depth codes.old lefts.old rights.old }
 {
     compare::compare(
         arena,

@@ -16,7 +16,7 @@ use paths::IVec3;
 use read_cell::Looked;
 
 pub fn fenpiling_check(arena: Arena, kids: &[u64], facts: &mut [u32], find: &[u16]) -> bool
-    ensures { ((result ≡ true) ↔ WellFormed cube_kids deepest (before arena kids facts find)) × (facts.new ≡ facts.old) }
+    ensures { ((result ≡ true) ↔ WellFormed cube_kids deepest (before arena kids.now facts.old find.now)) × (facts.new ≡ facts.old) }
 {
     check_arena::check_arena(arena, kids, facts, find)
 }
@@ -30,7 +30,7 @@ pub fn fenpiling_get_at_depth(
     depth: u32,
     position: IVec3,
 ) -> Looked
-    ensures { result ≡ look_of (before arena kids facts find) id depth position }
+    ensures { result ≡ look_of (before arena kids.now facts.now find.now) id depth position }
 {
     read_cell::get_at_depth(arena, kids, facts, find, BlockId(id), depth, position)
 }
@@ -44,7 +44,7 @@ pub fn fenpiling_to_vec(
     depth: u32,
     cube: &mut [u16],
 ) -> u32
-    ensures { expanded result cube.new ≡ expand_of (before arena kids facts find) id depth cube.old }
+    ensures { expanded result cube.new ≡ expand_of (before arena kids.now facts.now find.now) id depth cube.old }
 {
     read_cube::to_vec(arena, kids, facts, find, BlockId(id), depth, cube)
 }
@@ -59,7 +59,7 @@ pub fn fenpiling_set_voxel(
     position: IVec3,
     value: u16,
 ) -> Made
-    ensures { Fair cube_kids deepest (before arena kids facts find) → made arena result kids facts find ≡ edit_of (before arena kids facts find) root depth position value }
+    ensures { Fair cube_kids deepest (before arena kids.old facts.old find.old) → made arena result kids.new facts.new find.new ≡ edit_of (before arena kids.old facts.old find.old) root depth position value }
 {
     edit::set_voxel(
         arena,

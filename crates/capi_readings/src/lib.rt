@@ -30,8 +30,8 @@ pub fn fenpiling_enter_reading(
     k: u32,
     bytes: &[u8],
 ) -> Made
-    ensures { Fair cube_kids deepest (before arena kids facts find)
-        → made arena result kids facts find ≡ enter_of (before arena kids facts find) root depth k bytes.now }
+    ensures { Fair cube_kids deepest (before arena kids.old facts.old find.old)
+        → made arena result kids.new facts.new find.new ≡ enter_of (before arena kids.old facts.old find.old) root depth k bytes.now }
 {
     readings::enter_reading(arena, kids, facts, find, BlockId(root), depth, k, bytes)
 }

@@ -290,7 +290,7 @@ fn is_sound(kids: &[u64], facts: &[u32], find: &[u16], arena: Arena) -> bool
 
 // The arena check: yes exactly if the tables are well formed, on any tables; with refusal 1 it says no. The tables are as before.
 pub fn check_arena(arena: Arena, kids: &[u64], facts: &mut [u32], find: &[u16]) -> bool
-    ensures { ((result ≡ true) ↔ WellFormed cube_kids deepest (before arena kids facts find)) × (facts.new ≡ facts.old) }
+    ensures { ((result ≡ true) ↔ WellFormed cube_kids deepest (before arena kids.now facts.old find.now)) × (facts.new ≡ facts.old) }
 {
     if !is_sound(kids, facts, find, arena) {
         return false;

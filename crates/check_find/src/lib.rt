@@ -25,7 +25,7 @@ fn lives(facts: &[u32], capacity: usize, s: usize) -> bool
 
 // Searches for the content of slot s, by the hash worked out from it.
 fn search_for(kids: &[u64], facts: &[u32], find: &[u16], capacity: usize, s: usize) -> Found
-    ensures { (result.cell ≡ seat find.now capacity (words_in kids facts) s) × (result.slot ≡ get_or find.now (seat find.now capacity (words_in kids facts) s) 0) }
+    ensures { (result.cell ≡ seat find.now capacity (words_in kids.now facts.now) s) × (result.slot ≡ get_or find.now (seat find.now capacity (words_in kids.now facts.now) s) 0) }
 {
     if BlockId(own(facts, s)).is_leaf() {
         let v = fact(facts, s, VALUE);

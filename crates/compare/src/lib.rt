@@ -56,7 +56,7 @@ fn first_no(
     l: usize,
     r: usize,
 ) -> u32
-    ensures { result ≡ first_no (before arena kids facts find) a b depth c l r }
+    ensures { result ≡ first_no (before arena kids.now facts.now find.now) a b depth c l r }
 {
     if fit(arena.capacity, kids.len(), facts.len(), find.len()) {
         if l == c {
@@ -74,7 +74,7 @@ fn first_no(
 // Is there room for every cell that differs? Where there is room for the whole cube they need not be counted.
 fn has_room(kids: &[u64], facts: &[u32], a: u64, b: u64, depth: u32, room: usize) -> bool
     requires { depth ≤ deepest }
-    ensures { result ≡ leb (length (differing cube_kids (words_in kids facts) depth a b)) room }
+    ensures { result ≡ leb (length (differing cube_kids (words_in kids.now facts.now) depth a b)) room }
 {
     let one: usize = 1;
     if one << (3 * depth) <= room {
@@ -106,7 +106,7 @@ pub fn compare(
     lefts: &mut [u16],
     rights: &mut [u16],
 ) -> Compared
-    ensures { compared result codes.new lefts.new rights.new ≡ compare_of (before arena kids facts find) left.0 right.0 depth codes.old lefts.old rights.old }
+    ensures { compared result codes.new lefts.new rights.new ≡ compare_of (before arena kids.now facts.now find.now) left.0 right.0 depth codes.old lefts.old rights.old }
 {
     let no = first_no(
         arena,

@@ -37,7 +37,7 @@ fn count_cell(u: u16, v: u16) -> u32
 
 // The cells of the eight children of a branch, against one value on the other side.
 fn count_against(kids: &[u64], facts: &[u32], id: u64, v: u16) -> u32
-    ensures { result ≡ against_to (words_in kids facts) id v cube_kids }
+    ensures { result ≡ against_to (words_in kids.now facts.now) id v cube_kids }
 {
     let row = children(kids, slot_of(id));
     let mut c: usize = 0;
@@ -51,7 +51,7 @@ fn count_against(kids: &[u64], facts: &[u32], id: u64, v: u16) -> u32
 
 // The cells of the eight children of two branches.
 fn count_both(kids: &[u64], facts: &[u32], a: u64, b: u64) -> u32
-    ensures { result ≡ both_to (words_in kids facts) a b cube_kids }
+    ensures { result ≡ both_to (words_in kids.now facts.now) a b cube_kids }
 {
     let lefts = children(kids, slot_of(a));
     let rights = children(kids, slot_of(b));
@@ -67,7 +67,7 @@ fn count_both(kids: &[u64], facts: &[u32], a: u64, b: u64) -> u32
 // The eight cells of an opened pair, one level above them.
 fn count_cells(kids: &[u64], facts: &[u32], a: u64, b: u64) -> u32
     requires { goes_on 1 a b ≡ true }
-    ensures { result ≡ places_count (words_in kids facts) 0 a b cube_kids }
+    ensures { result ≡ places_count (words_in kids.now facts.now) 0 a b cube_kids }
 {
     if is_branch(a) {
         if is_branch(b) {
@@ -84,7 +84,7 @@ fn count_cells(kids: &[u64], facts: &[u32], a: u64, b: u64) -> u32
 #[cycle(count_pair_count_places)]
 fn count_pair(kids: &[u64], facts: &[u32], a: u64, b: u64, left: u32) -> u32
     requires { left ≤ deepest }
-    ensures { result ≡ count_in cube_kids (words_in kids facts) left a b }
+    ensures { result ≡ count_in cube_kids (words_in kids.now facts.now) left a b }
 {
     if a == b {
         return 0;
@@ -102,7 +102,7 @@ fn count_pair(kids: &[u64], facts: &[u32], a: u64, b: u64, left: u32) -> u32
 #[cycle(count_pair_count_places)]
 fn count_places(kids: &[u64], facts: &[u32], a: u64, b: u64, left: u32) -> u32
     requires { left < deepest }
-    ensures { result ≡ places_count (words_in kids facts) left a b cube_kids }
+    ensures { result ≡ places_count (words_in kids.now facts.now) left a b cube_kids }
 {
     let mut c: usize = 0;
     let mut cells: u32 = 0;
@@ -117,7 +117,7 @@ fn count_places(kids: &[u64], facts: &[u32], a: u64, b: u64, left: u32) -> u32
 
 // In how many cells of a cube of the depth two ids differ; of a depth above 6 in none.
 pub fn count_differing(kids: &[u64], facts: &[u32], a: u64, b: u64, depth: u32) -> u32
-    ensures { result ≡ count_of (words_in kids facts) a b depth }
+    ensures { result ≡ count_of (words_in kids.now facts.now) a b depth }
 {
     if depth <= DEEPEST {
         return count_pair(kids, facts, a, b, depth);

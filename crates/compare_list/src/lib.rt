@@ -116,7 +116,7 @@ fn left_cells(
 ) -> usize
     requires a_value { (branches a ≡ true) × (branches b ≡ false) × (base + 8 ≤ most_cells) × (at ≤ base) }
     requires lefts_len { (length lefts.old ≡ length codes.old) × (length rights.old ≡ length codes.old) }
-    ensures { Laid at (places_to (words_in kids facts) 0 base a b cube_kids) (opened_to (words_in kids facts) 0 a b cube_kids) result 1 codes.old lefts.old rights.old codes.new lefts.new rights.new }
+    ensures { Laid at (places_to (words_in kids.now facts.now) 0 base a b cube_kids) (opened_to (words_in kids.now facts.now) 0 a b cube_kids) result 1 codes.old lefts.old rights.old codes.new lefts.new rights.new }
 {
     let row = children(kids, slot_of(a));
     let v = value(facts, b);
@@ -145,7 +145,7 @@ fn right_cells(
 ) -> usize
     requires a_value { (branches a ≡ false) × (branches b ≡ true) × (base + 8 ≤ most_cells) × (at ≤ base) }
     requires lefts_len { (length lefts.old ≡ length codes.old) × (length rights.old ≡ length codes.old) }
-    ensures { Laid at (places_to (words_in kids facts) 0 base a b cube_kids) (opened_to (words_in kids facts) 0 a b cube_kids) result 1 codes.old lefts.old rights.old codes.new lefts.new rights.new }
+    ensures { Laid at (places_to (words_in kids.now facts.now) 0 base a b cube_kids) (opened_to (words_in kids.now facts.now) 0 a b cube_kids) result 1 codes.old lefts.old rights.old codes.new lefts.new rights.new }
 {
     let row = children(kids, slot_of(b));
     let u = value(facts, a);
@@ -174,7 +174,7 @@ fn both_cells(
 ) -> usize
     requires a_value { (branches a ≡ true) × (branches b ≡ true) × (base + 8 ≤ most_cells) × (at ≤ base) }
     requires lefts_len { (length lefts.old ≡ length codes.old) × (length rights.old ≡ length codes.old) }
-    ensures { Laid at (places_to (words_in kids facts) 0 base a b cube_kids) (opened_to (words_in kids facts) 0 a b cube_kids) result 1 codes.old lefts.old rights.old codes.new lefts.new rights.new }
+    ensures { Laid at (places_to (words_in kids.now facts.now) 0 base a b cube_kids) (opened_to (words_in kids.now facts.now) 0 a b cube_kids) result 1 codes.old lefts.old rights.old codes.new lefts.new rights.new }
 {
     let us = children(kids, slot_of(a));
     let vs = children(kids, slot_of(b));
@@ -211,7 +211,7 @@ fn eight_cells(
 ) -> usize
     requires b_value { (goes_on 1 a b ≡ true) × (base + 8 ≤ most_cells) × (at ≤ base) }
     requires lefts_len { (length lefts.old ≡ length codes.old) × (length rights.old ≡ length codes.old) }
-    ensures { Laid at (places_to (words_in kids facts) 0 base a b cube_kids) (opened_to (words_in kids facts) 0 a b cube_kids) result 1 codes.old lefts.old rights.old codes.new lefts.new rights.new }
+    ensures { Laid at (places_to (words_in kids.now facts.now) 0 base a b cube_kids) (opened_to (words_in kids.now facts.now) 0 a b cube_kids) result 1 codes.old lefts.old rights.old codes.new lefts.new rights.new }
 {
     if is_branch(a) {
         if is_branch(b) {
@@ -241,7 +241,7 @@ fn pair(
 ) -> Walk
     requires size_value { (size ≡ cube_kids ^ left) × (base + size ≤ most_cells) × (at ≤ base) }
     requires lefts_len { (length lefts.old ≡ length codes.old) × (length rights.old ≡ length codes.old) }
-    ensures laid { Laid at (cells_in cube_kids (words_in kids facts) left base a b) (opened_in cube_kids (words_in kids facts) left a b) result.at result.opened codes.old lefts.old rights.old codes.new lefts.new rights.new }
+    ensures laid { Laid at (cells_in cube_kids (words_in kids.now facts.now) left base a b) (opened_in cube_kids (words_in kids.now facts.now) left a b) result.at result.opened codes.old lefts.old rights.old codes.new lefts.new rights.new }
     ensures at_bound { (result.at ≤ at + size) × (result.opened ≤ size) }
 {
     if a == b {
@@ -297,7 +297,7 @@ fn places(
 ) -> Walk
     requires size_value { (size ≡ cube_kids ^ left) × (base + 8 * size ≤ most_cells) × (at ≤ base) }
     requires lefts_len { (length lefts.old ≡ length codes.old) × (length rights.old ≡ length codes.old) }
-    ensures { Laid at (places_to (words_in kids facts) left base a b cube_kids) (opened_to (words_in kids facts) left a b cube_kids) result.at result.opened codes.old lefts.old rights.old codes.new lefts.new rights.new }
+    ensures { Laid at (places_to (words_in kids.now facts.now) left base a b cube_kids) (opened_to (words_in kids.now facts.now) left a b cube_kids) result.at result.opened codes.old lefts.old rights.old codes.new lefts.new rights.new }
 {
     let mut c: usize = 0;
     let mut from = base;
@@ -345,7 +345,7 @@ fn write_cells(
 ) -> Found
     requires depth_le_deepest { depth ≤ deepest }
     requires lefts_len { (length lefts.old ≡ length codes.old) × (length rights.old ≡ length codes.old) }
-    ensures { wrote result codes.new lefts.new rights.new ≡ cells_written (differing cube_kids (words_in kids facts) depth a b) (opened_in cube_kids (words_in kids facts) depth a b) codes.old lefts.old rights.old }
+    ensures { wrote result codes.new lefts.new rights.new ≡ cells_written (differing cube_kids (words_in kids.now facts.now) depth a b) (opened_in cube_kids (words_in kids.now facts.now) depth a b) codes.old lefts.old rights.old }
 {
     let w = pair(
         kids,
@@ -378,7 +378,7 @@ pub fn write_differing(
     lefts: &mut [u16],
     rights: &mut [u16],
 ) -> Found
-    ensures { wrote result codes.new lefts.new rights.new ≡ written_of (words_in kids facts) a b depth codes.old lefts.old rights.old }
+    ensures { wrote result codes.new lefts.new rights.new ≡ written_of (words_in kids.now facts.now) a b depth codes.old lefts.old rights.old }
 {
     if lefts.len() == codes.len() {
         if rights.len() == codes.len() {

@@ -23,7 +23,7 @@ use read_cell::look_no;
 
 // Refusals 10 and 11.
 fn grant_no(a: Arena, kids: &[u64], facts: &[u32], find: &[u16], p: Plan) -> u32
-    ensures { result ≡ grant_by (before a kids facts find) p }
+    ensures { result ≡ grant_by (before a kids.now facts.now find.now) p }
 {
     if p.new == 0 {
         if p.id == BlockId::EMPTY.0 {
@@ -42,7 +42,7 @@ fn grant_no(a: Arena, kids: &[u64], facts: &[u32], find: &[u16], p: Plan) -> u32
 
 // Refusals 1, 2, 3, 4 and 8, which are told before the dry run.
 fn early_no(a: Arena, kids: &[u64], facts: &[u32], find: &[u16], root: u64, cell: Cell) -> u32
-    ensures { result ≡ edit_no_at (before a kids facts find) root cell }
+    ensures { result ≡ edit_no_at (before a kids.now facts.now find.now) root cell }
 {
     let no = look_no(a, kids, facts, find, root, cell);
     if no != 0 {
@@ -65,7 +65,7 @@ fn hold_or_make(
     v: u32,
     p: Plan,
 ) -> Made
-    ensures { made a result kids facts find ≡ answer_by (before a kids facts find) v w depth p }
+    ensures { made a result kids.new facts.new find.new ≡ answer_by (before a kids.old facts.old find.old) v w depth p }
 {
     if p.new == 0 {
         bump(facts, HOLDS, p.id);
@@ -89,7 +89,7 @@ fn edit_planned(
     v: u32,
     p: Plan,
 ) -> Made
-    ensures { made a result kids facts find ≡ edit_past (before a kids facts find) v w depth p }
+    ensures { made a result kids.new facts.new find.new ≡ edit_past (before a kids.old facts.old find.old) v w depth p }
 {
     let no = grant_no(a, kids, facts, find, p);
     if no != 0 {
@@ -112,7 +112,7 @@ fn edit_cell(
     cell: Cell,
     v: u16,
 ) -> Made
-    ensures { made a result kids facts find ≡ edit_by (before a kids facts find) root cell v }
+    ensures { made a result kids.new facts.new find.new ≡ edit_by (before a kids.old facts.old find.old) root cell v }
 {
     let no = early_no(a, kids, facts, find, root, cell);
     if no != 0 {
@@ -139,8 +139,8 @@ pub fn set_voxel(
     position: IVec3,
     value: u16,
 ) -> Made
-    ensures { Fair cube_kids deepest (before arena kids facts find)
-        → made arena result kids facts find ≡ edit_of (before arena kids facts find) root.0 depth position value }
+    ensures { Fair cube_kids deepest (before arena kids.old facts.old find.old)
+        → made arena result kids.new facts.new find.new ≡ edit_of (before arena kids.old facts.old find.old) root.0 depth position value }
 {
     edit_cell(
         arena,

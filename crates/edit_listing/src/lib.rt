@@ -76,8 +76,8 @@ pub fn edit_record(
     root: BlockId,
     bytes: &[u8],
 ) -> Made
-    ensures { Fair cube_kids deepest (tables_before arena kids facts find)
-        → made arena result kids facts find ≡ edit_in (tables_before arena kids facts find) root.0 bytes.now }
+    ensures { Fair cube_kids deepest (tables_before arena kids.old facts.old find.old)
+        → made arena result kids.new facts.new find.new ≡ edit_in (tables_before arena kids.old facts.old find.old) root.0 bytes.now }
 {
     let cell = cell_in(bytes);
     let value = value_in(bytes);
@@ -94,9 +94,9 @@ fn one(
     out: &mut [u8],
 ) -> Lined
     ensures { (result.len ≤ widest)
-        × (Fair cube_kids deepest (before run kids facts find).tables
-        → Fair cube_kids deepest (after result.run kids facts find).tables
-        × (lined result kids facts find out ≡ one_of edits (before run kids facts find) bytes.now out.old)) }
+        × (Fair cube_kids deepest (before run kids.old facts.old find.old).tables
+        → Fair cube_kids deepest (after result.run kids.new facts.new find.new).tables
+        × (lined result kids.new facts.new find.new out.new ≡ one_of edits (before run kids.old facts.old find.old) bytes.now out.old)) }
 {
     let root = run.root;
     let made = edit_record(run.arena, kids, facts, find, root, bytes);
@@ -128,8 +128,8 @@ pub fn edit_records(
     out: &mut [u8],
 ) -> Ran
     ensures { (result.records ≡ taken_of (whole_in (length bytes.now)) (length out.old))
-        × (Fair cube_kids deepest (before run kids facts find).tables
-        → told result kids facts find out ≡ told_of edits (before run kids facts find) bytes.now out.old result.records) }
+        × (Fair cube_kids deepest (before run kids.old facts.old find.old).tables
+        → told result kids.new facts.new find.new out.new ≡ told_of edits (before run kids.old facts.old find.old) bytes.now out.old result.records) }
 {
     let most = listing::taken(bytes.len() / RECORD, out.len());
     let mut now = run;

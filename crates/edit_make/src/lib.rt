@@ -42,7 +42,7 @@ fn leaf_anew(
     h: u32,
     q: u32,
 ) -> Made
-    ensures { made a result kids facts find ≡ leaf_anew_by (before a kids facts find) v h q }
+    ensures { made a result kids.new facts.new find.new ≡ leaf_anew_by (before a kids.old facts.old find.old) v h q }
 {
     let k = leaf_hash(v);
     let at = place_for(a, facts, find, k);
@@ -206,7 +206,7 @@ fn branch_anew(
     h: u32,
     q: u32,
 ) -> Made
-    ensures { made a result kids facts find ≡ branch_anew_by (before a kids facts find) ks types mask up sum k h q }
+    ensures { made a result kids.new facts.new find.new ≡ branch_anew_by (before a kids.old facts.old find.old) ks types mask up sum k h q }
 {
     let at = place_for(a, facts, find, k);
     fresh_branch(
@@ -281,7 +281,7 @@ fn make_lowest(
     v: u32,
     plan: Plan,
 ) -> Made
-    ensures { made a result kids facts find ≡ low_of (before a kids facts find) v depth plan }
+    ensures { made a result kids.new facts.new find.new ≡ low_of (before a kids.old facts.old find.old) v depth plan }
 {
     if depth < plan.new {
         let h = hold_at(0, depth);
@@ -359,7 +359,7 @@ pub fn make(
     v: u32,
     plan: Plan,
 ) -> Made
-    ensures { made a result kids facts find ≡ make_on (before a kids facts find) v way depth plan }
+    ensures { made a result kids.new facts.new find.new ≡ make_on (before a kids.old facts.old find.old) v way depth plan }
 {
     if DEEPEST < depth {
         return Made {

@@ -64,7 +64,7 @@ fn plan_slot(facts: &[u32], found: usize, s: u64) -> Plan
 
 // The cell itself: EMPTY for 0, the leaf of the value if it lives.
 fn plan_cell(a: Arena, kids: &[u64], facts: &[u32], find: &[u16], v: u32) -> Plan
-    ensures { result ≡ cell_plan (before a kids facts find) v }
+    ensures { result ≡ cell_plan (before a kids.now facts.now find.now) v }
 {
     if v == 0 {
         return Plan {
@@ -87,7 +87,7 @@ fn plan_node(
     s: u64,
 ) -> Plan
     requires { c < 8 }
-    ensures { result ≡ need_plan (before a kids facts find) old c s }
+    ensures { result ≡ need_plan (before a kids.now facts.now find.now) old c s }
 {
     let all = with_part(parts(kids, old), c, s);
     if is_whole(all, s) {
@@ -110,7 +110,7 @@ fn plan_up(
     v: u32,
 ) -> Plan
     requires { depth ≤ deepest }
-    ensures { result ≡ plan_up (before a kids facts find) ids depth 0 path (cell_plan (before a kids facts find) v) }
+    ensures { result ≡ plan_up (before a kids.now facts.now find.now) ids depth 0 path (cell_plan (before a kids.now facts.now find.now) v) }
 {
     let mut below = plan_cell(a, kids, facts, find, v);
     let mut digits = path;
@@ -141,7 +141,7 @@ pub fn plan_edit(
     v: u16,
     way: Way,
 ) -> Plan
-    ensures { result ≡ plan_on (before a kids facts find) v cell root way }
+    ensures { result ≡ plan_on (before a kids.now facts.now find.now) v cell root way }
 {
     if DEEPEST < cell.depth {
         return Plan {

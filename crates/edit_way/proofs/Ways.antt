@@ -44,7 +44,7 @@ down_rises {U} {f} {d} {root} {p} (suc l) {a} {ids} small room r =
     let at : get_or (set ids l a) l 0 ≡ a = get_or-set_same ids l a 0 (omega arith) in
     let digit : (8 * p + f l) % 8 ≡ f l = omega arith in
     let rest : (8 * p + f l) / 8 ≡ p = omega arith in
-    down_rises l small (omega (arith, length-set ids l a))
+    down_rises {p = 8 * p + f l} l small (omega (arith, length-set ids l a))
     (step (omega arith) digit (ap (λ (y : ℕ). part U y (f l)) at)
     (subst (λ (y : ℕ). Rises U f (set ids l a) d root y (suc l) (get_or (set ids l a) l 0)) (sym rest)
     (subst (λ (y : ℕ). Rises U f (set ids l a) d root p (suc l) y) (sym at) (rises_set l a (omega arith) r))))

@@ -27,7 +27,7 @@ pub extern "C" fn fenpiling_intern_leaf(
     find: &mut [u16],
     value: u16,
 ) -> Made
-    ensures { (n tallest : ℕ) → n ≤ kid_words → Fair n tallest (before arena kids facts find) → made arena result kids facts find ≡ intern_leaf_of (before arena kids facts find) value }
+    ensures { (n tallest : ℕ) → n ≤ kid_words → Fair n tallest (before arena kids.old facts.old find.old) → made arena result kids.new facts.new find.new ≡ intern_leaf_of (before arena kids.old facts.old find.old) value }
 {
     capi_arena::fenpiling_intern_leaf(arena, kids, facts, find, value)
 }
@@ -40,7 +40,7 @@ pub extern "C" fn fenpiling_intern_branch(
     find: &mut [u16],
     children: Children,
 ) -> Made
-    ensures { Fair cube_kids deepest (before arena kids facts find) → made arena result kids facts find ≡ intern_branch_of cube_kids deepest (before arena kids facts find) (raw_ids children.ids) }
+    ensures { Fair cube_kids deepest (before arena kids.old facts.old find.old) → made arena result kids.new facts.new find.new ≡ intern_branch_of cube_kids deepest (before arena kids.old facts.old find.old) (raw_ids children.ids) }
 {
     capi_arena::fenpiling_intern_branch(arena, kids, facts, find, children)
 }
@@ -53,7 +53,7 @@ pub extern "C" fn fenpiling_hold(
     find: &[u16],
     id: u64,
 ) -> Answer
-    ensures { answered arena result kids facts find ≡ hold_of (before arena kids facts find) id }
+    ensures { answered arena result kids.now facts.new find.now ≡ hold_of (before arena kids.now facts.old find.now) id }
 {
     capi_arena::fenpiling_hold(arena, kids, facts, find, id)
 }
@@ -66,7 +66,7 @@ pub extern "C" fn fenpiling_release(
     find: &mut [u16],
     id: u64,
 ) -> Answer
-    ensures { (n tallest : ℕ) → n ≤ kid_words → tallest ≤ deepest → Fair n tallest (before arena kids facts find) → answered arena result kids facts find ≡ release_of tallest (before arena kids facts find) id }
+    ensures { (n tallest : ℕ) → n ≤ kid_words → tallest ≤ deepest → Fair n tallest (before arena kids.old facts.old find.old) → answered arena result kids.new facts.new find.new ≡ release_of tallest (before arena kids.old facts.old find.old) id }
 {
     capi_arena::fenpiling_release(arena, kids, facts, find, id)
 }
@@ -79,7 +79,7 @@ pub extern "C" fn fenpiling_counts(
     find: &[u16],
     id: u64,
 ) -> Counted
-    ensures { counted result ≡ counts_of (before arena kids facts find) id }
+    ensures { counted result ≡ counts_of (before arena kids.now facts.now find.now) id }
 {
     capi_arena::fenpiling_counts(arena, kids, facts, find, id)
 }

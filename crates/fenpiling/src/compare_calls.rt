@@ -19,7 +19,7 @@ pub extern "C" fn fenpiling_compare(
     lefts: &mut [u16],
     rights: &mut [u16],
 ) -> Compared
-    ensures { compared result codes.new lefts.new rights.new ≡ compare_of (before arena kids facts find) left right depth codes.old lefts.old rights.old }
+    ensures { compared result codes.new lefts.new rights.new ≡ compare_of (before arena kids.now facts.now find.now) left right depth codes.old lefts.old rights.old }
 {
     capi_compare::fenpiling_compare(
         arena, kids, facts, find, left, right, depth, codes, lefts, rights,

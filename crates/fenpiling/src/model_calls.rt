@@ -18,7 +18,7 @@ pub extern "C" fn fenpiling_check(
     facts: &mut [u32],
     find: &[u16],
 ) -> bool
-    ensures { ((result ≡ true) ↔ WellFormed cube_kids deepest (before arena kids facts find)) × (facts.new ≡ facts.old) }
+    ensures { ((result ≡ true) ↔ WellFormed cube_kids deepest (before arena kids.now facts.old find.now)) × (facts.new ≡ facts.old) }
 {
     capi_model::fenpiling_check(arena, kids, facts, find)
 }
@@ -33,7 +33,7 @@ pub extern "C" fn fenpiling_get_at_depth(
     depth: u32,
     position: IVec3,
 ) -> Looked
-    ensures { result ≡ look_of (before arena kids facts find) id depth position }
+    ensures { result ≡ look_of (before arena kids.now facts.now find.now) id depth position }
 {
     capi_model::fenpiling_get_at_depth(arena, kids, facts, find, id, depth, position)
 }
@@ -48,7 +48,7 @@ pub extern "C" fn fenpiling_to_vec(
     depth: u32,
     cube: &mut [u16],
 ) -> u32
-    ensures { expanded result cube.new ≡ expand_of (before arena kids facts find) id depth cube.old }
+    ensures { expanded result cube.new ≡ expand_of (before arena kids.now facts.now find.now) id depth cube.old }
 {
     capi_model::fenpiling_to_vec(arena, kids, facts, find, id, depth, cube)
 }
@@ -64,7 +64,7 @@ pub extern "C" fn fenpiling_set_voxel(
     position: IVec3,
     value: u16,
 ) -> Made
-    ensures { Fair cube_kids deepest (before arena kids facts find) → made arena result kids facts find ≡ edit_of (before arena kids facts find) root depth position value }
+    ensures { Fair cube_kids deepest (before arena kids.old facts.old find.old) → made arena result kids.new facts.new find.new ≡ edit_of (before arena kids.old facts.old find.old) root depth position value }
 {
     capi_model::fenpiling_set_voxel(arena, kids, facts, find, root, depth, position, value)
 }

@@ -125,7 +125,7 @@ fn kids_equal(kids: &[u64], ks: Kids, s: usize) -> bool
 
 // Has slot s the hash h and the children ks? Only where the hash is equal are its children read.
 fn kids_are(kids: &[u64], facts: &[u32], h: u32, ks: Kids, s: usize) -> bool
-    ensures { result ≡ kids_are (words_in kids facts) h ks s }
+    ensures { result ≡ kids_are (words_in kids.now facts.now) h ks s }
 {
     if fact(facts, s, HASH) == h {
         return kids_equal(kids, ks, s);
@@ -135,7 +135,7 @@ fn kids_are(kids: &[u64], facts: &[u32], h: u32, ks: Kids, s: usize) -> bool
 
 // Searches for the branch of the children ks, whose hash is h: answers as `search_leaf` does.
 pub fn search(find: &[u16], kids: &[u64], facts: &[u32], capacity: usize, h: u32, ks: Kids) -> Found
-    ensures { (result.cell ≡ kids_cell find.now capacity (words_in kids facts) h ks) × (result.slot ≡ get_or find.now result.cell 0) }
+    ensures { (result.cell ≡ kids_cell find.now capacity (words_in kids.now facts.now) h ks) × (result.slot ≡ get_or find.now result.cell 0) }
 {
     let mut i = home_in(capacity, h);
     let slot = loop {

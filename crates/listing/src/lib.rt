@@ -109,7 +109,7 @@ fn put_short(out: &mut [u8], cut: usize) -> usize
 
 // A fresh arena over the tables, with nothing in it, before the first record. Where the tables do not fit the capacity it answers 1, and so does every record.
 pub fn start(capacity: usize, kids: &mut [u64], facts: &mut [u32], find: &mut [u16]) -> Step
-    ensures { stepped result kids facts find ≡ start_of capacity kids.old facts.old find.old }
+    ensures { stepped result kids.new facts.new find.new ≡ start_of capacity kids.old facts.old find.old }
 {
     let fresh = arena_hold::fresh(capacity, kids, facts, find);
     Step {
@@ -135,8 +135,8 @@ pub fn taken(records: usize, room: usize) -> usize
 
 // From a run, after the answer to a record: accepted, its id is the root and the old root is released; refused, the old root stays.
 pub fn step_to(run: Run, made: Made, kids: &mut [u64], facts: &mut [u32], find: &mut [u16]) -> Step
-    ensures { Fair cube_kids deepest (handed run made kids facts find).after
-        → stepped result kids facts find ≡ stepped_of run.root.0 run.count (handed run made kids facts find) }
+    ensures { Fair cube_kids deepest (handed run made kids.old facts.old find.old).after
+        → stepped result kids.new facts.new find.new ≡ stepped_of run.root.0 run.count (handed run made kids.old facts.old find.old) }
 {
     let number = wrapping_add_u64(run.count, 1);
     let capacity = run.arena.capacity;
@@ -180,8 +180,8 @@ pub fn after_record(
     out: &mut [u8],
 ) -> Lined
     ensures { (result.len ≤ widest)
-        × (Fair cube_kids deepest (handed run made kids facts find).after
-        → lined result kids facts find out ≡ lined_of line_of run.root.0 run.count (handed run made kids facts find) out.old) }
+        × (Fair cube_kids deepest (handed run made kids.old facts.old find.old).after
+        → lined result kids.new facts.new find.new out.new ≡ lined_of line_of run.root.0 run.count (handed run made kids.old facts.old find.old) out.old) }
 {
     let step = step_to(run, made, kids, facts, find);
     let next = step.run;

@@ -101,7 +101,7 @@ pub fn fresh_branch(
     h: u32,
     q: u32,
 ) -> Made
-    ensures { made a result kids facts find ≡ branch_with (before a kids facts find) ks types mask v up sum k h q at }
+    ensures { made a result kids.new facts.new find.new ≡ branch_with (before a kids.old facts.old find.old) ks types mask v up sum k h q at }
 {
     let s = fresh_slot(a, facts);
     let id = branch_with(types, mask, s, own(facts, s));

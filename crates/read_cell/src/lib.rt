@@ -113,7 +113,7 @@ fn is_inside(d: u32, x: u32) -> bool
 
 // The lowest refusal that applies to a lookup, or 0.
 pub fn look_no(arena: Arena, kids: &[u64], facts: &[u32], find: &[u16], id: u64, cell: Cell) -> u32
-    ensures { result ≡ look_no_at (before arena kids facts find) id cell }
+    ensures { result ≡ look_no_at (before arena kids.now facts.now find.now) id cell }
 {
     if fit(arena.capacity, kids.len(), facts.len(), find.len()) {
         if cell.depth <= DEEPEST {
@@ -139,7 +139,7 @@ fn look_at(
     id: BlockId,
     cell: Cell,
 ) -> Looked
-    ensures { result ≡ look_at (before arena kids facts find) id.0 cell }
+    ensures { result ≡ look_at (before arena kids.now facts.now find.now) id.0 cell }
 {
     let no = look_no(arena, kids, facts, find, id.0, cell);
     if no != 0 {
@@ -162,7 +162,7 @@ pub fn get_at_depth(
     depth: u32,
     position: IVec3,
 ) -> Looked
-    ensures { result ≡ look_of (before arena kids facts find) id.0 depth position }
+    ensures { result ≡ look_of (before arena kids.now facts.now find.now) id.0 depth position }
 {
     look_at(arena, kids, facts, find, id, to_cell(position, depth))
 }

@@ -128,7 +128,7 @@ fn fill_cells(
     plane: usize,
 )
     requires { at + plane + row + 2 ≤ length cube.old }
-    ensures { cube.new ≡ parts_to (words_in kids facts) cube_kids row plane 0 1 id at 8 cube.old }
+    ensures { cube.new ≡ parts_to (words_in kids.now facts.now) cube_kids row plane 0 1 id at 8 cube.old }
 {
     fill_eight(facts, cube, children(kids, slot_of(id)), at, row, plane);
 }
@@ -145,7 +145,7 @@ fn fill_small(
 )
     requires row_bound { (row ≤ 64) × (plane ≤ 4096) }
     requires row_bound_2 { at + plane + row + 2 ≤ length cube.old }
-    ensures { cube.new ≡ grow (words_in kids facts) cube_kids row plane 1 2 id at cube.old }
+    ensures { cube.new ≡ grow (words_in kids.now facts.now) cube_kids row plane 1 2 id at cube.old }
 {
     if id == BlockId::EMPTY.0 {
         return;
@@ -169,7 +169,7 @@ fn fill_smalls(
 )
     requires row_bound { (row ≤ 64) × (plane ≤ 4096) }
     requires row_bound_2 { at + 3 * plane + 3 * row + 4 ≤ length cube.old }
-    ensures { cube.new ≡ parts_to (words_in kids facts) cube_kids row plane 1 2 id at 8 cube.old }
+    ensures { cube.new ≡ parts_to (words_in kids.now facts.now) cube_kids row plane 1 2 id at 8 cube.old }
 {
     let s = slot_of(id);
     let mut c: usize = 0;
@@ -195,7 +195,7 @@ fn fill_octant(
 )
     requires side_value { (side ≡ 2 ^ left) × (side ≤ 64) × (row ≤ 64) × (plane ≤ 4096) }
     requires side_bound { at + side * plane + side * row + side ≤ length cube.old + plane + row }
-    ensures { cube.new ≡ grow (words_in kids facts) cube_kids row plane left side id at cube.old }
+    ensures { cube.new ≡ grow (words_in kids.now facts.now) cube_kids row plane left side id at cube.old }
 {
     if left == 0 {
         cube[at] = value(facts, id);
@@ -234,7 +234,7 @@ fn fill_octants(
 )
     requires h_value { (h ≡ 2 ^ left) × (h ≤ 32) × (row ≤ 64) × (plane ≤ 4096) }
     requires h_bound { at + 2 * h * plane + 2 * h * row + 2 * h ≤ length cube.old + plane + row }
-    ensures { cube.new ≡ parts_to (words_in kids facts) cube_kids row plane left h id at 8 cube.old }
+    ensures { cube.new ≡ parts_to (words_in kids.now facts.now) cube_kids row plane left h id at 8 cube.old }
 {
     let s = slot_of(id);
     let mut c: usize = 0;
@@ -249,7 +249,7 @@ fn fill_octants(
 fn fill_cube(kids: &[u64], facts: &[u32], cube: &mut [u16], id: u64, depth: u32, s: usize)
     requires s_value { (s ≡ 2 ^ depth) × (s ≤ 64) }
     requires s_bound { 0 + s * (s * s) + s * s + s ≤ length cube.old + s * s + s }
-    ensures { cube.new ≡ cube_from (words_in kids facts) s depth id cube.old }
+    ensures { cube.new ≡ cube_from (words_in kids.now facts.now) s depth id cube.old }
 {
     let n = cube.len();
     if LOWEST_LEAF <= id {
@@ -288,7 +288,7 @@ fn expand_no(
     depth: u32,
     n: usize,
 ) -> u32
-    ensures { result ≡ expand_no (before arena kids facts find) id depth n }
+    ensures { result ≡ expand_no (before arena kids.now facts.now find.now) id depth n }
 {
     if fit(arena.capacity, kids.len(), facts.len(), find.len()) {
         if depth <= DEEPEST_CUBE {
@@ -315,7 +315,7 @@ pub fn to_vec(
     depth: u32,
     cube: &mut [u16],
 ) -> u32
-    ensures { expanded result cube.new ≡ expand_of (before arena kids facts find) id.0 depth cube.old }
+    ensures { expanded result cube.new ≡ expand_of (before arena kids.now facts.now find.now) id.0 depth cube.old }
 {
     let no = expand_no(arena, kids, facts, find, id.0, depth, cube.len());
     if no != 0 {

@@ -49,9 +49,9 @@ fn one(
     out: &mut [u8],
 ) -> Lined
     ensures { (result.len ≤ widest)
-        × (Fair cube_kids deepest (before run kids facts find).tables
-        → Fair cube_kids deepest (after result.run kids facts find).tables
-        × (lined result kids facts find out ≡ one_of (readings k) (before run kids facts find) bytes.now out.old)) }
+        × (Fair cube_kids deepest (before run kids.old facts.old find.old).tables
+        → Fair cube_kids deepest (after result.run kids.new facts.new find.new).tables
+        × (lined result kids.new facts.new find.new out.new ≡ one_of (readings k) (before run kids.old facts.old find.old) bytes.now out.old)) }
 {
     let root = run.root;
     let made = readings::enter_reading(run.arena, kids, facts, find, root, DEPTH, k, bytes);
@@ -69,8 +69,8 @@ pub fn enter_records(
     out: &mut [u8],
 ) -> Ran
     ensures { (result.records ≡ taken_of (all_in (length bytes.now)) (length out.old))
-        × (Fair cube_kids deepest (before run kids facts find).tables
-        → told result kids facts find out ≡ told_of (readings k) (before run kids facts find) bytes.now out.old result.records) }
+        × (Fair cube_kids deepest (before run kids.old facts.old find.old).tables
+        → told result kids.new facts.new find.new out.new ≡ told_of (readings k) (before run kids.old facts.old find.old) bytes.now out.old result.records) }
 {
     let most = listing::taken(records_in(bytes), out.len());
     let mut now = run;

@@ -21,7 +21,7 @@ fn hold_root(
     find: &mut [u16],
     root: BlockId,
 ) -> Made
-    ensures { made arena result kids facts find ≡ pause_of (before arena kids facts find) root.0 }
+    ensures { made arena result kids.new facts.new find.new ≡ pause_of (before arena kids.old facts.old find.old) root.0 }
 {
     let held = arena_hold::hold(arena, kids, facts, find, root);
     if held.no != 0 {
@@ -49,8 +49,8 @@ fn act(
     aim: Aim,
 ) -> Made
     requires { Rising aim }
-    ensures { Fair cube_kids deepest (before arena kids facts find)
-        → made arena result kids facts find ≡ asked_of (before arena kids facts find) root.0 depth aim }
+    ensures { Fair cube_kids deepest (before arena kids.old facts.old find.old)
+        → made arena result kids.new facts.new find.new ≡ asked_of (before arena kids.old facts.old find.old) root.0 depth aim }
 {
     match aim {
         Aim::Nothing => hold_root(arena, kids, facts, find, root),
@@ -88,8 +88,8 @@ pub fn enter_reading(
     k: u32,
     bytes: &[u8],
 ) -> Made
-    ensures { Fair cube_kids deepest (before arena kids facts find)
-        → made arena result kids facts find ≡ enter_of (before arena kids facts find) root.0 depth k bytes.now }
+    ensures { Fair cube_kids deepest (before arena kids.old facts.old find.old)
+        → made arena result kids.new facts.new find.new ≡ enter_of (before arena kids.old facts.old find.old) root.0 depth k bytes.now }
 {
     if fit(arena.capacity, kids.len(), facts.len(), find.len()) {
         let aim = aim_of(bytes, k, depth);

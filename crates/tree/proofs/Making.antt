@@ -3,7 +3,7 @@ use mathlib.Core.Path.{◌≡◌, refl, sym, ap, subst, ◌∙◌}
 use mathlib.Core.Logic.{◌≢◌, inl, inr}
 use mathlib.Core.List.{List, [], ◌∷◌}
 use Prim.Native.Nat.{ℕ, zero, suc, ◌≤◌, ◌<◌, suc-le-suc}
-use native.Mathlib.Nat.{max_le}
+use native.Mathlib.Nat.{max-le}
 use native.Mathlib.Decide.{ℕ_discrete}
 use native.Mathlib.Omega.{arith}
 use Rattle.nodes.specs.Words.{Words}
@@ -105,7 +105,7 @@ module _ (n cap : ℕ) (W : Words) (w : WellMade n cap W) (a i : ℕ) (l : LiveO
 max_to_le_lem : (n : ℕ) (f : ℕ → ℕ) (d : ℕ) → ((i : ℕ) → i < n → f i ≤ d) → max_to n f ≤ d
 unfolding max_to
 max_to_le_lem zero f d h = omega arith
-max_to_le_lem (suc n) f d h = max_le (max_to_le_lem n f d (λ i k. h i (omega arith))) (h n (omega arith))
+max_to_le_lem (suc n) f d h = max-le (max_to_le_lem n f d (λ i k. h i (omega arith))) (h n (omega arith))
 
 -- a branch is tidy if its children are, and are not n times one leaf
 tidy_node : (n : ℕ) (W : Words) {a b : ℕ} → ((l : ℕ) → Leaf l → ¬ (AllKids n W a l))

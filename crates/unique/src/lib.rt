@@ -153,13 +153,13 @@ fn fresh_meets(capacity: usize, kids: &mut [u64], facts: &mut [u32], find: &mut 
 }
 
 fn hold_meets(arena: Arena, kids: &[u64], facts: &mut [u32], find: &[u16], id: BlockId) -> Answer
-    ensures { Meets (hold (before arena kids facts find) id) (result, facts.new) }
+    ensures { Meets (hold (before arena kids.now facts.old find.now) id) (result, facts.new) }
 {
     arena_hold::hold(arena, kids, facts, find, id)
 }
 
 fn counts_meets(arena: Arena, kids: &[u64], facts: &[u32], find: &[u16], id: BlockId) -> Counted
-    ensures { Meets (counts (before arena kids facts find) id) result }
+    ensures { Meets (counts (before arena kids.now facts.now find.now) id) result }
 {
     arena_hold::counts(arena, kids, facts, find, id)
 }
@@ -171,7 +171,7 @@ fn leaf_meets(
     find: &mut [u16],
     value: u16,
 ) -> Made
-    ensures { Meets (leaf (before arena kids facts find) value) (result, kids.new, facts.new, find.new) }
+    ensures { Meets (leaf (before arena kids.old facts.old find.old) value) (result, kids.new, facts.new, find.new) }
 {
     arena_leaf::intern_leaf(arena, kids, facts, find, value)
 }
@@ -183,7 +183,7 @@ fn branch_meets(
     find: &mut [u16],
     children: [BlockId; KID_WORDS],
 ) -> Made
-    ensures { Meets (branch (before arena kids facts find) children) (result, kids.new, facts.new, find.new) }
+    ensures { Meets (branch (before arena kids.old facts.old find.old) children) (result, kids.new, facts.new, find.new) }
 {
     arena_branch::intern_branch(arena, kids, facts, find, children)
 }
@@ -195,7 +195,7 @@ fn release_meets(
     find: &mut [u16],
     id: BlockId,
 ) -> Answer
-    ensures { Meets (release (before arena kids facts find) id) (result, kids.new, facts.new, find.new) }
+    ensures { Meets (release (before arena kids.old facts.old find.old) id) (result, kids.new, facts.new, find.new) }
 {
     arena_release::release(arena, kids, facts, find, id)
 }
@@ -209,7 +209,7 @@ fn look_meets(
     depth: u32,
     position: IVec3,
 ) -> Looked
-    ensures { Meets (look (before arena kids facts find) id depth position) result }
+    ensures { Meets (look (before arena kids.now facts.now find.now) id depth position) result }
 {
     read_cell::get_at_depth(arena, kids, facts, find, id, depth, position)
 }
@@ -223,7 +223,7 @@ fn expand_meets(
     depth: u32,
     cube: &mut [u16],
 ) -> u32
-    ensures { Meets (expand (before arena kids facts find) id depth cube.old) (result, cube.new) }
+    ensures { Meets (expand (before arena kids.now facts.now find.now) id depth cube.old) (result, cube.new) }
 {
     read_cube::to_vec(arena, kids, facts, find, id, depth, cube)
 }
@@ -238,7 +238,7 @@ fn edit_meets(
     position: IVec3,
     value: u16,
 ) -> Made
-    ensures { Meets (edit (before arena kids facts find) root depth position value) (result, kids.new, facts.new, find.new) }
+    ensures { Meets (edit (before arena kids.old facts.old find.old) root depth position value) (result, kids.new, facts.new, find.new) }
 {
     edit::set_voxel(arena, kids, facts, find, root, depth, position, value)
 }
@@ -253,7 +253,7 @@ fn enter_meets(
     k: u32,
     bytes: &[u8],
 ) -> Made
-    ensures { Meets (enter (before arena kids facts find) root depth k bytes.now) (result, kids.new, facts.new, find.new) }
+    ensures { Meets (enter (before arena kids.old facts.old find.old) root depth k bytes.now) (result, kids.new, facts.new, find.new) }
 {
     readings::enter_reading(arena, kids, facts, find, root, depth, k, bytes)
 }
@@ -270,7 +270,7 @@ fn compare_meets(
     lefts: &mut [u16],
     rights: &mut [u16],
 ) -> Compared
-    ensures { Meets (compare (before arena kids facts find) left right depth codes.old lefts.old rights.old) (result, codes.new, lefts.new, rights.new) }
+    ensures { Meets (compare (before arena kids.now facts.now find.now) left right depth codes.old lefts.old rights.old) (result, codes.new, lefts.new, rights.new) }
 {
     compare::compare(
         arena, kids, facts, find, left, right, depth, codes, lefts, rights,
@@ -278,7 +278,7 @@ fn compare_meets(
 }
 
 fn check_meets(arena: Arena, kids: &[u64], facts: &mut [u32], find: &[u16]) -> bool
-    ensures { Meets (check (before arena kids facts find)) (result, facts.new) }
+    ensures { Meets (check (before arena kids.now facts.old find.now)) (result, facts.new) }
 {
     check_arena::check_arena(arena, kids, facts, find)
 }

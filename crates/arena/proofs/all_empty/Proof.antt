@@ -9,10 +9,10 @@ use Rattle.arena.proofs.all_empty.Statement.{statement}
 use Rattle.arena.proofs.all_empty.Tie as tie
 
 -- invariant: all eight are EMPTY exactly if those from i on are
-abbrev invariant_loop : tie.invariant-loop
+abbrev invariant_loop : tie.invariant-loop-i
 invariant_loop ids i₀ i = (i ≤ 8) × (length ids ≡ 8) × (all_of (λ k. eqb k 0) ids ≡ all_of (λ k. eqb k 0) (drop i ids))
 
-abbrev decreases_loop : tie.decreases-loop
+abbrev decreases_loop : tie.decreases-loop-i
 decreases_loop ids i₀ i = 8 - i
 
 pub all_empty_spec : {M : Type 1} → statement M

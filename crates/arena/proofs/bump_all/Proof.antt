@@ -9,10 +9,10 @@ use Rattle.arena.proofs.bump_all.Statement.{statement}
 use Rattle.arena.proofs.bump_all.Tie as tie
 
 -- invariant: those from number i on, counted onto what is there now, come to all eight counted onto what was there
-abbrev invariant_loop : tie.invariant-loop
+abbrev invariant_loop : tie.invariant-loop-i
 invariant_loop facts₀ f ids i₀ facts i = (i ≤ 8) × (length ids ≡ 8) × (length facts ≡ length facts₀) × (each (bumped f) facts₀ ids ≡ each (bumped f) facts (drop i ids))
 
-abbrev decreases_loop : tie.decreases-loop
+abbrev decreases_loop : tie.decreases-loop-i
 decreases_loop facts₀ f ids i₀ facts i = 8 - i
 
 pub bump_all_spec : {M : Type 1} → statement M

@@ -9,10 +9,10 @@ use Rattle.arena_branch.proofs.all_enough.Statement.{statement}
 use Rattle.arena_branch.proofs.all_enough.Tie as tie
 
 -- invariant: it holds of all exactly if it does of those from i on
-abbrev invariant_loop : tie.invariant-loop
+abbrev invariant_loop : tie.invariant-loop-i
 invariant_loop facts ks i₀ i = (i ≤ 8) × (length ks ≡ 8) × (all_of (enough_for (fact_of facts) ks) ks ≡ all_of (enough_for (fact_of facts) ks) (drop i ks))
 
-abbrev decreases_loop : tie.decreases-loop
+abbrev decreases_loop : tie.decreases-loop-i
 decreases_loop facts ks i₀ i = 8 - i
 
 pub all_enough_spec : {M : Type 1} → statement M

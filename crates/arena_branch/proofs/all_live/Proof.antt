@@ -9,10 +9,10 @@ use Rattle.arena_branch.proofs.all_live.Statement.{statement}
 use Rattle.arena_branch.proofs.all_live.Tie as tie
 
 -- invariant: it holds of all exactly if it does of those from i on
-abbrev invariant_loop : tie.invariant-loop
+abbrev invariant_loop : tie.invariant-loop-i
 invariant_loop capacity facts ks i₀ i = (i ≤ 8) × (length ks ≡ 8) × (all_of (live_or_empty capacity (fact_of facts)) ks ≡ all_of (live_or_empty capacity (fact_of facts)) (drop i ks))
 
-abbrev decreases_loop : tie.decreases-loop
+abbrev decreases_loop : tie.decreases-loop-i
 decreases_loop capacity facts ks i₀ i = 8 - i
 
 pub all_live_spec : {M : Type 1} → statement M

@@ -58,15 +58,15 @@ branch_at_spec =
     tie.close
     (tie.spec (λ c κs. search rules) (λ c κs. search rules) (λ c. search rules) (λ c. search dead) (λ c κs. search rules) (λ c κs. search rules) (λ c κs. search rules) (λ c. search rules)
     (λ c.
-    let left = c.refuse2.ensures in
-    let number = c.before.before.first-no.ensures in
-    let top = c.before.before.before.before.sums_at.ensures.2 in
+    let left = c.refuse-then-no-ne0.ensures in
+    let number = c.before.before.first_no-no.ensures in
+    let top = c.before.before.before.before.sums_at-sums.ensures.2 in
     let lived = c.before.before.before.before.before.before.before.lives.ensures in
-    let so = c.before.before.before.before.before.before.if1.false in
-    let some = c.before.if2.true in
+    let so = c.before.before.before.before.before.before.if-not-lives.false in
+    let some = c.before.if-no-ne0.true in
     search refusal)
     (λ c κs.
-    let none = c.before.before.before.if2.false in
-    let number = c.before.before.before.before.first-no.ensures in
-    let top = c.before.before.before.before.before.before.sums_at.ensures.2 in
+    let none = c.before.before.before.if-no-ne0.false in
+    let number = c.before.before.before.before.first_no-no.ensures in
+    let top = c.before.before.before.before.before.before.sums_at-sums.ensures.2 in
     (search rules, search rules, search rules, search low, search rules)) (λ c. search rules) (λ c. search rules) (λ c. search rules) (λ c. search fine))

@@ -1,6 +1,5 @@
 use borrow.Author.Rules.{rules}
 use mathlib.Core.Path.{◌≡◌, sym, ap, ◌∙◌}
-use mathlib.Core.Logic.{⊎_elim}
 use mathlib.Core.List.{List, ◌∷◌}
 use Prim.Native.Nat.{ℕ, suc, ◌+◌, ◌-◌, ◌≤◌, ◌<◌}
 use native.Mathlib.Omega.{arith}
@@ -8,6 +7,7 @@ use lib.ListN.{length, get_or, drop}
 use Rattle.nodes.specs.Tally.{occ}
 use Rattle.nodes.proofs.Sums.{occ_here, occ_nil, occ_there}
 use Rattle.arena.proofs.Eight.{drop_at, drop_none}
+use Rattle.arena_branch.proofs.occurs.Lts.{then-y-ks, else-y-ks}
 use Rattle.arena_branch.proofs.occurs.Statement.{statement}
 use Rattle.arena_branch.proofs.occurs.Tie as tie
 
@@ -25,10 +25,10 @@ module _ (y : ℕ) (ks : List ℕ) (n i : ℕ) (z : length ks ≡ 8) (e : n + oc
   last l = let p = ap (occ y) (drop_none ks i z l) in omega (arith, occ_nil y)
 
 -- invariant: n and the times that y stands from number i on are the times that it stands in all
-abbrev invariant_loop : tie.invariant-loop
+abbrev invariant_loop : tie.invariant-loop-i
 invariant_loop y ks n₀ i₀ n i = (i ≤ 8) × (length ks ≡ 8) × (n ≤ i) × (n + occ y (drop i ks) ≡ occ y ks)
 
-abbrev decreases_loop : tie.decreases-loop
+abbrev decreases_loop : tie.decreases-loop-i
 decreases_loop y ks n₀ i₀ n i = 8 - i
 
 pub occurs_spec : {M : Type 1} → statement M
@@ -36,5 +36,8 @@ occurs_spec =
     tie.close
     (tie.spec invariant_loop decreases_loop (λ c. (search rules, search rules, search rules, search rules)) (λ c. search rules)
     (λ c. search rules) (λ c. search rules) (λ c. search rules) (λ c. search rules)
-    (λ c. ⊎_elim (λ w. (search rules, search rules, search rules, search hit)) (λ w. (search rules, search rules, search rules, search miss)) c.if1.branch)
+    (λ c. elim c.if-y-ks.branch [
+      | then-y-ks w ↦ (search rules, search rules, search rules, search hit)
+      | else-y-ks w ↦ (search rules, search rules, search rules, search miss)
+    ])
     (λ c. search last))

@@ -7,10 +7,10 @@ use Rattle.arena_branch.proofs.take_while.Statement.{statement}
 use Rattle.arena_branch.proofs.take_while.Tie as tie
 
 -- invariant: the first i are taken
-abbrev invariant_loop : tie.invariant-loop
+abbrev invariant_loop : tie.invariant-loop-i
 invariant_loop facts₀ ks i₀ facts i = (i ≤ 8) × (length ks ≡ 8) × (length facts ≡ length facts₀) × Taking facts₀ facts ks i
 
-abbrev decreases_loop : tie.decreases-loop
+abbrev decreases_loop : tie.decreases-loop-i
 decreases_loop facts₀ ks i₀ facts i = 8 - i
 
 pub take_while_spec : {M : Type 1} → statement M

@@ -9,10 +9,10 @@ use Rattle.arena_hold.proofs.clear_cells.Statement.{statement}
 use Rattle.arena_hold.proofs.clear_cells.Tie as tie
 
 -- invariant: the first i cells are 0, the others as they were
-abbrev invariant_loop : tie.invariant-loop
+abbrev invariant_loop : tie.invariant-loop-i
 invariant_loop find₀ i₀ find i = (i ≤ length find₀) × (find ≡ replicate i 0 ++ drop i find₀) × (length find ≡ length find₀)
 
-abbrev decreases_loop : tie.decreases-loop
+abbrev decreases_loop : tie.decreases-loop-i
 decreases_loop find₀ i₀ find i = length find₀ - i
 
 pub clear_cells_spec : {M : Type 1} → statement M

@@ -9,10 +9,10 @@ use Rattle.arena_hold.proofs.clear_facts.Statement.{statement}
 use Rattle.arena_hold.proofs.clear_facts.Tie as tie
 
 -- invariant: the first i words are 0, the others as they were
-abbrev invariant_loop : tie.invariant-loop
+abbrev invariant_loop : tie.invariant-loop-i
 invariant_loop facts₀ i₀ facts i = (i ≤ length facts₀) × (facts ≡ replicate i 0 ++ drop i facts₀) × (length facts ≡ length facts₀)
 
-abbrev decreases_loop : tie.decreases-loop
+abbrev decreases_loop : tie.decreases-loop-i
 decreases_loop facts₀ i₀ facts i = length facts₀ - i
 
 pub clear_facts_spec : {M : Type 1} → statement M

@@ -9,10 +9,10 @@ use Rattle.arena_hold.proofs.clear_kids.Statement.{statement}
 use Rattle.arena_hold.proofs.clear_kids.Tie as tie
 
 -- invariant: the first i words are 0, the others as they were
-abbrev invariant_loop : tie.invariant-loop
+abbrev invariant_loop : tie.invariant-loop-i
 invariant_loop kids₀ i₀ kids i = (i ≤ length kids₀) × (kids ≡ replicate i 0 ++ drop i kids₀) × (length kids ≡ length kids₀)
 
-abbrev decreases_loop : tie.decreases-loop
+abbrev decreases_loop : tie.decreases-loop-i
 decreases_loop kids₀ i₀ kids i = length kids₀ - i
 
 pub clear_kids_spec : {M : Type 1} → statement M

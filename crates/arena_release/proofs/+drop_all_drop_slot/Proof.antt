@@ -44,13 +44,13 @@ abbrev slot_below : ℕ → In 3 drop-slot-kinds.ps
 slot_below t = and 3 drop-slot-kinds.ps (falls 3 drop-slot-kinds.ps ◌<◌ μ_slot t) drop-slot.Pre
 
 -- invariant: the ids from i on, dropped from the tables as they are, leave what all eight, dropped from the tables as they were, leave
-abbrev invariant_loop : all-lts.invariant_loop
+abbrev invariant_loop : all-lts.invariant-loop-i
 invariant_loop capacity slots kids₀ facts₀ find₀ levels ids gone₀ i₀ kids facts find gone i =
     (i ≤ 8) × (length ids ≡ 8) × (length kids ≡ length kids₀) × (length facts ≡ length facts₀) × (length find ≡ length find₀)
     × (each (drop_place gone_by (levels + 1)) (tables (state_in capacity slots) kids₀ facts₀ find₀) ids
     ≡ each (drop_place gone_by (levels + 1)) (tables (state_in capacity gone) kids facts find) (drop i ids))
 
-abbrev decreases_loop : all-lts.decreases_loop
+abbrev decreases_loop : all-lts.decreases-loop-i
 decreases_loop capacity slots kids₀ facts₀ find₀ levels ids gone₀ i₀ kids facts find gone i = 8 - i
 
 pub +drop_all_drop_slot_spec : {M : Type 1} → statement M

@@ -12,7 +12,7 @@ decode_child_index_path_requires c κs = search rules
 returns : tie.Need-returns
 returns c = (
   ap (λ (d : Decoded). d.no) c.before.before.decode_child_index_path-cell.ensures,
-  kept _ _ _ (search rules) (search rules) (search rules) ∙ ap (λ (d : Decoded). d.position-1) c.before.before.decode_child_index_path-cell.ensures,
+  kept _ _ _ (search rules) (search rules) (search rules) ∙ ap (λ (d : Decoded). d.position) c.before.before.decode_child_index_path-cell.ensures,
 )
 
 pub fenpiling_decode_child_index_path_spec : {M : Type 1} → statement M

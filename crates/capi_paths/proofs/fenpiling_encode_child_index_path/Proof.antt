@@ -10,7 +10,7 @@ encode_child_index_path_requires : tie.Need-encode_child_index_path-requires
 encode_child_index_path_requires c κs = search rules
 
 returns : tie.Need-returns
-returns c = c.encode-child-index-path.ensures ∙ ap path_of (kept _ _ _ c.before.ranges.x c.before.ranges.y c.before.ranges.z)
+returns c = c.encode_child_index_path.ensures ∙ ap path_of (kept _ _ _ c.before.ranges.x c.before.ranges.y c.before.ranges.z)
 
 pub fenpiling_encode_child_index_path_spec : {M : Type 1} → statement M
 fenpiling_encode_child_index_path_spec = tie.close (tie.spec encode_child_index_path_requires returns)

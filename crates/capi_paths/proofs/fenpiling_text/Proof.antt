@@ -10,7 +10,7 @@ text_requires c κs = search rules
 
 returns : tie.Need-returns
 returns c = (
-  ap (λ (t : IdText). t.bytes-1) c.before.text-text.ensures,
+  ap (λ (t : IdText). t.bytes) c.before.text-text.ensures,
   ap (λ (t : IdText). t.len) c.before.text-text.ensures,
 )
 

@@ -27,10 +27,10 @@ module _ (f : List ℕ) (s i w : ℕ) (e : Passed (fact_zero f s) value i mark) 
   halt z l = pass_halt (fact_zero f s) value i mark e (ne_eqb (fact_of f s i) 0 (λ q. z (read ∙ q))) l
 
 -- invariant: the words from `value` to before `mark` are 0 if those from f on are
-abbrev invariant_loop : tie.invariant-loop
+abbrev invariant_loop : tie.invariant-loop-f
 invariant_loop facts s f₀ f = (value ≤ f) × Passed (fact_zero facts s) value f mark
 
-abbrev decreases_loop : tie.decreases-loop
+abbrev decreases_loop : tie.decreases-loop-f
 decreases_loop facts s f₀ f = mark - f
 
 pub blank_spec : {M : Type 1} → statement M

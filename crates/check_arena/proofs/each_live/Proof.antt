@@ -9,11 +9,11 @@ use Rattle.check_arena.proofs.each_live.Statement.{statement}
 use Rattle.check_arena.proofs.each_live.Tie as tie
 
 -- invariant: the eight pass if those from number i on do
-abbrev invariant_loop : tie.invariant-loop
+abbrev invariant_loop : tie.invariant-loop-i
 invariant_loop capacity facts ks i₀ i =
     (i ≤ 8) × (length ks ≡ 8) × (all_live capacity (fact_of facts) ks ≡ all_live capacity (fact_of facts) (drop i ks))
 
-abbrev decreases_loop : tie.decreases-loop
+abbrev decreases_loop : tie.decreases-loop-i
 decreases_loop capacity facts ks i₀ i = 8 - i
 
 pub each_live_spec : {M : Type 1} → statement M

@@ -7,10 +7,10 @@ use Rattle.check_arena.proofs.slots_fine.Statement.{statement}
 use Rattle.check_arena.proofs.slots_fine.Tie as tie
 
 -- invariant: every slot is fine if those from s on are
-abbrev invariant_loop : tie.invariant-loop
+abbrev invariant_loop : tie.invariant-loop-s
 invariant_loop kids facts capacity next s₀ s = Passed (slot_fine kids facts capacity next) 0 s capacity
 
-abbrev decreases_loop : tie.decreases-loop
+abbrev decreases_loop : tie.decreases-loop-s
 decreases_loop kids facts capacity next s₀ s = capacity - s
 
 pub slots_fine_spec : {M : Type 1} → statement M

@@ -7,10 +7,10 @@ use Rattle.check_find.proofs.all_found.Statement.{statement}
 use Rattle.check_find.proofs.all_found.Tie as tie
 
 -- invariant: every live slot is found if those from s on are
-abbrev invariant_loop : tie.invariant-loop
+abbrev invariant_loop : tie.invariant-loop-s
 invariant_loop kids facts find capacity s₀ s = Passed (found_at kids facts find capacity) 0 s capacity
 
-abbrev decreases_loop : tie.decreases-loop
+abbrev decreases_loop : tie.decreases-loop-s
 decreases_loop kids facts find capacity s₀ s = capacity - s
 
 pub all_found_spec : {M : Type 1} → statement M

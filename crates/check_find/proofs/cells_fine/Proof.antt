@@ -8,10 +8,10 @@ use Rattle.check_find.proofs.cells_fine.Statement.{statement}
 use Rattle.check_find.proofs.cells_fine.Tie as tie
 
 -- invariant: every cell is fine if those from p on are
-abbrev invariant_loop : tie.invariant-loop
+abbrev invariant_loop : tie.invariant-loop-p
 invariant_loop kids facts find capacity p₀ p = Passed (cell_fine kids facts find capacity) 0 p (length find)
 
-abbrev decreases_loop : tie.decreases-loop
+abbrev decreases_loop : tie.decreases-loop-p
 decreases_loop kids facts find capacity p₀ p = (length find) - p
 
 pub cells_fine_spec : {M : Type 1} → statement M

@@ -23,10 +23,10 @@ module _ (f : List ℕ) where
   last n s c e a b = let q : s ≡ c = omega arith in rw q at e
 
 -- invariant: `live` of the slots below s live
-abbrev invariant_loop : tie.invariant-loop
+abbrev invariant_loop : tie.invariant-loop-s
 invariant_loop facts c live₀ s₀ live s = (s ≤ c) × (live ≤ s) × (live ≡ live_count s (fact_of facts))
 
-abbrev decreases_loop : tie.decreases-loop
+abbrev decreases_loop : tie.decreases-loop-s
 decreases_loop facts c live₀ s₀ live s = c - s
 
 pub count_live_spec : {M : Type 1} → statement M

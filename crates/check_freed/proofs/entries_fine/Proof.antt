@@ -15,10 +15,10 @@ unfolding entry_fine
 at f next i s t e d = d ∙ ap (numbered_by f next i) e
 
 -- invariant: every entry is fine if those from i on are
-abbrev invariant_loop : tie.invariant-loop
+abbrev invariant_loop : tie.invariant-loop-i
 invariant_loop facts next freed i₀ i = Passed (entry_fine facts next) 0 i freed
 
-abbrev decreases_loop : tie.decreases-loop
+abbrev decreases_loop : tie.decreases-loop-i
 decreases_loop facts next freed i₀ i = freed - i
 
 pub entries_fine_spec : {M : Type 1} → statement M

@@ -7,10 +7,10 @@ use Rattle.check_places.proofs.all_agree.Statement.{statement}
 use Rattle.check_places.proofs.all_agree.Tie as tie
 
 -- invariant: every slot agrees if those from s on do
-abbrev invariant_loop : tie.invariant-loop
+abbrev invariant_loop : tie.invariant-loop-s
 invariant_loop facts c s₀ s = Passed (agree_at facts) 0 s c
 
-abbrev decreases_loop : tie.decreases-loop
+abbrev decreases_loop : tie.decreases-loop-s
 decreases_loop facts c s₀ s = c - s
 
 pub all_agree_spec : {M : Type 1} → statement M

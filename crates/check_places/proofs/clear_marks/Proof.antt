@@ -8,10 +8,10 @@ use Rattle.check_places.proofs.clear_marks.Statement.{statement}
 use Rattle.check_places.proofs.clear_marks.Tie as tie
 
 -- invariant: the counters of the live slots below s are 0 again
-abbrev invariant_loop : tie.invariant-loop
+abbrev invariant_loop : tie.invariant-loop-s
 invariant_loop facts₀ c s₀ facts s = (s ≤ c) × (length facts ≡ length facts₀) × (facts ≡ clear_to facts₀ s)
 
-abbrev decreases_loop : tie.decreases-loop
+abbrev decreases_loop : tie.decreases-loop-s
 decreases_loop facts₀ c s₀ facts s = c - s
 
 pub clear_marks_spec : {M : Type 1} → statement M

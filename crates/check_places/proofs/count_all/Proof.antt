@@ -17,10 +17,10 @@ unfolding kids_bumped
 turn k l m ks s q d = rw (d, q)
 
 -- invariant: the child places of the slots below s are counted
-abbrev invariant_loop : tie.invariant-loop
+abbrev invariant_loop : tie.invariant-loop-s
 invariant_loop kids facts₀ c s₀ facts s = (s ≤ c) × (length facts ≡ length facts₀) × (facts ≡ count_to kids facts₀ s)
 
-abbrev decreases_loop : tie.decreases-loop
+abbrev decreases_loop : tie.decreases-loop-s
 decreases_loop kids facts₀ c s₀ facts s = c - s
 
 pub count_all_spec : {M : Type 1} → statement M

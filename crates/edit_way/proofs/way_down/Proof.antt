@@ -8,11 +8,11 @@ use Rattle.edit_way.proofs.Ways.{Falling, fall_none, fall_start, fall_small, fal
 use Rattle.edit_way.proofs.way_down.Statement.{statement}
 use Rattle.edit_way.proofs.way_down.Tie as tie
 
-abbrev invariant_loop : tie.invariant-loop
+abbrev invariant_loop : tie.invariant-loop-left
 invariant_loop kids root cell ids₀ at₀ path₀ left₀ ids at path left =
     (left ≤ cell.depth) × (cell.depth ≤ deepest) × (length ids ≡ 6) × (path < 2 ^ 18) × Falling (kid_of kids) cell root ids at path left
 
-abbrev decreases_loop : tie.decreases-loop
+abbrev decreases_loop : tie.decreases-loop-left
 decreases_loop kids root cell ids₀ at₀ path₀ left₀ ids at path left = left
 
 pub way_down_spec : {M : Type 1} → statement M

@@ -34,10 +34,10 @@ module _ (W : Words) (s : ℕ) (own ks : List ℕ) (j : ℕ) (b : Bool) (is : ow
   last n h = let q : length ks ≤ j = omega arith in sym (e ∙ ap (agree W s j) (drop_of_length-le ks q))
 
 -- invariant: the children are equal if those from number j on are
-abbrev invariant_loop : tie.invariant-loop
+abbrev invariant_loop : tie.invariant-loop-j
 invariant_loop kids s ks own j₀ j = (j ≤ 8) × (length ks ≡ 8) × (length own ≡ 8) × (own ≡ kids_of 8 (kid_of kids) s) × (agree (kid_of kids) s 0 ks ≡ agree (kid_of kids) s j (drop j ks))
 
-abbrev decreases_loop : tie.decreases-loop
+abbrev decreases_loop : tie.decreases-loop-j
 decreases_loop kids s ks own j₀ j = 8 - j
 
 pub kids_equal_spec : {M : Type 1} → statement M

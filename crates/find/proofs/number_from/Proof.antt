@@ -24,10 +24,10 @@ module _ (s : ℕ) (t : List ℕ) (h i : ℕ) (e : probe (eqb s) t h ≡ probe (
   hit x l d q = sym (e ∙ probe_here (eqb s) t i l (stops_same (eqb s) (get_or t i 0) (eq-eqb s (get_or t i 0) (q ∙ d))))
 
 -- invariant: the search for the number from its start ends where one from cell i ends
-abbrev invariant_loop : tie.invariant-loop
+abbrev invariant_loop : tie.invariant-loop-i
 invariant_loop find s from i₀ i = probe (eqb s) find from ≡ probe (eqb s) find i
 
-abbrev decreases_loop : tie.decreases-loop
+abbrev decreases_loop : tie.decreases-loop-i
 decreases_loop find s from i₀ i = length find - i
 
 pub number_from_spec : {M : Type 1} → statement M

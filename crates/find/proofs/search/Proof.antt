@@ -10,10 +10,10 @@ use Rattle.find.proofs.search.Statement.{statement}
 use Rattle.find.proofs.search.Tie as tie
 
 -- invariant: the search from the home ends where a search from cell i ends
-abbrev invariant_loop : tie.invariant-loop
+abbrev invariant_loop : tie.invariant-loop-i
 invariant_loop find kids facts capacity h ks i₀ i = kids_cell find capacity (word_of (nodes kids facts)) h ks ≡ probe (kids_are (word_of (nodes kids facts)) h ks) find i
 
-abbrev decreases_loop : tie.decreases-loop
+abbrev decreases_loop : tie.decreases-loop-i
 decreases_loop find kids facts capacity h ks i₀ i = length find - i
 
 pub search_spec : {M : Type 1} → statement M

@@ -10,10 +10,10 @@ use Rattle.find.proofs.search_leaf.Statement.{statement}
 use Rattle.find.proofs.search_leaf.Tie as tie
 
 -- invariant: the search from the home ends where a search from cell i ends
-abbrev invariant_loop : tie.invariant-loop
+abbrev invariant_loop : tie.invariant-loop-i
 invariant_loop find facts capacity h v i₀ i = leaf_cell find capacity (fact_of facts) h v ≡ probe (leaf_is (fact_of facts) h v) find i
 
-abbrev decreases_loop : tie.decreases-loop
+abbrev decreases_loop : tie.decreases-loop-i
 decreases_loop find facts capacity h v i₀ i = length find - i
 
 pub search_leaf_spec : {M : Type 1} → statement M

@@ -31,10 +31,10 @@ module _ (home : ℕ → ℕ) (u : List ℕ) (t : List ℕ) (i j : ℕ) (e : u �
   skip h l n q k = e ∙ shift_skip home t i j l n (omega arith)
 
 -- invariant: taking the cell out leaves what moving the entries from j on down into the hole leaves
-abbrev invariant_loop : tie.invariant-loop
+abbrev invariant_loop : tie.invariant-loop-find
 invariant_loop find₀ facts capacity at hole₀ j₀ find hole j = (hole < j) × (hole < length find) × (length find ≡ length find₀) × (erase (home_at capacity (fact_of facts)) find₀ at ≡ shift (home_at capacity (fact_of facts)) find hole j)
 
-abbrev decreases_loop : tie.decreases-loop
+abbrev decreases_loop : tie.decreases-loop-find
 decreases_loop find₀ facts capacity at hole₀ j₀ find hole j = length find₀ - j
 
 pub erase_at_spec : {M : Type 1} → statement M
@@ -42,7 +42,7 @@ erase_at_spec =
     tie.close
     (tie.spec invariant_loop decreases_loop (λ c. search out) (λ c. search rules) (λ c. (search rules, search rules, search rules, search start))
     (λ c. search rules) (λ c. search rules) (λ c. search rules) (λ c. search end) (λ c. search rules) (λ c. search rules)
-    (λ c. search rules) (λ c. search rules) (λ c. search rules) (λ c. search empty) (λ c. omega (arith, c.before.slice-known2.given c.before.before.before.loop.j)) (λ c κs. search rules)
+    (λ c. search rules) (λ c. search rules) (λ c. search rules) (λ c. search empty) (λ c. omega (arith, c.before.slice_known-in-loop-find-1.given c.before.before.before.loop-find.j)) (λ c κs. search rules)
     (λ c. search rules) (λ c. search rules) (λ c. search rules) (λ c. search rules)
     (λ c. (search rules, search rules, search rules, search move)) (λ c. search rules) (λ c. search rules)
     (λ c. (search rules, search rules, search rules, search skip)))

@@ -7,10 +7,10 @@ use Rattle.read_cell.proofs.descend.Statement.{statement}
 use Rattle.read_cell.proofs.descend.Tie as tie
 
 -- invariant: the path leads to `at` with `left` levels left
-abbrev invariant_loop : tie.invariant-loop
+abbrev invariant_loop : tie.invariant-loop-left
 invariant_loop kids cell at₀ left₀ at left = (left ≤ cell.depth) × (cell.depth ≤ deepest) × Walked (kid_of kids) cell at₀ left at
 
-abbrev decreases_loop : tie.decreases-loop
+abbrev decreases_loop : tie.decreases-loop-left
 decreases_loop kids cell at₀ left₀ at left = left
 
 pub descend_spec : {M : Type 1} → statement M

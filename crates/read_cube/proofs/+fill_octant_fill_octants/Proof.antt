@@ -43,11 +43,11 @@ abbrev all_below : ℕ → In 3 fill-octants-kinds.ps
 all_below t = and 3 fill-octants-kinds.ps (falls 3 fill-octants-kinds.ps ◌<◌ μ_all t) fill-octants.Pre
 
 -- invariant: the first c parts are filled
-abbrev invariant_loop : fill-octants-lts.invariant_loop
+abbrev invariant_loop : fill-octants-lts.invariant-loop-c
 invariant_loop kids facts cube₀ id at left h row plane s c₀ cube c =
     (c ≤ 8) × (cube ≡ parts_to (word_of (nodes kids facts)) 8 row plane left h id at c cube₀) × (length cube ≡ length cube₀) × (s ≡ slot id)
 
-abbrev decreases_loop : fill-octants-lts.decreases_loop
+abbrev decreases_loop : fill-octants-lts.decreases-loop-c
 decreases_loop kids facts cube₀ id at left h row plane s c₀ cube c = 8 - c
 
 pub +fill_octant_fill_octants_spec : {M : Type 1} → statement M

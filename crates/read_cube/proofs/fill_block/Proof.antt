@@ -7,10 +7,10 @@ use Rattle.read_cube.proofs.fill_block.Statement.{statement}
 use Rattle.read_cube.proofs.fill_block.Tie as tie
 
 -- invariant: the first y planes are filled
-abbrev invariant_loop : tie.invariant-loop
+abbrev invariant_loop : tie.invariant-loop-y
 invariant_loop cube₀ at n row plane v y₀ cube y = (y ≤ n) × (cube ≡ block_to row plane at n n v y cube₀) × (length cube ≡ length cube₀)
 
-abbrev decreases_loop : tie.decreases-loop
+abbrev decreases_loop : tie.decreases-loop-y
 decreases_loop cube₀ at n row plane v y₀ cube y = n - y
 
 pub fill_block_spec : {M : Type 1} → statement M

@@ -9,4 +9,4 @@ fill_eight_spec =
     (tie.spec (λ c. search rules) (λ c. search rules) (λ c κs. search rules) (λ c. search rules) (λ c. search rules)
     (λ c. search rules) (λ c κs. search rules) (λ c. search rules) (λ c. search rules) (λ c. search rules) (λ c κs. search rules) (λ c. search rules)
     (λ c. search rules) (λ c. search rules) (λ c. search rules) (λ c κs. search rules) (λ c. search rules) (λ c.
-    eight_is _ _ _ _ _ _ _ _ _ _ c.before.before.before.before.before.before.before.before.before.before.before.before.before.before.fill-pair.ensures c.before.before.before.before.before.before.before.before.before.before.fill-pair2.ensures c.before.before.before.before.before.before.fill-pair3.ensures c.before.before.fill-pair4.ensures))
+    eight_is _ _ _ _ _ _ _ _ _ _ c.before.before.before.before.before.before.before.before.before.before.before.before.before.before.fill_pair.ensures c.before.before.before.before.before.before.before.before.before.before.fill_pair-2.ensures c.before.before.before.before.before.before.fill_pair-3.ensures c.before.before.fill_pair-4.ensures))

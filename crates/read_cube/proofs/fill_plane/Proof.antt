@@ -7,10 +7,10 @@ use Rattle.read_cube.proofs.fill_plane.Statement.{statement}
 use Rattle.read_cube.proofs.fill_plane.Tie as tie
 
 -- invariant: the first z rows are filled
-abbrev invariant_loop : tie.invariant-loop
+abbrev invariant_loop : tie.invariant-loop-z
 invariant_loop cube₀ at n row v z₀ cube z = (z ≤ n) × (cube ≡ plane_to row at n v z cube₀) × (length cube ≡ length cube₀)
 
-abbrev decreases_loop : tie.decreases-loop
+abbrev decreases_loop : tie.decreases-loop-z
 decreases_loop cube₀ at n row v z₀ cube z = n - z
 
 pub fill_plane_spec : {M : Type 1} → statement M

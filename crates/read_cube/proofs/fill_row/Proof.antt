@@ -8,10 +8,10 @@ use Rattle.read_cube.proofs.fill_row.Statement.{statement}
 use Rattle.read_cube.proofs.fill_row.Tie as tie
 
 -- invariant: the first x cells are filled
-abbrev invariant_loop : tie.invariant-loop
+abbrev invariant_loop : tie.invariant-loop-x
 invariant_loop cube₀ at n v x₀ cube x = (x ≤ n) × (cube ≡ fill_row at x v cube₀) × (length cube ≡ length cube₀)
 
-abbrev decreases_loop : tie.decreases-loop
+abbrev decreases_loop : tie.decreases-loop-x
 decreases_loop cube₀ at n v x₀ cube x = n - x
 
 pub fill_row_spec : {M : Type 1} → statement M

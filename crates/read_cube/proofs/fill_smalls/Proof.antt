@@ -9,11 +9,11 @@ use Rattle.read_cube.proofs.fill_smalls.Statement.{statement}
 use Rattle.read_cube.proofs.fill_smalls.Tie as tie
 
 -- invariant: the first c parts are filled
-abbrev invariant_loop : tie.invariant-loop
+abbrev invariant_loop : tie.invariant-loop-c
 invariant_loop kids facts cube₀ id at row plane s c₀ cube c =
     (c ≤ 8) × (cube ≡ parts_to (word_of (nodes kids facts)) 8 row plane 1 2 id at c cube₀) × (length cube ≡ length cube₀) × (s ≡ slot id)
 
-abbrev decreases_loop : tie.decreases-loop
+abbrev decreases_loop : tie.decreases-loop-c
 decreases_loop kids facts cube₀ id at row plane s c₀ cube c = 8 - c
 
 pub fill_smalls_spec : {M : Type 1} → statement M
