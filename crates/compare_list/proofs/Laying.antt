@@ -1,6 +1,6 @@
 -- Cells written into the three parts of a list, one walk after another.
 use mathlib.Core.Path.{◌≡◌, ◌∙◌, refl, sym, ap}
-use mathlib.Core.List.{List, [], ◌∷◌, ◌++◌, map, map_append}
+use mathlib.Core.List.{List, [], ◌∷◌, ◌++◌, map, map-append}
 use Prim.Native.Nat.{ℕ, ◌+◌, ◌≤◌}
 use native.Mathlib.Omega.{arith}
 use lib.ListN.{length, set, length-append, length-map}
@@ -45,7 +45,7 @@ module _ (at : ℕ) (c l r : List ℕ) where
       one : (f : Differs → ℕ) (s s₁ s₂ : List ℕ) → s₁ ≡ puts_from s at (map f ds) → s₂ ≡ puts_from s₁ x (map f es) → s₂ ≡ puts_from s at (map f (ds ++ es))
       one f s s₁ s₂ i j =
           let k : x ≡ at + length (map f ds) = u.to ∙ ap (λ (n : ℕ). at + n) (sym (length-map ds f)) in
-          rw (map_append f ds es, puts_append (map f ds) (map f es) s at, ← k, ← i) j
+          rw (map-append f ds es, puts_append (map f ds) (map f es) s at, ← k, ← i) j
 
 -- a walk that found no more than size cells and opened no more pairs
 pub within : {at : ℕ} {ds : List Differs} {o x y : ℕ} {c l r c' l' r' : List ℕ} (size : ℕ) → Laid at ds o x y c l r c' l' r' → length ds ≤ size → o ≤ size

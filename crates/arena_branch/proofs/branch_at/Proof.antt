@@ -60,13 +60,13 @@ branch_at_spec =
     (λ c.
     let left = c.refuse-then-no-ne0.ensures in
     let number = c.before.before.first_no-no.ensures in
-    let top = c.before.before.before.before.sums_at-sums.ensures.2 in
-    let lived = c.before.before.before.before.before.before.before.lives.ensures in
-    let so = c.before.before.before.before.before.before.if-not-lives.false in
+    let top = c.before.before.before.sums_at-sums.ensures.2 in
+    let lived = c.before.before.before.before.before.lives.ensures in
+    let so = c.before.before.before.before.if-not-lives.false in
     let some = c.before.if-no-ne0.true in
     search refusal)
     (λ c κs.
     let none = c.before.before.before.if-no-ne0.false in
     let number = c.before.before.before.before.first_no-no.ensures in
-    let top = c.before.before.before.before.before.before.sums_at-sums.ensures.2 in
+    let top = c.before.before.before.before.before.sums_at-sums.ensures.2 in
     (search rules, search rules, search rules, search low, search rules)) (λ c. search rules) (λ c. search rules) (λ c. search rules) (λ c. search fine))

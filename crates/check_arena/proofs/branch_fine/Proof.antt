@@ -21,6 +21,6 @@ pub branch_fine_spec : {M : Type 1} → statement M
 unfolding branch_fine
 branch_fine_spec =
     tie.close
-    (tie.spec (λ c κs. search rules) (λ c. search mine depth 16) (λ c κs. search rules) (λ c. search mine depth 16) (λ c κs. search rules) (λ c κs. search rules)
-    (λ c. search mine depth 16) (λ c κs. search rules) (λ c κs. search rules) (λ c. search mine depth 16) (λ c κs. search rules)
-    (λ c. search mine depth 16))
+    (tie.spec (λ c κs. search rules) (λ c. search mine depth 16 fits 20000) (λ c κs. search rules) (λ c. search mine depth 16 fits 20000) (λ c κs. search rules) (λ c κs. search rules)
+    (λ c. search mine depth 16 fits 20000) (λ c κs. search rules) (λ c κs. search rules) (λ c. search mine depth 16 fits 20000) (λ c κs. search rules)
+    (λ c. search mine depth 16 fits 20000))

@@ -41,11 +41,11 @@ abbrev places_below : ℕ → In 2 places-kinds.ps
 places_below t = and 2 places-kinds.ps (falls 2 places-kinds.ps ◌<◌ μ_places t) places.Pre
 
 -- so far the first c places, each with at most 8^left cells
-abbrev invariant_loop : places-lts.invariant_loop
+abbrev invariant_loop : places-lts.invariant-loop-c
 invariant_loop kids facts a b left c₀ cells₀ c cells =
     (c ≤ 8) × (left < deepest) × (cells ≤ c * 8 ^ left) × (cells ≡ places_count (word_of (nodes kids facts)) left a b c)
 
-abbrev decreases_loop : places-lts.decreases_loop
+abbrev decreases_loop : places-lts.decreases-loop-c
 decreases_loop kids facts a b left c₀ cells₀ c cells = 8 - c
 
 pub +count_pair_count_places_spec : {M : Type 1} → statement M

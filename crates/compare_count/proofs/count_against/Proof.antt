@@ -9,11 +9,11 @@ use Rattle.compare_count.proofs.Steps.{row_of, against_none, against_step, again
 use Rattle.compare_count.proofs.count_against.Statement.{statement}
 use Rattle.compare_count.proofs.count_against.Tie as tie
 
-abbrev invariant_loop : tie.invariant-loop
+abbrev invariant_loop : tie.invariant-loop-c
 invariant_loop kids facts id v row c₀ cells₀ c cells =
     (c ≤ 8) × (cells ≤ c) × (cells ≡ against_to (word_of (nodes kids facts)) id v c) × (row ≡ kids_of kid_words (kid_of kids) (slot id))
 
-abbrev decreases_loop : tie.decreases-loop
+abbrev decreases_loop : tie.decreases-loop-c
 decreases_loop kids facts id v row c₀ cells₀ c cells = 8 - c
 
 pub count_against_spec : {M : Type 1} → statement M

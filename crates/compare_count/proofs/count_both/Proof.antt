@@ -9,12 +9,12 @@ use Rattle.compare_count.proofs.Steps.{row_of, both_none, both_step, both_all}
 use Rattle.compare_count.proofs.count_both.Statement.{statement}
 use Rattle.compare_count.proofs.count_both.Tie as tie
 
-abbrev invariant_loop : tie.invariant-loop
+abbrev invariant_loop : tie.invariant-loop-c
 invariant_loop kids facts a b lefts rights c₀ cells₀ c cells =
     (c ≤ 8) × (cells ≤ c) × (cells ≡ both_to (word_of (nodes kids facts)) a b c) × (lefts ≡ kids_of kid_words (kid_of kids) (slot a))
     × (rights ≡ kids_of kid_words (kid_of kids) (slot b))
 
-abbrev decreases_loop : tie.decreases-loop
+abbrev decreases_loop : tie.decreases-loop-c
 decreases_loop kids facts a b lefts rights c₀ cells₀ c cells = 8 - c
 
 pub count_both_spec : {M : Type 1} → statement M

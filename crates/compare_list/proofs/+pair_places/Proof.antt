@@ -41,13 +41,13 @@ places_at t = and 5 places-kinds.ps (is 5 places-kinds.ps μ_places t) places.Pr
 abbrev places_below : ℕ → In 5 places-kinds.ps
 places_below t = and 5 places-kinds.ps (falls 5 places-kinds.ps ◌<◌ μ_places t) places.Pre
 
-abbrev invariant_loop : places-lts.invariant_loop
+abbrev invariant_loop : places-lts.invariant-loop-c
 invariant_loop kids facts codes₀ lefts₀ rights₀ a b left size base at c₀ from₀ to₀ opened₀ codes lefts rights c from to opened =
     (c ≤ 8) × (size ≡ 8 ^ left) × (base + 8 * size ≤ most_cells) × (from ≡ base + c * size) × (to ≤ from) × (opened ≤ 1 + c * size)
     × Laid at (places_to (word_of (nodes kids facts)) left base a b c) (opened_to (word_of (nodes kids facts)) left a b c) to opened codes₀ lefts₀ rights₀ codes lefts rights
     × (length codes ≡ length codes₀) × (length lefts ≡ length lefts₀) × (length rights ≡ length rights₀)
 
-abbrev decreases_loop : places-lts.decreases_loop
+abbrev decreases_loop : places-lts.decreases-loop-c
 decreases_loop kids facts codes₀ lefts₀ rights₀ a b left size base at c₀ from₀ to₀ opened₀ codes lefts rights c from to opened = 8 - c
 
 pub +pair_places_spec : {M : Type 1} → statement M

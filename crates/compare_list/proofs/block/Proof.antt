@@ -7,12 +7,12 @@ use Rattle.compare_list.proofs.Steps.{block_same, rows_none, rows_step, block_do
 use Rattle.compare_list.proofs.block.Statement.{statement}
 use Rattle.compare_list.proofs.block.Tie as tie
 
-abbrev invariant_loop : tie.invariant-loop
+abbrev invariant_loop : tie.invariant-loop-i
 invariant_loop codes₀ lefts₀ rights₀ u v size base at i₀ codes lefts rights i =
     (i ≤ size) × Laid at (row i base u v) 0 (at + i) 0 codes₀ lefts₀ rights₀ codes lefts rights
     × (length codes ≡ length codes₀) × (length lefts ≡ length lefts₀) × (length rights ≡ length rights₀)
 
-abbrev decreases_loop : tie.decreases-loop
+abbrev decreases_loop : tie.decreases-loop-i
 decreases_loop codes₀ lefts₀ rights₀ u v size base at i₀ codes lefts rights i = size - i
 
 pub block_spec : {M : Type 1} → statement M

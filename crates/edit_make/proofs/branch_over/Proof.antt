@@ -57,7 +57,7 @@ branch_over_spec =
     let leaf = typed.before in
     let types = leaf.before in
     let asked = types.before.before.before.before.requires in
-    done _ _ _ _ _ _ _ _ _ _ _ _ _ _ _ _ _ _ _ _ _ _ _ _ _ _ _ _ asked parts.parts.ensures part.part.ensures hash.hash_over_lem.ensures hashed.rehash.ensures sum.sum_over.ensures
-    value.value-at.ensures height.height-at.ensures placed.place-others.ensures all.with_part.ensures tall.height-over.ensures worth.value-at2.ensures
-    summed.resum.ensures types.types_over_lem.ensures leaf.is_leaf.ensures typed.with-bit.ensures mask.mask_over_lem.ensures none.is-empty.ensures
-    masked.with-bit2.ensures anew.branch-anew.ensures))
+    done _ _ _ _ _ _ _ _ _ _ _ _ _ _ _ _ _ _ _ _ _ _ _ _ _ _ _ _ asked parts.parts-ks.ensures part.part-was.ensures hash.hash_over.ensures hashed.rehash-hash.ensures sum.sum_over-sum.ensures
+    value.value_at-x.ensures height.height_at-g.ensures placed.place_others.ensures all.with_part-all.ensures tall.height_over-up.ensures worth.value_at.ensures
+    summed.resum-total.ensures types.types_over.ensures leaf.is_leaf.ensures typed.with_bit-types.ensures mask.mask_over.ensures none.is_empty.ensures
+    masked.with_bit-mask.ensures anew.branch_anew.ensures))

@@ -5,10 +5,10 @@ use Rattle.edit_make.proofs.passed.Statement.{statement}
 use Rattle.edit_make.proofs.passed.Tie as tie
 
 -- invariant: the digits that are left, without those still to go
-abbrev invariant_loop : tie.invariant-loop
+abbrev invariant_loop : tie.invariant-loop-i
 invariant_loop path n digits₀ i₀ digits i = (i ≤ n) × Passes path n i digits
 
-abbrev decreases_loop : tie.decreases-loop
+abbrev decreases_loop : tie.decreases-loop-i
 decreases_loop path n digits₀ i₀ digits i = n - i
 
 pub passed_spec : {M : Type 1} → statement M

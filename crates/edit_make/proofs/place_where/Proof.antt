@@ -7,10 +7,10 @@ use Rattle.edit_make.proofs.place_where.Statement.{statement}
 use Rattle.edit_make.proofs.place_where.Tie as tie
 
 -- invariant: what is left of the loop gives what the whole gives
-abbrev invariant_loop : tie.invariant-loop
+abbrev invariant_loop : tie.invariant-loop-i
 invariant_loop facts₀ mask ks bits₀ i₀ facts bits i = (i ≤ 8) × (length ks ≡ 8) × (length facts ≡ length facts₀) × Places ks facts₀ mask i facts bits
 
-abbrev decreases_loop : tie.decreases-loop
+abbrev decreases_loop : tie.decreases-loop-i
 decreases_loop facts₀ mask ks bits₀ i₀ facts bits i = 8 - i
 
 pub place_where_spec : {M : Type 1} → statement M

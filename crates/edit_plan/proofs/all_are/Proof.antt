@@ -19,10 +19,10 @@ module _ (ks : List ℕ) (k i : ℕ) (eight : length ks ≡ 8) (e : all_of (eqb 
   other h = all_stop (eqb k) ks i eight e false (sym (ne_eqb k (get_or ks i 0) (λ q. h (sym q)))) refl l
 
 -- invariant: whether all are k is whether all from number i on are
-abbrev invariant_loop : tie.invariant-loop
+abbrev invariant_loop : tie.invariant-loop-i
 invariant_loop k ks i₀ i = (i ≤ 8) × (length ks ≡ 8) × (all_of (eqb k) ks ≡ all_of (eqb k) (drop i ks))
 
-abbrev decreases_loop : tie.decreases-loop
+abbrev decreases_loop : tie.decreases-loop-i
 decreases_loop k ks i₀ i = 8 - i
 
 pub all_are_spec : {M : Type 1} → statement M

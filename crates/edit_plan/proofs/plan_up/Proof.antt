@@ -10,12 +10,12 @@ use Rattle.edit_plan.proofs.plan_up.Statement.{statement}
 use Rattle.edit_plan.proofs.plan_up.Tie as tie
 
 -- invariant: what is left of the way up gives what the whole gives
-abbrev invariant_loop : tie.invariant-loop
+abbrev invariant_loop : tie.invariant-loop-l
 invariant_loop a kids facts find path depth v ids below₀ digits₀ l₀ below digits l =
     let t = tables (state_of a) kids facts find in
     (l ≤ depth) × (depth ≤ deepest) × (length ids ≡ 6) × (below.new ≤ 1) × Climbs t ids depth path (cell_plan t v) l digits below
 
-abbrev decreases_loop : tie.decreases-loop
+abbrev decreases_loop : tie.decreases-loop-l
 decreases_loop a kids facts find path depth v ids below₀ digits₀ l₀ below digits l = depth - l
 
 ruleset mine = (cell_one, need_one, climb_start, climb_on, climb_stop, climb_end, rules)

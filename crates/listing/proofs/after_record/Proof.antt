@@ -5,8 +5,8 @@ use Rattle.listing.proofs.after_record.Tie as tie
 
 returns : tie.Need-returns
 returns c =
-    let step = c.before.before.before.before.before.before.before.before.before.before.before.step-to in
-    let line = c.before.before.put-line in
+    let step = c.before.before.before.before.before.before.before.before.before.before.before.step_to-step in
+    let line = c.before.before.put_line-line in
     (line.ensures.2, λ fair. lined_is _ _ _ _ _ _ _ _ _ (step.ensures fair) line.ensures.0 line.ensures.1)
 
 pub after_record_spec : {M : Type 1} → statement M

@@ -6,9 +6,9 @@ use Rattle.listing.proofs.put_line.Tie as tie
 
 returns : tie.Need-returns
 returns c =
-    let number = c.before.before.before.before.before.before.before.before.before.before.put-number in
-    let refusal = c.before.before.before.before.before.before.put-number2 in
-    let root = c.before.before.put_id in
+    let number = c.before.before.before.before.before.before.before.before.before.before.put_number-a in
+    let refusal = c.before.before.before.before.before.before.put_number-b in
+    let root = c.before.before.put_id-c in
     line_is _ _ _ (wrote_number number.ensures) number.ensures.2
     (wrote_number refusal.ensures) refusal.ensures.2
     (wrote_number root.ensures) root.ensures.2
