@@ -158,7 +158,7 @@ rises_passed {U} {f} {ids} {d} {root} {p} {l} {a} zero h r = let e : l ≡ l + 0
 rises_passed (suc n) h top = absurd (omega arith)
 rises_passed {U} {f} {ids} {d} {root} {p} {l} {a} (suc n) h (step b digit up r) =
     let e : suc l + n ≡ l + suc n = omega arith in
-    let z = rises_passed n (omega arith) r in
+    let z = rises_passed {p = p / 8} n (omega arith) r in
     (z.0, subst (λ (i : ℕ). Rises U f ids d root (passed (p / 8) n) i z.0) e z.1)
 
 module _ (t : Tables) (v root : ℕ) (c : Cell) (k s : ℕ) where

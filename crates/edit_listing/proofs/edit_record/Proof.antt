@@ -7,7 +7,7 @@ returns : tie.Need-returns
 returns c =
     let edited = c.before.before.before.before.before.before in
     let value = edited.before.before.before.before in
-    λ fair. edited_is _ _ _ _ _ _ value.before.cell_in.ensures value.value_in.ensures (edited.set-voxel.ensures fair)
+    λ fair. edited_is _ _ _ _ _ _ value.before.cell_in-cell.ensures value.value_in-value.ensures (edited.set_voxel.ensures fair)
 
 pub edit_record_spec : {M : Type 1} → statement M
 edit_record_spec =

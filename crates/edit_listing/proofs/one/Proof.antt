@@ -7,12 +7,12 @@ use Rattle.edit_listing.proofs.one.Tie as tie
 
 returns : tie.Need-returns
 returns c =
-    let gone = c.before.before.before.before.before.before.before.before.after-record in
+    let gone = c.before.before.before.before.before.before.before.before.after_record in
     let edited = c.before.before.before.before.before.before.before.before.before.before.before.before.before.before.before.before.before.before.before in
     let known = edited.before.before.before.before.before.before in
     let start = known.before.before.before.before in (
       gone.ensures.0,
-      one_is edits_enter start.args.run _ _ _ _ _ (λ i. omega (arith, known.shared-slice-known.given i)) edited.edit-record.result _ _ _ edited.edit-record.ensures gone.result _ _ _ _ gone.ensures.1,
+      one_is edits_enter start.args.run _ _ _ _ _ (λ i. omega (arith, known.shared_slice_known-1.given i)) edited.edit_record-made.result _ _ _ edited.edit_record-made.ensures gone.result _ _ _ _ gone.ensures.1,
     )
 
 pub one_spec : {M : Type 1} → statement M

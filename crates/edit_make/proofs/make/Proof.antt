@@ -18,7 +18,7 @@ module _ (a : State) (k f e : List ℕ) (v d : ℕ) (w : Way) (b : Plan) where
   deep l = rw (lt-leb d deepest l)
 
   up : (low r : Out) (from p : ℕ) → d ≤ deepest → low ≡ low_of (tables a k f e) v d b → from ≡ from_of d b → p ≡ passed w.path from
-      → r ≡ make_up w.ids-1 d (d - from) from p low → r ≡ make_on (tables a k f e) v w d b
+      → r ≡ make_up w.ids d (d - from) from p low → r ≡ make_on (tables a k f e) v w d b
   unfolding make_on
   up low r from p l el ef ep er = rw (le-leb d deepest l) (er ∙ rw (ep, ef, el))
 
