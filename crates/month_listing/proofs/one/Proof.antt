@@ -7,13 +7,13 @@ use Rattle.month_listing.proofs.one.Tie as tie
 
 returns : tie.Need-returns
 returns c =
-    let line = c.before.before.Put-refused in
-    let step = c.before.before.before.before.before.before.before.before.before.before.before.step-to in
+    let line = c.before.before.put_refused-len in
+    let step = c.before.before.before.before.before.before.before.before.before.before.before.step_to-step in
     let edited = c.before.before.before.before.before.before.before.before.before.before.before.before.before.before.before.before.before.before.before.before.before in
     let known = edited.before.before.before.before.before.before in
     let start = known.before.before.before.before in (
       line.ensures.2,
-      one_is (sided_enter start.args.side) start.args.run _ _ _ _ _ (λ i. omega (arith, known.shared-slice-known.given i)) edited.edit-record.result _ _ _ edited.edit-record.ensures
+      one_is (sided_enter start.args.side) start.args.run _ _ _ _ _ (λ i. omega (arith, known.shared_slice_known-1.given i)) edited.edit_record-made.result _ _ _ edited.edit_record-made.ensures
           (record { run = step.result.run; len = line.result }) _ _ _ _ (λ fair. lined_is _ _ _ _ _ _ _ _ _ (step.ensures fair) line.ensures.0 line.ensures.1),
     )
 

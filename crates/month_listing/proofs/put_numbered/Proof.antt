@@ -6,7 +6,7 @@ use Rattle.month_listing.proofs.put_numbered.Tie as tie
 
 returns : tie.Need-returns
 returns c =
-    numbered_is (wrote_text c.before.before.before.before.before.before.put-text.ensures) (wrote_number c.before.before.put-number.ensures) c.before.before.put-number.ensures.2
+    numbered_is (wrote_text c.before.before.before.before.before.before.put_text-a.ensures) (wrote_number c.before.before.put_number-b.ensures) c.before.before.put_number-b.ensures.2
 
 pub put_numbered_spec : {M : Type 1} → statement M
 put_numbered_spec =

@@ -7,12 +7,12 @@ use Rattle.reading_listing.proofs.one.Tie as tie
 
 returns : tie.Need-returns
 returns c =
-    let gone = c.before.before.before.before.before.before.before.before.after-record in
+    let gone = c.before.before.before.before.before.before.before.before.after_record in
     let entered = c.before.before.before.before.before.before.before.before.before.before.before.before.before.before.before.before.before.before.before in
     let known = entered.before.before.before.before.before.before in
     let start = known.before.before.before.before in (
       gone.ensures.0,
-      one_is (readings_enter start.args.k) start.args.run _ _ _ _ _ (λ i. omega (arith, known.shared-slice-known.given i)) entered.enter-reading.result _ _ _ entered.enter-reading.ensures gone.result _ _ _ _ gone.ensures.1,
+      one_is (readings_enter start.args.k) start.args.run _ _ _ _ _ (λ i. omega (arith, known.shared_slice_known-1.given i)) entered.enter_reading-made.result _ _ _ entered.enter_reading-made.ensures gone.result _ _ _ _ gone.ensures.1,
     )
 
 pub one_spec : {M : Type 1} → statement M

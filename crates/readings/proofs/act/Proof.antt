@@ -4,7 +4,7 @@ use Rattle.readings.proofs.Law.{act_pause, act_refused, act_cells, rising}
 use Rattle.readings.proofs.act.Statement.{statement}
 use Rattle.readings.proofs.act.Tie as tie
 
-sub_set_bar : tie.Need-overflow-sub-set-bar
+sub_set_bar : tie.Need-overflow_sub-last
 sub_set_bar c = search rising
 
 pub act_spec : {M : Type 1} → statement M

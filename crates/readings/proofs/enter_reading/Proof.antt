@@ -5,7 +5,7 @@ use Rattle.readings.proofs.enter_reading.Statement.{statement}
 use Rattle.readings.proofs.enter_reading.Tie as tie
 
 act_requires : tie.Need-act-requires
-act_requires c κs = aim_rising _ _ _ _ c.before.before.before.aim-of.ensures (λ j. (c.before.before.before.before.before.before.shared-slice-known.given j).fits)
+act_requires c κs = aim_rising _ _ _ _ c.before.before.before.aim_of-aim.ensures (λ j. (c.before.before.before.before.before.before.shared_slice_known-1.given j).fits)
 
 pub enter_reading_spec : {M : Type 1} → statement M
 enter_reading_spec =
