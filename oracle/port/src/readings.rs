@@ -35,7 +35,7 @@ unsafe extern "C" {
 
 #[inline]
 pub fn parse(record: &[u8]) -> Reading {
-    // SAFETY: crates/capi_readings defines the function with these types, and proves that it is safe on any record.
+    // SAFETY: crates/fenpiling defines the function with these types, and proves that it is safe on any record.
     unsafe { fenpiling_parse_reading(record.as_ptr(), record.len()) }
 }
 
