@@ -1,4 +1,4 @@
-//! Readings in metres, as crates/capi_readings exports them: what a record says, and entering it on tables that the caller lends.
+//! Readings in metres, as crates/fenpiling exports them: what a record says, and entering it on tables that the caller lends.
 use crate::arena::{Arena, Made, Tables};
 
 /// What a record says, or the number of the refusal.
