@@ -51,7 +51,7 @@ cell_entered {n} {tallest} {t} {root} {d} {cell} {v} q high ok =
       edited = (cell_right q high (sym (cell_number_lem n t root d cell v) ∙ ok)).edited;
     }
 
-edit_entered : {d : ℕ} {t u : Tables} {a r : ℕ} (c : At d) (v : ℕ) → WellFormed cube_kids deepest t → Enters d t a c v u r → Accepted cube_kids deepest d t a (way c) v u r
+edit_entered : {d : ℕ} {t : Tables} {a : ℕ} (c : At d) (v : ℕ) {u : Tables} {r : ℕ} → WellFormed cube_kids deepest t → Enters d t a c v u r → Accepted cube_kids deepest d t a (way c) v u r
 unfolding whole
 edit_entered {d} {t} {a = a} c v w (entered_by high ok) =
     by_cell t a d (spot c) v w (λ o. o.no ≡ 0 → Accepted cube_kids deepest d t a (way c) v o.after o.id) (λ k z e. absurd (z e)) (λ q. cell_entered q high)
@@ -63,7 +63,7 @@ step_keeps : {t u : Tables} {g k j : ℕ → ℕ} → WellFormed cube_kids deepe
 step_keeps w (call c h) a before after = call_keeps w a c h before after
 step_keeps w (entry b e i l bytes) a before after = enter_kept w b e i l bytes a
 
-edit_step : {d : ℕ} {t u : Tables} {a r : ℕ} (c : At d) (v : ℕ) → Enters d t a c v u r → (g : ℕ → ℕ) × (k : ℕ → ℕ) × (j : ℕ → ℕ) × Step t u g k j
+edit_step : {d : ℕ} {t : Tables} {a : ℕ} (c : At d) (v : ℕ) {u : Tables} {r : ℕ} → Enters d t a c v u r → (g : ℕ → ℕ) × (k : ℕ → ℕ) × (j : ℕ → ℕ) × Step t u g k j
 edit_step {d} {a = a} c v (entered_by high ok) = (_, _, _, call (voxel a d (spot c) v) high)
 
 pub cube_kind : (d : ℕ) → CellKind cube_kids deepest d way same_at (Enters d) Step
@@ -71,8 +71,8 @@ cube_kind d = record {
   words = fit;
   some = omega arith;
   cells = cube_cells d;
-  enters = edit_entered;
+  enters = λ c v. edit_entered c v;
   steps = step_keeps;
-  edit = edit_step;
+  edit = λ c v. edit_step c v;
   release = λ t b. (_, _, _, call (release b) tt);
 }
