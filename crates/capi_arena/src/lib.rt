@@ -18,8 +18,7 @@ pub struct Children {
     pub ids: [BlockId; KID_WORDS],
 }
 
-#[unsafe(no_mangle)]
-pub extern "C" fn fenpiling_fresh(
+pub fn fenpiling_fresh(
     capacity: usize,
     kids: &mut [u64],
     facts: &mut [u32],
@@ -30,8 +29,7 @@ pub extern "C" fn fenpiling_fresh(
     arena_hold::fresh(capacity, kids, facts, find)
 }
 
-#[unsafe(no_mangle)]
-pub extern "C" fn fenpiling_intern_leaf(
+pub fn fenpiling_intern_leaf(
     arena: Arena,
     kids: &mut [u64],
     facts: &mut [u32],
@@ -43,8 +41,7 @@ pub extern "C" fn fenpiling_intern_leaf(
     arena_leaf::intern_leaf(arena, kids, facts, find, value)
 }
 
-#[unsafe(no_mangle)]
-pub extern "C" fn fenpiling_intern_branch(
+pub fn fenpiling_intern_branch(
     arena: Arena,
     kids: &mut [u64],
     facts: &mut [u32],
@@ -57,8 +54,7 @@ pub extern "C" fn fenpiling_intern_branch(
     arena_branch::intern_branch(arena, kids, facts, find, ids)
 }
 
-#[unsafe(no_mangle)]
-pub extern "C" fn fenpiling_hold(
+pub fn fenpiling_hold(
     arena: Arena,
     kids: &[u64],
     facts: &mut [u32],
@@ -70,8 +66,7 @@ pub extern "C" fn fenpiling_hold(
     arena_hold::hold(arena, kids, facts, find, BlockId(id))
 }
 
-#[unsafe(no_mangle)]
-pub extern "C" fn fenpiling_release(
+pub fn fenpiling_release(
     arena: Arena,
     kids: &mut [u64],
     facts: &mut [u32],
@@ -83,14 +78,7 @@ pub extern "C" fn fenpiling_release(
     arena_release::release(arena, kids, facts, find, BlockId(id))
 }
 
-#[unsafe(no_mangle)]
-pub extern "C" fn fenpiling_counts(
-    arena: Arena,
-    kids: &[u64],
-    facts: &[u32],
-    find: &[u16],
-    id: u64,
-) -> Counted
+pub fn fenpiling_counts(arena: Arena, kids: &[u64], facts: &[u32], find: &[u16], id: u64) -> Counted
     ensures { counted result ≡ counts_of (before arena kids.now facts.now find.now) id }
 {
     arena_hold::counts(arena, kids, facts, find, BlockId(id))

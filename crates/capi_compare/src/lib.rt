@@ -10,8 +10,7 @@ use arena::Arena;
 use compare::Compared;
 use ids::BlockId;
 
-#[unsafe(no_mangle)]
-pub extern "C" fn fenpiling_compare(
+pub fn fenpiling_compare(
     arena: Arena,
     kids: &[u64],
     facts: &[u32],

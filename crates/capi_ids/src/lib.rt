@@ -15,8 +15,7 @@ pub struct Packed {
     pub id: u64,
 }
 
-#[unsafe(no_mangle)]
-pub extern "C" fn fenpiling_new_leaf(index: u32, generation: u16) -> Packed
+pub fn fenpiling_new_leaf(index: u32, generation: u16) -> Packed
     ensures { (result.no ≡ packing_no generation) × (result.id ≡ new_leaf index generation) }
 {
     let no = BlockId::packing_no(generation);
@@ -24,8 +23,7 @@ pub extern "C" fn fenpiling_new_leaf(index: u32, generation: u16) -> Packed
     Packed { no: no, id: leaf.0 }
 }
 
-#[unsafe(no_mangle)]
-pub extern "C" fn fenpiling_new_branch(index: u32, generation: u16, types: u8, mask: u8) -> Packed
+pub fn fenpiling_new_branch(index: u32, generation: u16, types: u8, mask: u8) -> Packed
     ensures { (result.no ≡ packing_no generation) × (result.id ≡ new_branch index generation types mask) }
 {
     let no = BlockId::packing_no(generation);
@@ -36,71 +34,61 @@ pub extern "C" fn fenpiling_new_branch(index: u32, generation: u16, types: u8, m
     }
 }
 
-#[unsafe(no_mangle)]
-pub extern "C" fn fenpiling_index(raw: u64) -> u32
+pub fn fenpiling_index(raw: u64) -> u32
     ensures { result ≡ index_of raw }
 {
     BlockId(raw).index()
 }
 
-#[unsafe(no_mangle)]
-pub extern "C" fn fenpiling_generation(raw: u64) -> u16
+pub fn fenpiling_generation(raw: u64) -> u16
     ensures { result ≡ generation_of raw }
 {
     BlockId(raw).generation()
 }
 
-#[unsafe(no_mangle)]
-pub extern "C" fn fenpiling_types(raw: u64) -> u8
+pub fn fenpiling_types(raw: u64) -> u8
     ensures { result ≡ types_of raw }
 {
     BlockId(raw).types()
 }
 
-#[unsafe(no_mangle)]
-pub extern "C" fn fenpiling_mask(raw: u64) -> u8
+pub fn fenpiling_mask(raw: u64) -> u8
     ensures { result ≡ mask_of raw }
 {
     BlockId(raw).mask()
 }
 
-#[unsafe(no_mangle)]
-pub extern "C" fn fenpiling_has_child(raw: u64, child: u8) -> bool
+pub fn fenpiling_has_child(raw: u64, child: u8) -> bool
     ensures { result ≡ has_child raw child }
 {
     BlockId(raw).has_child(child)
 }
 
-#[unsafe(no_mangle)]
-pub extern "C" fn fenpiling_is_leaf(raw: u64) -> bool
+pub fn fenpiling_is_leaf(raw: u64) -> bool
     ensures { result ≡ is_leaf raw }
 {
     BlockId(raw).is_leaf()
 }
 
-#[unsafe(no_mangle)]
-pub extern "C" fn fenpiling_is_branch(raw: u64) -> bool
+pub fn fenpiling_is_branch(raw: u64) -> bool
     ensures { result ≡ is_branch raw }
 {
     BlockId(raw).is_branch()
 }
 
-#[unsafe(no_mangle)]
-pub extern "C" fn fenpiling_is_invalid(raw: u64) -> bool
+pub fn fenpiling_is_invalid(raw: u64) -> bool
     ensures { result ≡ eqb raw invalid }
 {
     BlockId(raw).is_invalid()
 }
 
-#[unsafe(no_mangle)]
-pub extern "C" fn fenpiling_is_valid(raw: u64) -> bool
+pub fn fenpiling_is_valid(raw: u64) -> bool
     ensures { result ≡ not (eqb raw invalid) }
 {
     BlockId(raw).is_valid()
 }
 
-#[unsafe(no_mangle)]
-pub extern "C" fn fenpiling_is_empty(raw: u64) -> bool
+pub fn fenpiling_is_empty(raw: u64) -> bool
     ensures { result ≡ eqb raw empty }
 {
     BlockId(raw).is_empty()

@@ -15,20 +15,13 @@ use ids::BlockId;
 use paths::IVec3;
 use read_cell::Looked;
 
-#[unsafe(no_mangle)]
-pub extern "C" fn fenpiling_check(
-    arena: Arena,
-    kids: &[u64],
-    facts: &mut [u32],
-    find: &[u16],
-) -> bool
+pub fn fenpiling_check(arena: Arena, kids: &[u64], facts: &mut [u32], find: &[u16]) -> bool
     ensures { ((result ≡ true) ↔ WellFormed cube_kids deepest (before arena kids.now facts.old find.now)) × (facts.new ≡ facts.old) }
 {
     check_arena::check_arena(arena, kids, facts, find)
 }
 
-#[unsafe(no_mangle)]
-pub extern "C" fn fenpiling_get_at_depth(
+pub fn fenpiling_get_at_depth(
     arena: Arena,
     kids: &[u64],
     facts: &[u32],
@@ -42,8 +35,7 @@ pub extern "C" fn fenpiling_get_at_depth(
     read_cell::get_at_depth(arena, kids, facts, find, BlockId(id), depth, position)
 }
 
-#[unsafe(no_mangle)]
-pub extern "C" fn fenpiling_to_vec(
+pub fn fenpiling_to_vec(
     arena: Arena,
     kids: &[u64],
     facts: &[u32],
@@ -57,8 +49,7 @@ pub extern "C" fn fenpiling_to_vec(
     read_cube::to_vec(arena, kids, facts, find, BlockId(id), depth, cube)
 }
 
-#[unsafe(no_mangle)]
-pub extern "C" fn fenpiling_set_voxel(
+pub fn fenpiling_set_voxel(
     arena: Arena,
     kids: &mut [u64],
     facts: &mut [u32],

@@ -36,15 +36,13 @@ pub struct Child {
     pub index: usize,
 }
 
-#[unsafe(no_mangle)]
-pub extern "C" fn fenpiling_encode_child_index_path(x: i32, y: i32, z: i32) -> u32
+pub fn fenpiling_encode_child_index_path(x: i32, y: i32, z: i32) -> u32
     ensures { result ≡ path_of (position_at x y z) }
 {
     paths::encode_child_index_path(IVec3 { x: x, y: y, z: z })
 }
 
-#[unsafe(no_mangle)]
-pub extern "C" fn fenpiling_decode_child_index_path(code: u32) -> Cell
+pub fn fenpiling_decode_child_index_path(code: u32) -> Cell
     ensures { (result.no ≡ (decoded_of code).no) × (position_at result.x result.y result.z ≡ (decoded_of code).position) }
 {
     let cell = paths::decode_child_index_path(code);
@@ -57,8 +55,7 @@ pub extern "C" fn fenpiling_decode_child_index_path(code: u32) -> Cell
     }
 }
 
-#[unsafe(no_mangle)]
-pub extern "C" fn fenpiling_child_index2(x: i32, y: i32, z: i32, current: u32, max: u32) -> Child
+pub fn fenpiling_child_index2(x: i32, y: i32, z: i32, current: u32, max: u32) -> Child
     ensures { (result.no ≡ (child_index_of (position_at x y z) current max).no) × (result.index ≡ (child_index_of (position_at x y z) current max).index) }
 {
     let child = paths::child_index2(IVec3 { x: x, y: y, z: z }, current, max);
@@ -68,8 +65,7 @@ pub extern "C" fn fenpiling_child_index2(x: i32, y: i32, z: i32, current: u32, m
     }
 }
 
-#[unsafe(no_mangle)]
-pub extern "C" fn fenpiling_text(raw: u64) -> Text
+pub fn fenpiling_text(raw: u64) -> Text
     ensures { (result.bytes ≡ (id_text_of raw).bytes) × (result.len ≡ (id_text_of raw).len) }
 {
     let text = ids_text::text(BlockId(raw));

@@ -13,16 +13,14 @@ use arena::{Arena, Made};
 use ids::BlockId;
 use metres::ReadingFields;
 
-#[unsafe(no_mangle)]
-pub extern "C" fn fenpiling_parse_reading(bytes: &[u8]) -> ReadingFields
+pub fn fenpiling_parse_reading(bytes: &[u8]) -> ReadingFields
     ensures { result ≡ struct_of (reading_of bytes.now) }
 {
     let reading = metres::parse(bytes);
     metres::fields(reading)
 }
 
-#[unsafe(no_mangle)]
-pub extern "C" fn fenpiling_enter_reading(
+pub fn fenpiling_enter_reading(
     arena: Arena,
     kids: &mut [u64],
     facts: &mut [u32],

@@ -1,4 +1,4 @@
-//! The arena's calls, as crates/capi_arena exports them, on tables that the caller lends.
+//! The arena's calls, as crates/fenpiling exports them, on tables that the caller lends.
 
 /// An arena's state, which goes by value beside its tables: its capacity, and the lowest slot never given out with 2^32 times how many are freed.
 #[repr(C)]

@@ -1,4 +1,4 @@
-//! Two roots side by side, as crates/capi_compare exports it, on tables and a list that the caller lends.
+//! Two roots side by side, as crates/fenpiling exports it, on tables and a list that the caller lends.
 use crate::arena::{Arena, Tables};
 
 /// The answer of a comparison.

@@ -1,4 +1,4 @@
-//! Ids and paths, as crates/capi_ids and crates/capi_paths export them.
+//! Ids and paths, as crates/fenpiling exports them.
 
 #[repr(C)]
 pub struct Packed {
@@ -26,7 +26,7 @@ pub struct Child {
     pub index: usize,
 }
 
-// SAFETY: crates/capi_ids and crates/capi_paths define each with these types, and prove that it is safe at every argument.
+// SAFETY: crates/fenpiling defines each with these types, and proves that it is safe at every argument.
 unsafe extern "C" {
     pub safe fn fenpiling_new_leaf(index: u32, generation: u16) -> Packed;
     pub safe fn fenpiling_new_branch(index: u32, generation: u16, types: u8, mask: u8) -> Packed;

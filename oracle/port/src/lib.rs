@@ -1,4 +1,4 @@
-//! The port's functions, linked from its static libraries.
+//! The port's functions, linked from its static library.
 
 /// Calls an exported function with the tables as it takes them.
 macro_rules! call {

@@ -1,4 +1,4 @@
-//! The arena check, lookup, expansion and the edit, as crates/capi_model exports them, on tables that the caller lends.
+//! The arena check, lookup, expansion and the edit, as crates/fenpiling exports them, on tables that the caller lends.
 use crate::arena::{Arena, Made, Tables};
 
 /// The place of a cell.

@@ -1,4 +1,4 @@
-//! Readings in metres, as crates/capi_readings exports them: what a record says, and entering it on tables that the caller lends.
+//! Readings in metres, as crates/fenpiling exports them: what a record says, and entering it on tables that the caller lends.
 use crate::arena::{Arena, Made, Tables};
 
 /// What a record says, or the number of the refusal.
@@ -35,7 +35,7 @@ unsafe extern "C" {
 
 #[inline]
 pub fn parse(record: &[u8]) -> Reading {
-    // SAFETY: crates/capi_readings defines the function with these types, and proves that it is safe on any record.
+    // SAFETY: crates/fenpiling defines the function with these types, and proves that it is safe on any record.
     unsafe { fenpiling_parse_reading(record.as_ptr(), record.len()) }
 }
 

@@ -1,0 +1,85 @@
+// The arena.
+ghost use Rattle.std.specs.Prelude.{◌≡◌, ℕ, ◌≤◌};
+ghost use Rattle.basics.specs.Limits.{deepest, cube_kids, kid_words};
+ghost use Rattle.arena.specs.Calls.{answered_of, counted, Fair, raw_ids, fresh_of, intern_leaf_of, intern_branch_of, hold_of, release_of, counts_of};
+ghost use Rattle.arena.specs.Lent.{before, made, answered};
+
+use arena::{Answer, Arena, Counted, Made};
+use capi_arena::Children;
+
+#[unsafe(no_mangle)]
+pub extern "C" fn fenpiling_fresh(
+    capacity: usize,
+    kids: &mut [u64],
+    facts: &mut [u32],
+    find: &mut [u16],
+) -> Answer
+    ensures { answered_of capacity result kids.new facts.new find.new ≡ fresh_of capacity kids.old facts.old find.old }
+{
+    capi_arena::fenpiling_fresh(capacity, kids, facts, find)
+}
+
+#[unsafe(no_mangle)]
+pub extern "C" fn fenpiling_intern_leaf(
+    arena: Arena,
+    kids: &mut [u64],
+    facts: &mut [u32],
+    find: &mut [u16],
+    value: u16,
+) -> Made
+    ensures { (n tallest : ℕ) → n ≤ kid_words → Fair n tallest (before arena kids.old facts.old find.old) → made arena result kids.new facts.new find.new ≡ intern_leaf_of (before arena kids.old facts.old find.old) value }
+{
+    capi_arena::fenpiling_intern_leaf(arena, kids, facts, find, value)
+}
+
+#[unsafe(no_mangle)]
+pub extern "C" fn fenpiling_intern_branch(
+    arena: Arena,
+    kids: &mut [u64],
+    facts: &mut [u32],
+    find: &mut [u16],
+    children: Children,
+) -> Made
+    ensures { Fair cube_kids deepest (before arena kids.old facts.old find.old) → made arena result kids.new facts.new find.new ≡ intern_branch_of cube_kids deepest (before arena kids.old facts.old find.old) (raw_ids children.ids) }
+{
+    capi_arena::fenpiling_intern_branch(arena, kids, facts, find, children)
+}
+
+#[unsafe(no_mangle)]
+pub extern "C" fn fenpiling_hold(
+    arena: Arena,
+    kids: &[u64],
+    facts: &mut [u32],
+    find: &[u16],
+    id: u64,
+) -> Answer
+    ensures { answered arena result kids.now facts.new find.now ≡ hold_of (before arena kids.now facts.old find.now) id }
+{
+    capi_arena::fenpiling_hold(arena, kids, facts, find, id)
+}
+
+#[unsafe(no_mangle)]
+pub extern "C" fn fenpiling_release(
+    arena: Arena,
+    kids: &mut [u64],
+    facts: &mut [u32],
+    find: &mut [u16],
+    id: u64,
+) -> Answer
+    ensures { (n tallest : ℕ) → n ≤ kid_words → tallest ≤ deepest → Fair n tallest (before arena kids.old facts.old find.old) → answered arena result kids.new facts.new find.new ≡ release_of tallest (before arena kids.old facts.old find.old) id }
+{
+    capi_arena::fenpiling_release(arena, kids, facts, find, id)
+}
+
+#[unsafe(no_mangle)]
+pub extern "C" fn fenpiling_counts(
+    arena: Arena,
+    kids: &[u64],
+    facts: &[u32],
+    find: &[u16],
+    id: u64,
+) -> Counted
+    ensures { counted result ≡ counts_of (before arena kids.now facts.now find.now) id }
+{
+    capi_arena::fenpiling_counts(arena, kids, facts, find, id)
+}
