@@ -294,11 +294,8 @@ fn recycle_once(a: Arena, kids: &mut [u64], facts: &mut [u32], find: &mut [u16])
 
 fn recycle(a: Arena, kids: &mut [u64], facts: &mut [u32], find: &mut [u16], times: u32) -> Arena {
     let mut state = a;
-    let mut i: u32 = 0;
-    while i < times {
-        let next = recycle_once(state, kids, facts, find);
-        state = next;
-        i += 1;
+    for _ in 0..times {
+        state = recycle_once(state, kids, facts, find);
     }
     state
 }
@@ -377,11 +374,9 @@ fn hold_times(
     times: u32,
 ) -> u32 {
     let mut no: u32 = 0;
-    let mut i: u32 = 0;
-    while i < times {
+    for _ in 0..times {
         let held = arena_hold::hold(a, kids, facts, find, id);
         no = held.no;
-        i += 1;
     }
     no
 }
