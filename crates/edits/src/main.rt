@@ -57,15 +57,14 @@ fn reason(text: &str) -> &str {
 }
 
 // Says on standard error what failed, and for what reason.
-fn say_failure(rt: &(impl Eprint + Alloc), what: &str, error: io::Error) -> io::Result<()> {
-    let text = format!(in rt.alloc(); "{error}")?;
-    let words = reason(text.as_str());
-    eprintln!(rt; "{what}: {words}")
-}
-
-// The same, where there is nothing to do if standard error can't be written.
 fn fail(rt: &(impl Eprint + Alloc), what: &str, error: io::Error) {
-    let _ = say_failure(rt, what, error);
+    let _ = match format!(in rt.alloc(); "{error}") {
+        Ok(text) => {
+            let words = reason(text.as_str());
+            eprintln!(rt; "{what}: {words}")
+        }
+        Err(_) => eprintln!(rt; "{what}: {error}"),
+    };
 }
 
 // Writes the first bytes of a text, and answers whether that went well; if not, it says so.

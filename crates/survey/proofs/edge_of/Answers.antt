@@ -19,7 +19,8 @@ pub loop-i-preserved : goal.loop-i-preserved
 loop-i-preserved c = record {
   within = search rules;
   capped = search rules;
-  said = edge_again _ _ _ c.loop-i.invariant.said c.loop-i-test.true c.if-byte-lt48.false c.if-byte-gt57.false _ c.capped-k.ensures }
+  said = edge_again _ _ _ c.loop-i.invariant.said c.loop-i-test.true c.if-byte-lt48.false c.if-byte-gt57.false _ c.capped-k.ensures;
+}
 
 pub returns : goal.returns
 returns c = edge_done _ _ _ c.loop-i.invariant.said c.loop-i-test.false c.loop-i.invariant.capped

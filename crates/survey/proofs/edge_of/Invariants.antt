@@ -7,7 +7,8 @@ abbrev pub invariant-loop-i : goal.invariant-loop-i
 invariant-loop-i l = record {
   within : l.i ≤ length l.text;
   capped : l.k ≤ too_fine;
-  said : edge_after l.k (drop l.i l.text) ≡ edge_of l.text }
+  said : edge_after l.k (drop l.i l.text) ≡ edge_of l.text;
+}
 
 abbrev pub decreases-loop-i : goal.decreases-loop-i
 decreases-loop-i l = length l.text - l.i
