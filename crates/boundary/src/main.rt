@@ -2,7 +2,7 @@
 // that were answered.
 //
 // Every case begins with a fresh arena of 8 slots, of which 7 can be given out: as many as the path of one cell at depth 6 has nodes. Its tables have
-// 944 bytes.
+// 944 bytes. Where a line can't be written, the program ends with the error.
 #![tactic(auto)]
 
 use arena::{Arena, Made};

@@ -13,6 +13,7 @@
 //
 // RAW is in hex and the rest is in decimal. Of a generation the low 16 bits count, of types and mask the low 8; x, y and z are signed. A refusal
 // stands after the colon as 'refused' and its number. Another kind gives 'unknown KIND'. A cut last record of K bytes gives 'short K'.
+// Where the input can't be read or a line can't be written, the program ends with the error.
 #![tactic(auto)]
 
 ghost use Rattle.std.specs.Prelude.{◌<◌, ◌≤◌, IfOk};
