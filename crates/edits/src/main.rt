@@ -224,7 +224,7 @@ fn open<R: Files + Eprint + Alloc>(rt: &R, path: &str) -> Option<R::File> {
     }
 }
 
-// Opens the file that the argument names; where that fails, it says so.
+// Opens the file that the argument names, by a name in UTF-8; where that fails, it says so.
 fn open_argument<R: Env + Files + Eprint + Alloc>(rt: &R) -> Option<R::File> {
     let mut name = [0u8; NAME];
     let Ok(length) = rt.arg(1, &mut name) else {

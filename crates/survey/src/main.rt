@@ -281,7 +281,7 @@ fn open<R: Files + Eprint + Alloc>(rt: &R, path: &str) -> Option<R::File> {
     }
 }
 
-// Opens the file that the second argument names; where that fails, it says so.
+// Opens the file that the second argument names, by a name in UTF-8; where that fails, it says so.
 fn open_argument<R: Env + Files + Eprint + Alloc>(rt: &R) -> Option<R::File> {
     let mut name = [0u8; ARGUMENT];
     let Ok(length) = rt.arg(2, &mut name) else {
