@@ -9,8 +9,11 @@
 
 ghost use Rattle.std.specs.Prelude.{◌+◌, ◌≤◌, length};
 
-use libc::{STDERR_FILENO, STDIN_FILENO, STDOUT_FILENO};
 use listing::Run;
+use std::env::FillError;
+use std::io::Read;
+use std::rt::{Env, Files};
+use std::{fs, io, str};
 
 // The slots of the arena. Its tables have 8 and 11 words and 5 cells a slot, 60,416 bytes.
 const SLOTS: usize = 512;
@@ -25,6 +28,9 @@ const CELLS: usize = 2560;
 const BLOCK: usize = 64;
 
 const LINES: usize = 672;
+
+// A file's name has at most so many bytes.
+const NAME: usize = 4096;
 
 // How many bytes were read, and whether reading failed.
 #[derive(Clone, Copy)]
@@ -42,31 +48,53 @@ struct Turn {
     failed: bool,
 }
 
+// The reason of an error in the system's words, without the number that std writes after them.
+fn reason(text: &str) -> &str {
+    match text.split_once(" (os error ") {
+        Some((words, _)) => words,
+        None => text,
+    }
+}
+
+// Says on standard error what failed, and for what reason.
+fn fail(rt: &(impl Eprint + Alloc), what: &str, error: io::Error) {
+    let _ = match format!(in rt.alloc(); "{error}") {
+        Ok(text) => {
+            let words = reason(text.as_str());
+            eprintln!(rt; "{what}: {words}")
+        }
+        Err(_) => eprintln!(rt; "{what}: {error}"),
+    };
+}
+
 // Writes the first bytes of a text, and answers whether that went well; if not, it says so.
-fn say_start(text: &[u8], count: usize) -> bool {
+fn say_start(rt: &(impl Print + Eprint + Alloc), text: &[u8], count: usize) -> bool {
     if text.len() < count {
         return false;
     }
-    let written = io::write_all(STDOUT_FILENO, &text[..count]);
-    if !written {
-        os::fail(b"edits: can't write");
+    match rt.write_all(&text[..count]) {
+        Ok(()) => true,
+        Err(error) => {
+            fail(rt, "edits: can't write", error);
+            false
+        }
     }
-    written
 }
 
 // One read; if it fails, it says so.
-fn read_some(fd: i32, part: &mut [u8]) -> Got {
-    let got = libc::read(fd, part);
-    if got < 0 {
-        os::fail(b"edits: can't read");
-        return Got {
-            len: 0,
-            failed: true,
-        };
-    }
-    Got {
-        len: io::count(got, part),
-        failed: false,
+fn read_some(rt: &(impl Eprint + Alloc), input: &mut impl Read, part: &mut [u8]) -> Got {
+    match input.read(part) {
+        Ok(len) => Got {
+            len: len,
+            failed: false,
+        },
+        Err(error) => {
+            fail(rt, "edits: can't read", error);
+            Got {
+                len: 0,
+                failed: true,
+            }
+        }
     }
 }
 
@@ -77,12 +105,12 @@ fn least(x: usize, y: usize) -> usize
 }
 
 // One read into the block from `len` on.
-fn read_on(fd: i32, block: &mut [u8], len: usize) -> Got
+fn read_on(rt: &(impl Eprint + Alloc), input: &mut impl Read, block: &mut [u8], len: usize) -> Got
     requires { len ≤ length block.old }
     ensures { len + result.len ≤ length block.old }
 {
     let room = block.len() - len;
-    let got = read_some(fd, &mut block[len..]);
+    let got = read_some(rt, input, &mut block[len..]);
     Got {
         len: least(got.len, room),
         failed: got.failed,
@@ -90,12 +118,12 @@ fn read_on(fd: i32, block: &mut [u8], len: usize) -> Got
 }
 
 // Reads until the block is full, the input ends or a read fails: a record may come in two reads.
-fn fill(fd: i32, block: &mut [u8]) -> Got
+fn fill(rt: &(impl Eprint + Alloc), input: &mut impl Read, block: &mut [u8]) -> Got
     ensures { result.len ≤ length block.old }
 {
     let mut len: usize = 0;
     while len < block.len() {
-        let got = read_on(fd, block, len);
+        let got = read_on(rt, input, block, len);
         if got.len == 0 {
             return Got {
                 len: len,
@@ -111,13 +139,20 @@ fn fill(fd: i32, block: &mut [u8]) -> Got
 }
 
 // Reads a block, edits by its whole records and writes their lines.
-fn one_block(fd: i32, run: Run, kids: &mut [u64], facts: &mut [u32], find: &mut [u16]) -> Turn {
+fn one_block(
+    rt: &(impl Print + Eprint + Alloc),
+    input: &mut impl Read,
+    run: Run,
+    kids: &mut [u64],
+    facts: &mut [u32],
+    find: &mut [u16],
+) -> Turn {
     let mut block = [0u8; BLOCK];
     let mut lines = [0u8; LINES];
-    let got = fill(fd, &mut block);
+    let got = fill(rt, input, &mut block);
     let len = got.len;
     let ran = edit_listing::edit_records(run, kids, facts, find, &block[..len], &mut lines);
-    let written = say_start(&lines, ran.len);
+    let written = say_start(rt, &lines, ran.len);
     Turn {
         run: ran.run,
         cut: len % 8,
@@ -126,73 +161,94 @@ fn one_block(fd: i32, run: Run, kids: &mut [u64], facts: &mut [u32], find: &mut 
     }
 }
 
-fn say_end(run: Run, cut: usize) {
+fn say_end(rt: &(impl Print + Eprint + Alloc), run: Run, cut: usize) {
     let mut lines = [0u8; LINES];
     let len = listing::ending(run, cut, &mut lines);
-    say_start(&lines, len);
+    say_start(rt, &lines, len);
 }
 
-// The blocks of the input, to its end. A proved loop has to end, and nothing says that the input does: so the blocks are counted down, from a number
-// that no input uses up.
-fn list_blocks(fd: i32, first: Run, kids: &mut [u64], facts: &mut [u32], find: &mut [u16]) {
+// The blocks of the input, to its end. A proved loop has to end, and nothing says that the input does: so the blocks are counted, up to a number that no
+// input uses up.
+fn list_blocks(
+    rt: &(impl Print + Eprint + Alloc),
+    input: &mut impl Read,
+    first: Run,
+    kids: &mut [u64],
+    facts: &mut [u32],
+    find: &mut [u16],
+) {
     let mut run = first;
-    let mut left = u64::MAX;
-    while left > 0 {
-        let turn = one_block(fd, run, kids, facts, find);
+    for _ in 0..u64::MAX {
+        let turn = one_block(rt, input, run, kids, facts, find);
         if turn.failed {
             return;
         }
         let next = turn.run;
         if turn.last {
-            say_end(next, turn.cut);
+            say_end(rt, next, turn.cut);
             return;
         }
         run = next;
-        left -= 1;
     }
 }
 
-fn list(fd: i32) {
+fn list(rt: &(impl Print + Eprint + Alloc), input: &mut impl Read) {
     let mut kids = [0u64; KIDS];
     let mut facts = [0u32; FACTS];
     let mut find = [0u16; CELLS];
     let start = listing::start(SLOTS, &mut kids, &mut facts, &mut find);
     if start.no != 0 {
-        io::write_all(STDERR_FILENO, b"edits: the tables do not fit\n");
+        let _ = eprintln!(rt; "edits: the tables do not fit");
         return;
     }
     let run = start.run;
-    list_blocks(fd, run, &mut kids, &mut facts, &mut find);
+    list_blocks(rt, input, run, &mut kids, &mut facts, &mut find);
 }
 
-// Opens the file that the argument names; where that fails, it says so and answers a number below 0.
-fn open_argument() -> i32 {
-    let mut path = io::buffer();
-    let length = os::arg(1, &mut path);
-    if os::errno() != 0 {
-        os::fail(b"edits: the file's name");
-        return -1;
+// Whether an argument of this number was given; the program's name is number 0.
+fn is_given(env: &impl Env, number: usize) -> bool {
+    match env.arg(number, &mut []) {
+        Err(FillError::NotPresent) => false,
+        _ => true,
     }
-    let fd = os::open_read(&path[..length]);
-    if fd < 0 {
-        os::fail(&path[..length]);
-    }
-    fd
 }
 
-fn main() {
-    let arguments = os::arg_count();
-    if arguments < 2 {
-        list(STDIN_FILENO);
+// Opens the file of a name; where that fails, it says so.
+fn open<R: Files + Eprint + Alloc>(rt: &R, path: &str) -> Option<R::File> {
+    match fs::open(rt, path) {
+        Ok(file) => Some(file),
+        Err(error) => {
+            fail(rt, path, error);
+            None
+        }
+    }
+}
+
+// Opens the file that the argument names, by a name in UTF-8; where that fails, it says so.
+fn open_argument<R: Env + Files + Eprint + Alloc>(rt: &R) -> Option<R::File> {
+    let mut name = [0u8; NAME];
+    let Ok(length) = rt.arg(1, &mut name) else {
+        let _ = eprintln!(rt; "edits: the file's name: File name too long");
+        return None;
+    };
+    let Ok(path) = str::from_utf8(&name[..length]) else {
+        let _ = eprintln!(rt; "edits: the file's name: not UTF-8");
+        return None;
+    };
+    open(rt, path)
+}
+
+fn main(rt: HostRuntime) {
+    if !is_given(&rt, 1) {
+        let mut input = rt.stdin();
+        list(&rt, &mut input);
         return;
     }
-    if 2 < arguments {
-        io::write_all(STDERR_FILENO, b"edits: one file at most\n");
+    if is_given(&rt, 2) {
+        let _ = eprintln!(rt; "edits: one file at most");
         return;
     }
-    let fd = open_argument();
-    if 0 <= fd {
-        list(fd);
-        libc::close(fd);
+    if let Some(mut file) = open_argument(&rt) {
+        list(&rt, &mut file);
     }
 }

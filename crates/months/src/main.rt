@@ -14,9 +14,12 @@ ghost use Rattle.std.specs.Prelude.{◌+◌, ◌≤◌, length};
 use compare::compare;
 use edit_listing::{DEPTH, RECORD};
 use ids::BlockId;
-use libc::{STDERR_FILENO, STDOUT_FILENO};
 use listing::Run;
 use month_listing::Side;
+use std::env::FillError;
+use std::io::Read;
+use std::rt::{Env, Files};
+use std::{fs, io, str};
 
 // The slots of the arena. Its tables have 8 and 11 words and 5 cells a slot, 60,416 bytes.
 const SLOTS: usize = 512;
@@ -34,6 +37,9 @@ const LISTED: usize = 1024;
 const BLOCK: usize = 64;
 
 const LINES: usize = 1008;
+
+// A file's name has at most so many bytes.
+const NAME: usize = 4096;
 
 // How many bytes were read, and whether reading failed.
 #[derive(Clone, Copy)]
@@ -58,31 +64,53 @@ struct Entered {
     failed: bool,
 }
 
+// The reason of an error in the system's words, without the number that std writes after them.
+fn reason(text: &str) -> &str {
+    match text.split_once(" (os error ") {
+        Some((words, _)) => words,
+        None => text,
+    }
+}
+
+// Says on standard error what failed, and for what reason.
+fn fail(rt: &(impl Eprint + Alloc), what: &str, error: io::Error) {
+    let _ = match format!(in rt.alloc(); "{error}") {
+        Ok(text) => {
+            let words = reason(text.as_str());
+            eprintln!(rt; "{what}: {words}")
+        }
+        Err(_) => eprintln!(rt; "{what}: {error}"),
+    };
+}
+
 // Writes the first bytes of a text, and answers whether that went well; if not, it says so.
-fn say_start(text: &[u8], count: usize) -> bool {
+fn say_start(rt: &(impl Print + Eprint + Alloc), text: &[u8], count: usize) -> bool {
     if text.len() < count {
         return false;
     }
-    let written = io::write_all(STDOUT_FILENO, &text[..count]);
-    if !written {
-        os::fail(b"months: can't write");
+    match rt.write_all(&text[..count]) {
+        Ok(()) => true,
+        Err(error) => {
+            fail(rt, "months: can't write", error);
+            false
+        }
     }
-    written
 }
 
 // One read; if it fails, it says so.
-fn read_some(fd: i32, part: &mut [u8]) -> Got {
-    let got = libc::read(fd, part);
-    if got < 0 {
-        os::fail(b"months: can't read");
-        return Got {
-            len: 0,
-            failed: true,
-        };
-    }
-    Got {
-        len: io::count(got, part),
-        failed: false,
+fn read_some(rt: &(impl Eprint + Alloc), input: &mut impl Read, part: &mut [u8]) -> Got {
+    match input.read(part) {
+        Ok(len) => Got {
+            len: len,
+            failed: false,
+        },
+        Err(error) => {
+            fail(rt, "months: can't read", error);
+            Got {
+                len: 0,
+                failed: true,
+            }
+        }
     }
 }
 
@@ -93,12 +121,12 @@ fn least(x: usize, y: usize) -> usize
 }
 
 // One read into the block from `len` on.
-fn read_on(fd: i32, block: &mut [u8], len: usize) -> Got
+fn read_on(rt: &(impl Eprint + Alloc), input: &mut impl Read, block: &mut [u8], len: usize) -> Got
     requires { len ≤ length block.old }
     ensures { len + result.len ≤ length block.old }
 {
     let room = block.len() - len;
-    let got = read_some(fd, &mut block[len..]);
+    let got = read_some(rt, input, &mut block[len..]);
     Got {
         len: least(got.len, room),
         failed: got.failed,
@@ -106,12 +134,12 @@ fn read_on(fd: i32, block: &mut [u8], len: usize) -> Got
 }
 
 // Reads until the block is full, the input ends or a read fails: a record may come in two reads.
-fn fill(fd: i32, block: &mut [u8]) -> Got
+fn fill(rt: &(impl Eprint + Alloc), input: &mut impl Read, block: &mut [u8]) -> Got
     ensures { result.len ≤ length block.old }
 {
     let mut len: usize = 0;
     while len < block.len() {
-        let got = read_on(fd, block, len);
+        let got = read_on(rt, input, block, len);
         if got.len == 0 {
             return Got {
                 len: len,
@@ -128,8 +156,9 @@ fn fill(fd: i32, block: &mut [u8]) -> Got
 
 // Reads a block, edits by its whole records and writes the lines of the refused ones.
 fn one_block(
+    rt: &(impl Print + Eprint + Alloc),
     side: Side,
-    fd: i32,
+    input: &mut impl Read,
     run: Run,
     kids: &mut [u64],
     facts: &mut [u32],
@@ -137,10 +166,10 @@ fn one_block(
 ) -> Turn {
     let mut block = [0u8; BLOCK];
     let mut lines = [0u8; LINES];
-    let got = fill(fd, &mut block);
+    let got = fill(rt, input, &mut block);
     let len = got.len;
     let ran = month_listing::side_records(side, run, kids, facts, find, &block[..len], &mut lines);
-    let written = say_start(&lines, ran.len);
+    let written = say_start(rt, &lines, ran.len);
     Turn {
         run: ran.run,
         cut: len % RECORD,
@@ -150,26 +179,26 @@ fn one_block(
 }
 
 // Writes the line of a cut last record, and answers whether that went well.
-fn say_short(side: Side, cut: usize) -> bool {
+fn say_short(rt: &(impl Print + Eprint + Alloc), side: Side, cut: usize) -> bool {
     let mut lines = [0u8; LINES];
     let len = month_listing::side_short(side, cut, &mut lines);
-    say_start(&lines, len)
+    say_start(rt, &lines, len)
 }
 
-// The blocks of a file, to its end. A proved loop has to end, and nothing says that the input does: so the blocks are counted down, from a number that no input
+// The blocks of a file, to its end. A proved loop has to end, and nothing says that the input does: so the blocks are counted, up to a number that no input
 // uses up.
 fn enter_file(
+    rt: &(impl Print + Eprint + Alloc),
     side: Side,
-    fd: i32,
+    input: &mut impl Read,
     first: Run,
     kids: &mut [u64],
     facts: &mut [u32],
     find: &mut [u16],
 ) -> Entered {
     let mut run = first;
-    let mut left = u64::MAX;
-    while left > 0 {
-        let turn = one_block(side, fd, run, kids, facts, find);
+    for _ in 0..u64::MAX {
+        let turn = one_block(rt, side, input, run, kids, facts, find);
         let next = turn.run;
         if turn.failed {
             return Entered {
@@ -178,14 +207,13 @@ fn enter_file(
             };
         }
         if turn.last {
-            let written = say_short(side, turn.cut);
+            let written = say_short(rt, side, turn.cut);
             return Entered {
                 run: next,
                 failed: !written,
             };
         }
         run = next;
-        left -= 1;
     }
     Entered {
         run: run,
@@ -194,12 +222,18 @@ fn enter_file(
 }
 
 // Writes the lines of the first cells of the list, and answers whether that went well.
-fn say_cells(codes: &[u32], lefts: &[u16], rights: &[u16], count: usize) -> bool {
+fn say_cells(
+    rt: &(impl Print + Eprint + Alloc),
+    codes: &[u32],
+    lefts: &[u16],
+    rights: &[u16],
+    count: usize,
+) -> bool {
     let mut from: usize = 0;
     while from < count {
         let mut lines = [0u8; LINES];
         let block = month_listing::cell_lines(codes, lefts, rights, from, count, &mut lines);
-        let written = say_start(&lines, block.len);
+        let written = say_start(rt, &lines, block.len);
         if !written {
             return false;
         }
@@ -209,7 +243,14 @@ fn say_cells(codes: &[u32], lefts: &[u16], rights: &[u16], count: usize) -> bool
 }
 
 // Compares the two roots and writes what came of it.
-fn say_outcome(run: Run, kids: &[u64], facts: &[u32], find: &[u16], left: BlockId) {
+fn say_outcome(
+    rt: &(impl Print + Eprint + Alloc),
+    run: Run,
+    kids: &[u64],
+    facts: &[u32],
+    find: &[u16],
+    left: BlockId,
+) {
     let mut codes = [0u32; LISTED];
     let mut lefts = [0u16; LISTED];
     let mut rights = [0u16; LISTED];
@@ -226,69 +267,99 @@ fn say_outcome(run: Run, kids: &[u64], facts: &[u32], find: &[u16], left: BlockI
         &mut lefts,
         &mut rights,
     );
-    if say_cells(&codes, &lefts, &rights, compared.count as usize) {
+    if say_cells(rt, &codes, &lefts, &rights, compared.count as usize) {
         let mut lines = [0u8; LINES];
         let len = month_listing::closing(compared, run, &mut lines);
-        say_start(&lines, len);
+        say_start(rt, &lines, len);
     }
 }
 
-fn list(left: i32, right: i32) {
+fn list(rt: &(impl Print + Eprint + Alloc), left: &mut impl Read, right: &mut impl Read) {
     let mut kids = [0u64; KIDS];
     let mut facts = [0u32; FACTS];
     let mut find = [0u16; CELLS];
     let start = listing::start(SLOTS, &mut kids, &mut facts, &mut find);
     if start.no != 0 {
-        io::write_all(STDERR_FILENO, b"months: the tables do not fit\n");
+        let _ = eprintln!(rt; "months: the tables do not fit");
         return;
     }
     let begin = start.run;
-    let first = enter_file(Side::Left, left, begin, &mut kids, &mut facts, &mut find);
+    let first = enter_file(
+        rt,
+        Side::Left,
+        left,
+        begin,
+        &mut kids,
+        &mut facts,
+        &mut find,
+    );
     if first.failed {
         return;
     }
     let between = first.run;
     let root = between.root;
     let next = month_listing::second_side(between);
-    let second = enter_file(Side::Right, right, next, &mut kids, &mut facts, &mut find);
+    let second = enter_file(
+        rt,
+        Side::Right,
+        right,
+        next,
+        &mut kids,
+        &mut facts,
+        &mut find,
+    );
     if second.failed {
         return;
     }
     let end = second.run;
-    say_outcome(end, &kids, &facts, &find, root);
+    say_outcome(rt, end, &kids, &facts, &find, root);
 }
 
-// Opens the file that an argument names; where that fails, it says so and answers a number below 0.
-fn open_argument(number: usize) -> i32 {
-    let mut path = io::buffer();
-    let length = os::arg(number, &mut path);
-    if os::errno() != 0 {
-        os::fail(b"months: the file's name");
-        return -1;
+// Whether an argument of this number was given; the program's name is number 0.
+fn is_given(env: &impl Env, number: usize) -> bool {
+    match env.arg(number, &mut []) {
+        Err(FillError::NotPresent) => false,
+        _ => true,
     }
-    let fd = os::open_read(&path[..length]);
-    if fd < 0 {
-        os::fail(&path[..length]);
-    }
-    fd
 }
 
-fn main() {
-    if os::arg_count() != 3 {
-        io::write_all(
-            STDERR_FILENO,
-            b"usage: months A B, two files of edit records: their differing cells\n",
+// Opens the file of a name; where that fails, it says so.
+fn open<R: Files + Eprint + Alloc>(rt: &R, path: &str) -> Option<R::File> {
+    match fs::open(rt, path) {
+        Ok(file) => Some(file),
+        Err(error) => {
+            fail(rt, path, error);
+            None
+        }
+    }
+}
+
+// Opens the file that an argument names, by a name in UTF-8; where that fails, it says so.
+fn open_argument<R: Env + Files + Eprint + Alloc>(rt: &R, number: usize) -> Option<R::File> {
+    let mut name = [0u8; NAME];
+    let Ok(length) = rt.arg(number, &mut name) else {
+        let _ = eprintln!(rt; "months: the file's name: File name too long");
+        return None;
+    };
+    let Ok(path) = str::from_utf8(&name[..length]) else {
+        let _ = eprintln!(rt; "months: the file's name: not UTF-8");
+        return None;
+    };
+    open(rt, path)
+}
+
+fn main(rt: HostRuntime) {
+    if !is_given(&rt, 2) || is_given(&rt, 3) {
+        let _ = eprintln!(rt;
+            "usage: months A B, two files of edit records: their differing cells"
         );
         return;
     }
-    let left = open_argument(1);
-    if left < 0 {
+    let Some(mut left) = open_argument(&rt, 1) else {
         return;
-    }
-    let right = open_argument(2);
-    if 0 <= right {
-        list(left, right);
-        libc::close(right);
-    }
-    libc::close(left);
+    };
+    let Some(mut right) = open_argument(&rt, 2) else {
+        return;
+    };
+    list(&rt, &mut left, &mut right);
 }

@@ -11,9 +11,12 @@ ghost use Rattle.std.specs.Prelude.{◌≡◌, ◌+◌, ◌≤◌, min, length};
 ghost use Rattle.survey.specs.Digits.{too_fine, edge_of};
 
 use basics::FINEST_EDGE;
-use libc::{STDERR_FILENO, STDIN_FILENO, STDOUT_FILENO};
 use listing::Run;
 use metres::RECORD_BYTES;
+use std::env::FillError;
+use std::io::Read;
+use std::rt::{Env, Files};
+use std::{fs, io, str};
 
 // The slots of the arena. Its tables have 8 and 11 words and 5 cells a slot, 60,416 bytes.
 const SLOTS: usize = 512;
@@ -28,6 +31,9 @@ const CELLS: usize = 2560;
 const BLOCK: usize = 320;
 
 const LINES: usize = 672;
+
+// An argument has at most so many bytes.
+const ARGUMENT: usize = 4096;
 
 // Stands for every k that is too large.
 const TOO_FINE: u32 = FINEST_EDGE + 1;
@@ -54,31 +60,53 @@ struct Turn {
     failed: bool,
 }
 
+// The reason of an error in the system's words, without the number that std writes after them.
+fn reason(text: &str) -> &str {
+    match text.split_once(" (os error ") {
+        Some((words, _)) => words,
+        None => text,
+    }
+}
+
+// Says on standard error what failed, and for what reason.
+fn fail(rt: &(impl Eprint + Alloc), what: &str, error: io::Error) {
+    let _ = match format!(in rt.alloc(); "{error}") {
+        Ok(text) => {
+            let words = reason(text.as_str());
+            eprintln!(rt; "{what}: {words}")
+        }
+        Err(_) => eprintln!(rt; "{what}: {error}"),
+    };
+}
+
 // Writes the first bytes of a text, and answers whether that went well; if not, it says so.
-fn say_start(text: &[u8], count: usize) -> bool {
+fn say_start(rt: &(impl Print + Eprint + Alloc), text: &[u8], count: usize) -> bool {
     if text.len() < count {
         return false;
     }
-    let written = io::write_all(STDOUT_FILENO, &text[..count]);
-    if !written {
-        os::fail(b"survey: can't write");
+    match rt.write_all(&text[..count]) {
+        Ok(()) => true,
+        Err(error) => {
+            fail(rt, "survey: can't write", error);
+            false
+        }
     }
-    written
 }
 
 // One read; if it fails, it says so.
-fn read_some(fd: i32, part: &mut [u8]) -> Got {
-    let got = libc::read(fd, part);
-    if got < 0 {
-        os::fail(b"survey: can't read");
-        return Got {
-            len: 0,
-            failed: true,
-        };
-    }
-    Got {
-        len: io::count(got, part),
-        failed: false,
+fn read_some(rt: &(impl Eprint + Alloc), input: &mut impl Read, part: &mut [u8]) -> Got {
+    match input.read(part) {
+        Ok(len) => Got {
+            len: len,
+            failed: false,
+        },
+        Err(error) => {
+            fail(rt, "survey: can't read", error);
+            Got {
+                len: 0,
+                failed: true,
+            }
+        }
     }
 }
 
@@ -89,12 +117,12 @@ fn least(x: usize, y: usize) -> usize
 }
 
 // One read into the block from `len` on.
-fn read_on(fd: i32, block: &mut [u8], len: usize) -> Got
+fn read_on(rt: &(impl Eprint + Alloc), input: &mut impl Read, block: &mut [u8], len: usize) -> Got
     requires { len ≤ length block.old }
     ensures { len + result.len ≤ length block.old }
 {
     let room = block.len() - len;
-    let got = read_some(fd, &mut block[len..]);
+    let got = read_some(rt, input, &mut block[len..]);
     Got {
         len: least(got.len, room),
         failed: got.failed,
@@ -102,12 +130,12 @@ fn read_on(fd: i32, block: &mut [u8], len: usize) -> Got
 }
 
 // Reads until the block is full, the input ends or a read fails: a record may come in two reads. Where a read fails, what came of a record is left out.
-fn fill(fd: i32, block: &mut [u8]) -> Got
+fn fill(rt: &(impl Eprint + Alloc), input: &mut impl Read, block: &mut [u8]) -> Got
     ensures { result.len ≤ length block.old }
 {
     let mut len: usize = 0;
     while len < block.len() {
-        let got = read_on(fd, block, len);
+        let got = read_on(rt, input, block, len);
         if got.failed {
             return Got {
                 len: len - len % RECORD_BYTES,
@@ -130,7 +158,8 @@ fn fill(fd: i32, block: &mut [u8]) -> Got
 
 // Reads a block, enters its records and writes their lines.
 fn one_block(
-    fd: i32,
+    rt: &(impl Print + Eprint + Alloc),
+    input: &mut impl Read,
     run: Run,
     kids: &mut [u64],
     facts: &mut [u32],
@@ -139,10 +168,10 @@ fn one_block(
 ) -> Turn {
     let mut block = [0u8; BLOCK];
     let mut lines = [0u8; LINES];
-    let got = fill(fd, &mut block);
+    let got = fill(rt, input, &mut block);
     let len = got.len;
     let ran = reading_listing::enter_records(run, kids, facts, find, k, &block[..len], &mut lines);
-    let written = say_start(&lines, ran.len);
+    let written = say_start(rt, &lines, ran.len);
     Turn {
         run: ran.run,
         last: len < BLOCK,
@@ -150,43 +179,49 @@ fn one_block(
     }
 }
 
-fn say_end(run: Run) {
+fn say_end(rt: &(impl Print + Eprint + Alloc), run: Run) {
     let mut lines = [0u8; LINES];
     let len = listing::ending(run, 0, &mut lines);
-    say_start(&lines, len);
+    say_start(rt, &lines, len);
 }
 
-// The blocks of the input, to its end. A proved loop has to end, and nothing says that the input does: so the blocks are counted down, from a number
-// that no input uses up.
-fn list_blocks(fd: i32, first: Run, kids: &mut [u64], facts: &mut [u32], find: &mut [u16], k: u32) {
+// The blocks of the input, to its end. A proved loop has to end, and nothing says that the input does: so the blocks are counted, up to a number that no
+// input uses up.
+fn list_blocks(
+    rt: &(impl Print + Eprint + Alloc),
+    input: &mut impl Read,
+    first: Run,
+    kids: &mut [u64],
+    facts: &mut [u32],
+    find: &mut [u16],
+    k: u32,
+) {
     let mut run = first;
-    let mut left = u64::MAX;
-    while left > 0 {
-        let turn = one_block(fd, run, kids, facts, find, k);
+    for _ in 0..u64::MAX {
+        let turn = one_block(rt, input, run, kids, facts, find, k);
         if turn.failed {
             return;
         }
         let next = turn.run;
         if turn.last {
-            say_end(next);
+            say_end(rt, next);
             return;
         }
         run = next;
-        left -= 1;
     }
 }
 
-fn list(fd: i32, k: u32) {
+fn list(rt: &(impl Print + Eprint + Alloc), input: &mut impl Read, k: u32) {
     let mut kids = [0u64; KIDS];
     let mut facts = [0u32; FACTS];
     let mut find = [0u16; CELLS];
     let start = listing::start(SLOTS, &mut kids, &mut facts, &mut find);
     if start.no != 0 {
-        io::write_all(STDERR_FILENO, b"survey: the tables do not fit\n");
+        let _ = eprintln!(rt; "survey: the tables do not fit");
         return;
     }
     let run = start.run;
-    list_blocks(fd, run, &mut kids, &mut facts, &mut find, k);
+    list_blocks(rt, input, run, &mut kids, &mut facts, &mut find, k);
 }
 
 // The k that a text says in digits, TOO_FINE for every one above 6; none, if it has another byte or is empty.
@@ -219,59 +254,71 @@ fn capped(k: u32) -> u32
 }
 
 // The k that the first argument says. One longer than 4,096 bytes says none.
-fn edge_argument() -> Edge {
-    let mut text = io::buffer();
-    let length = os::arg(1, &mut text);
-    if os::errno() != 0 {
-        return Edge::Unsaid;
+fn edge_argument(env: &impl Env) -> Edge {
+    let mut text = [0u8; ARGUMENT];
+    match env.arg(1, &mut text) {
+        Ok(length) => edge_of(&text[..length]),
+        Err(_) => Edge::Unsaid,
     }
-    edge_of(&text[..length])
 }
 
-// Opens the file that the second argument names; where that fails, it says so and answers a number below 0.
-fn open_argument() -> i32 {
-    let mut path = io::buffer();
-    let length = os::arg(2, &mut path);
-    if os::errno() != 0 {
-        os::fail(b"survey: the file's name");
-        return -1;
+// Whether an argument of this number was given; the program's name is number 0.
+fn is_given(env: &impl Env, number: usize) -> bool {
+    match env.arg(number, &mut []) {
+        Err(FillError::NotPresent) => false,
+        _ => true,
     }
-    let fd = os::open_read(&path[..length]);
-    if fd < 0 {
-        os::fail(&path[..length]);
-    }
-    fd
 }
 
-// Lists the records of the file that the second argument names, or of standard input where there are two arguments, the program's name among them.
-fn list_input(arguments: usize, k: u32) {
-    if arguments < 3 {
-        list(STDIN_FILENO, k);
+// Opens the file of a name; where that fails, it says so.
+fn open<R: Files + Eprint + Alloc>(rt: &R, path: &str) -> Option<R::File> {
+    match fs::open(rt, path) {
+        Ok(file) => Some(file),
+        Err(error) => {
+            fail(rt, path, error);
+            None
+        }
+    }
+}
+
+// Opens the file that the second argument names, by a name in UTF-8; where that fails, it says so.
+fn open_argument<R: Env + Files + Eprint + Alloc>(rt: &R) -> Option<R::File> {
+    let mut name = [0u8; ARGUMENT];
+    let Ok(length) = rt.arg(2, &mut name) else {
+        let _ = eprintln!(rt; "survey: the file's name: File name too long");
+        return None;
+    };
+    let Ok(path) = str::from_utf8(&name[..length]) else {
+        let _ = eprintln!(rt; "survey: the file's name: not UTF-8");
+        return None;
+    };
+    open(rt, path)
+}
+
+// Lists the records of the file that the second argument names, or of standard input where there is none.
+fn list_input<R: Env + Files + Print + Eprint + Alloc>(rt: &R, standard: &mut impl Read, k: u32) {
+    if !is_given(rt, 2) {
+        list(rt, standard, k);
         return;
     }
-    let fd = open_argument();
-    if 0 <= fd {
-        list(fd, k);
-        libc::close(fd);
+    if let Some(mut file) = open_argument(rt) {
+        list(rt, &mut file, k);
     }
 }
 
-fn say_usage() {
-    io::write_all(
-        STDERR_FILENO,
-        b"usage: survey K [FILE], with K in digits: an edge of 2^-K metres\n",
-    );
+fn say_usage(rt: &impl Eprint) {
+    let _ = eprintln!(rt; "usage: survey K [FILE], with K in digits: an edge of 2^-K metres");
 }
 
-fn main() {
-    let arguments = os::arg_count();
-    if 3 < arguments {
-        say_usage();
+fn main(rt: HostRuntime) {
+    if is_given(&rt, 3) {
+        say_usage(&rt);
         return;
     }
-    let edge = edge_argument();
+    let edge = edge_argument(&rt);
+    let mut standard = rt.stdin();
     match edge {
-        Edge::Of(k) => list_input(arguments, k),
-        Edge::Unsaid => say_usage(),
+        Edge::Of(k) => list_input(&rt, &mut standard, k),
+        Edge::Unsaid => say_usage(&rt),
     }
 }
