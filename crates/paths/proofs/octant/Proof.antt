@@ -1,4 +1,5 @@
 use borrow.Author.Rules.{rules}
+use native.Mathlib.Omega.{arith}
 use Rattle.paths.proofs.Calls.{octant_sum, octant_past}
 use Rattle.paths.proofs.octant.Statement.{statement}
 use Rattle.paths.proofs.octant.Tie as tie
@@ -8,4 +9,4 @@ octant_spec =
     tie.close
     (tie.spec (λ c. search rules) (λ c. search rules) (λ c. search rules) (λ c. search rules) (λ c. search rules)
     (λ c. search rules) (λ c. search rules) (λ c. search rules) (λ c. octant_sum _ _ _ _)
-    (λ c. octant_past _ _ _ _ c.if-b-lt32.false c.before.ranges.x c.before.ranges.y c.before.ranges.z))
+    (λ c. octant_past _ _ _ _ (omega arith) c.before.ranges.x c.before.ranges.y c.before.ranges.z))
