@@ -7,7 +7,6 @@ A definition in camel case and a lemma with dashes become words joined by unders
 it gets `_lem`. Names that begin with a capital (types, facts, and lemmas named after one), names of libraries, of Rust and of what Rattle makes stay.
 """
 
-import collections
 import glob
 import os
 import re
