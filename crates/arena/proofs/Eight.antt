@@ -1,4 +1,7 @@
 -- A loop over eight ids: a test of each, and a byte with a bit for each.
+use Rattle.std.specs.List.{list_all}
+use Rattle.std.proofs.Math.Bool.{◌&&◌}
+use Rattle.basics.specs.Pick.{pick}
 use mathlib.Core.Path.{◌≡◌, refl, sym, ap, ◌∙◌}
 use mathlib.Core.Bool.{Bool, true, false, not}
 use mathlib.Core.List.{List, [], ◌∷◌}
@@ -11,7 +14,6 @@ use lib.Seq.{drop-cons}
 use borrow.Author.Tests.{not-true, not-false}
 use Rattle.ids.specs.declared.BlockId.{BlockId}
 use Rattle.nodes.specs.Tally.{one_if, occ}
-use Rattle.nodes.specs.Words.{Nodes, nodes}
 use Rattle.nodes.proofs.Sums.{occ_nil, occ_cons, occ_here, occ_there, cases}
 use Rattle.arena.specs.Calls.{raw_ids, each, all_of}
 use Rattle.arena.specs.Node.{bits_of}
@@ -69,17 +71,6 @@ module _ {A : Type 0} (g : A → ℕ → A) (x₀ x : A) (ks : List ℕ) (i : �
   unfolding each
   each_end l = sym (e ∙ ap (each g x) (drop_none ks i eight l))
 
--- and of one table of the two, whatever the other holds
--- (the lengths show `search` the table)
-module _ (g : Nodes → ℕ → Nodes) (f₀ f ks : List ℕ) (i : ℕ) (eight : length ks ≡ 8) (size : length f ≡ length f₀)
-    (e : (j : List ℕ) → each g (nodes j f₀) ks ≡ each g (nodes j f) (drop i ks)) where
-  pub each_step : (f' : List ℕ) → i < 8 → ((j : List ℕ) → nodes j f' ≡ g (nodes j f) (get_or ks i 0))
-      → (j : List ℕ) → each g (nodes j f₀) ks ≡ each g (nodes j f') (drop (i + 1) ks)
-  each_step f' l d j = each_on g (nodes j f₀) (nodes j f) ks i eight (e j) (nodes j f') l (d j)
-
-  pub each_last : 8 ≤ i → (j : List ℕ) → nodes j f ≡ each g (nodes j f₀) ks
-  each_last l j = each_end g (nodes j f₀) (nodes j f) ks i eight (e j) l
-
 -- the byte of eight bits
 eight_bits : (p : ℕ → Bool) (ks : List ℕ) → length ks ≡ 8
     → bits_of p ks
@@ -125,3 +116,13 @@ raw_eight (a ∷ b ∷ c ∷ d ∷ e ∷ f ∷ []) q = absurd (omega arith)
 raw_eight (a ∷ b ∷ c ∷ d ∷ e ∷ f ∷ g ∷ []) q = absurd (omega arith)
 raw_eight (a ∷ b ∷ c ∷ d ∷ e ∷ f ∷ g ∷ h ∷ []) q = refl
 raw_eight (a ∷ b ∷ c ∷ d ∷ e ∷ f ∷ g ∷ h ∷ i ∷ ids) q = absurd (omega arith)
+
+and_rest : (b : Bool) {r s : Bool} → r ≡ s → (b && r) ≡ pick b s false
+and_rest true e = e
+and_rest false e = refl
+
+-- whether all are, as the standard library says it
+pub all_of_list : (p : ℕ → Bool) (ks : List ℕ) → list_all p ks ≡ all_of p ks
+unfolding all_of
+all_of_list p [] = refl
+all_of_list p (k ∷ ks) = and_rest (p k) (all_of_list p ks)

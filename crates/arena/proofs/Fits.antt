@@ -62,13 +62,12 @@ unfolding live_of
 is_live t id v = rw (lt-ltb (slot id) (cap t) v.low, le-leb floor id v.high) (eq-eqb (W t (slot id) own) id v.is)
 
 -- a call that is handed an id: the refusals 1 and 4 come first
-pub there_law : {A : Type 0} (t : Tables) (id : ℕ) (refuse : ℕ → A) (live : A)
-    → of_id t id refuse live ≡ pick (eqb (there_no t id) 0) (pick (eqb id 0) (refuse 0) live) (refuse (there_no t id))
+pub there_law : {A : Type 0} (t : Tables) (id x : ℕ) (refuse : ℕ → A) (live : A) → x ≡ there_no t id
+    → of_id t id refuse live ≡ pick (eqb x 0) (pick (eqb id 0) (refuse 0) live) (refuse x)
 unfolding there_no
-there_law t id refuse live =
-    split (fits t)
+there_law t id x refuse live e = rw e (split (fits t)
     (λ f. split (eqb id 0) (λ z. rw (f, z)) (λ z. split (live_of (cap t) (W t) id) (λ l. rw (f, z, l)) (λ l. rw (f, z, l))))
-    (λ f. rw f)
+    (λ f. rw f))
 
 -- the number 0
 module _ (t : Tables) (id : ℕ) where

@@ -4,13 +4,17 @@
 #![tactic(auto)]
 
 ghost use Rattle.std.specs.Prelude.{◌≡◌, List, ℕ, ◌-◌};
+ghost use Rattle.basics.specs.Refusals.{number, no_of};
+ghost use Rattle.ids.specs.Ids.{invalid};
 ghost use Rattle.nodes.specs.Words.{holds as holds_word, places as places_word, fact_of, fact_put, slot};
-ghost use Rattle.arena.specs.Calls.{made_of, each, fit_of, live_of, live_or_empty, none_of, there_no};
+ghost use Rattle.arena.specs.Calls.{made_of, each, fit_of, live_of, live_or_empty, all_live, none_of, there_no};
 ghost use Rattle.arena.specs.Lent.{before};
 ghost use Rattle.arena.specs.Models.{more_of, bumped, hit_by};
 ghost use Rattle.arena.specs.Tables.{live_in, next_in, freed_in, state_of, tables};
 
-use basics::{FACT_WORDS, KID_WORDS, Kids, LEAST_SLOTS, MOST_HOLDS, MOST_SLOTS, SLOT_CELLS};
+use basics::{
+    FACT_WORDS, KID_WORDS, Kids, LEAST_SLOTS, MOST_HOLDS, MOST_SLOTS, Refusal, SLOT_CELLS,
+};
 use ids::BlockId;
 use nodes::{FLOOR, HOLDS, PLACES, fact, own};
 use nodes_write::put_fact;
@@ -24,6 +28,7 @@ pub struct Arena {
 }
 
 // The answer of a call that makes a node: refusal number or 0, the node's id, and `slots` of the state afterwards.
+// Kept: C reads the number beside the id.
 #[repr(C)]
 #[derive(Clone, Copy)]
 pub struct Made {
@@ -32,7 +37,28 @@ pub struct Made {
     pub slots: u64,
 }
 
+impl Made {
+    // No node.
+    pub fn refused(refusal: Refusal, slots: u64) -> Self
+        ensures { result ≡ record { no = number refusal; id = record { 0 = invalid }; slots = slots } }
+    {
+        Made {
+            no: u32::from(refusal),
+            id: BlockId::INVALID,
+            slots,
+        }
+    }
+
+    // The node of that id.
+    pub fn done(id: BlockId, slots: u64) -> Self
+        ensures { result ≡ record { no = 0; id = id; slots = slots } }
+    {
+        Made { no: 0, id, slots }
+    }
+}
+
 // The answer of a call that answers no id.
+// Kept: C reads the number beside `slots`.
 #[repr(C)]
 #[derive(Clone, Copy)]
 pub struct Answer {
@@ -40,7 +66,25 @@ pub struct Answer {
     pub slots: u64,
 }
 
+impl Answer {
+    // The call refuses.
+    pub fn refused(refusal: Refusal, slots: u64) -> Self
+        ensures { result ≡ record { no = number refusal; slots = slots } }
+    {
+        let no = u32::from(refusal);
+        Answer { no, slots }
+    }
+
+    // The call does what it says.
+    pub fn done(slots: u64) -> Self
+        ensures { result ≡ record { no = 0; slots = slots } }
+    {
+        Answer { no: 0, slots }
+    }
+}
+
 // The answer of `counts`.
+// Kept: C reads the number beside the counts.
 #[repr(C)]
 #[derive(Clone, Copy)]
 pub struct Counted {
@@ -50,6 +94,7 @@ pub struct Counted {
 }
 
 // The lowest slot never given out.
+#[tactic(auto, unfolding(crate::specs::Tables::next_in))]
 pub fn next_in(slots: u64) -> u32
     ensures { result ≡ next_in slots }
 {
@@ -57,6 +102,7 @@ pub fn next_in(slots: u64) -> u32
 }
 
 // How many slots are freed.
+#[tactic(auto, unfolding(crate::specs::Tables::freed_in))]
 pub fn freed_in(slots: u64) -> u32
     ensures { result ≡ freed_in slots }
 {
@@ -64,6 +110,7 @@ pub fn freed_in(slots: u64) -> u32
 }
 
 // Both in one word.
+#[tactic(auto, unfolding(crate::specs::Tables::next_in, crate::specs::Tables::freed_in))]
 pub fn slots_of(next: u32, freed: u32) -> u64
     ensures { (next_in result ≡ next) × (freed_in result ≡ freed) }
 {
@@ -71,32 +118,25 @@ pub fn slots_of(next: u32, freed: u32) -> u64
 }
 
 // How many slots live.
+#[tactic(auto, unfolding(crate::specs::Tables::live_in))]
 pub fn live(a: Arena) -> u64
     ensures { result ≡ live_in (state_of a) }
 {
     let next = next_in(a.slots) as u64;
     let freed = freed_in(a.slots) as u64;
-    if freed < next {
-        return next - 1 - freed;
-    }
-    0
-}
-
-// One less; 0 stays 0.
-pub fn less(x: u32) -> u32
-    ensures { result ≡ x - 1 }
-{
-    if x == 0 { 0 } else { x - 1 }
+    next.saturating_sub(1).saturating_sub(freed)
 }
 
 // One more, running over at 2^32. (No count comes near it.)
+#[tactic(auto, unfolding(crate::specs::Models::more_of))]
 pub fn more(x: u32) -> u32
     ensures { result ≡ more_of x }
 {
-    ((x as u64 + 1) % 0x1_0000_0000) as u32
+    x.wrapping_add(1)
 }
 
 // The slot of an id: its index.
+#[tactic(auto, unfolding(nodes::specs::Words::slot))]
 pub fn slot_of(id: u64) -> usize
     ensures { result ≡ slot id }
 {
@@ -104,69 +144,53 @@ pub fn slot_of(id: u64) -> usize
 }
 
 // Not refusal 1: capacity and lengths.
+#[tactic(auto, unfolding(crate::specs::Calls::fit_of))]
 pub fn fit(capacity: usize, kids: usize, facts: usize, find: usize) -> bool
     ensures { result ≡ fit_of capacity kids facts find }
 {
-    if LEAST_SLOTS <= capacity {
-        if capacity <= MOST_SLOTS {
-            if kids == KID_WORDS * capacity {
-                if facts == FACT_WORDS * capacity {
-                    return find == SLOT_CELLS * capacity;
-                }
-            }
-        }
-    }
-    false
+    LEAST_SLOTS <= capacity
+        && capacity <= MOST_SLOTS
+        && kids == KID_WORDS * capacity
+        && facts == FACT_WORDS * capacity
+        && find == SLOT_CELLS * capacity
 }
 
 // Is the id that of a node now in the arena?
+#[tactic(auto, unfolding(crate::specs::Calls::live_of, nodes::specs::Words::floor))]
 pub fn is_live(capacity: usize, facts: &[u32], id: u64) -> bool
     ensures { result ≡ live_of capacity (fact_of facts.now) id }
 {
     let s = slot_of(id);
-    if s < capacity {
-        if FLOOR <= id {
-            return own(facts, s) == id;
-        }
-    }
-    false
+    s < capacity && FLOOR <= id && own(facts, s) == id
 }
 
 // Not refusal 4: EMPTY, or in all 64 bits the id of a node now in the arena.
+#[tactic(auto, unfolding(crate::specs::Calls::live_or_empty))]
 pub fn is_live_or_empty(capacity: usize, facts: &[u32], id: u64) -> bool
     ensures { result ≡ live_or_empty capacity (fact_of facts.now) id }
 {
-    if id == BlockId::EMPTY.0 {
-        return true;
-    }
-    is_live(capacity, facts, id)
+    id == BlockId::EMPTY.0 || is_live(capacity, facts, id)
 }
 
 // Are the eight ids EMPTY, as a leaf's children are?
 pub fn all_empty(ids: Kids) -> bool
     ensures { result ≡ none_of ids }
 {
-    let mut i: usize = 0;
-    while i < KID_WORDS {
-        if !BlockId(ids[i]).is_empty() {
-            return false;
-        }
-        i += 1;
-    }
-    true
+    ids.iter().all(|id| BlockId(*id).is_empty())
 }
 
 // Refusals 1 and 4 of a call that is handed an id: the tables are not sized, or the id is neither EMPTY nor live.
-pub fn there_no(a: Arena, kids: &[u64], facts: &[u32], find: &[u16], id: u64) -> u32
-    ensures { result ≡ there_no (before a kids.now facts.now find.now) id }
+#[tactic(auto, unfolding(crate::specs::Calls::there_no, crate::specs::Calls::live_or_empty, crate::specs::Calls::live_of, nodes::specs::Words::word_of))]
+pub fn may_name(a: Arena, kids: &[u64], facts: &[u32], find: &[u16], id: u64) -> Result<(), Refusal>
+    ensures { no_of result ≡ there_no (before a kids.now facts.now find.now) id }
 {
-    if fit(a.capacity, kids.len(), facts.len(), find.len()) {
-        if is_live_or_empty(a.capacity, facts, id) {
-            return 0;
-        }
-        return 4;
+    if !fit(a.capacity, kids.len(), facts.len(), find.len()) {
+        return Err(Refusal::Size);
     }
-    1
+    if !is_live_or_empty(a.capacity, facts, id) {
+        return Err(Refusal::NotLive);
+    }
+    Ok(())
 }
 
 // A hold on the node in slot s becomes a place that is owed.
@@ -175,11 +199,12 @@ pub fn settle(facts: &mut [u32], s: usize)
 {
     let h = fact(facts, s, HOLDS);
     let p = fact(facts, s, PLACES);
-    put_fact(facts, s, HOLDS, less(h));
+    put_fact(facts, s, HOLDS, h.saturating_sub(1));
     put_fact(facts, s, PLACES, more(p));
 }
 
 // One more in the fact f of the node of id; EMPTY: nothing.
+#[tactic(auto, using(nodes::proofs::Access::put_none), unfolding(crate::specs::Models::bumped))]
 pub fn bump(facts: &mut [u32], f: usize, id: u64)
     ensures { facts.new ≡ bumped f facts.old id }
 {
@@ -194,10 +219,8 @@ pub fn bump(facts: &mut [u32], f: usize, id: u64)
 pub fn bump_all(facts: &mut [u32], f: usize, ids: Kids)
     ensures { facts.new ≡ each (bumped f) facts.old ids }
 {
-    let mut i: usize = 0;
-    while i < KID_WORDS {
-        bump(facts, f, ids[i]);
-        i += 1;
+    for id in ids {
+        bump(facts, f, id);
     }
 }
 
@@ -207,17 +230,16 @@ pub fn hit(a: Arena, facts: &mut [u32], s: usize) -> Made
 {
     let h = fact(facts, s, HOLDS);
     if MOST_HOLDS <= h {
-        return Made {
-            no: 10,
-            id: BlockId::INVALID,
-            slots: a.slots,
-        };
+        return Made::refused(Refusal::ManyHolds, a.slots);
     }
-    let o = own(facts, s);
+    let id = BlockId(own(facts, s));
     put_fact(facts, s, HOLDS, h + 1);
-    Made {
-        no: 0,
-        id: BlockId(o),
-        slots: a.slots,
-    }
+    Made::done(id, a.slots)
+}
+
+// Not refusal 4 of a call that is handed eight ids: is each EMPTY or live?
+pub fn all_live(capacity: usize, facts: &[u32], ks: Kids) -> bool
+    ensures { result ≡ all_live capacity (fact_of facts.now) ks }
+{
+    ks.iter().all(|k| is_live_or_empty(capacity, facts, *k))
 }

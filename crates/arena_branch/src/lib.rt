@@ -2,20 +2,20 @@
 // specs/Calls.antt.
 #![tactic(auto)]
 
-ghost use Rattle.std.specs.Prelude.{◌≡◌, List, ℕ, ◌%◌, ◌^◌, ◌≤◌, ◌<◌, eqb};
+ghost use Rattle.std.specs.Prelude.{◌≡◌, ◌≢◌, List, ℕ, ◌%◌, ◌^◌, ◌≤◌, ◌<◌, eqb};
 ghost use Rattle.basics.specs.Limits.{deepest, cube_kids, kid_words};
 ghost use Rattle.basics.specs.Pick.{pick};
+ghost use Rattle.basics.specs.Refusals.{number, no_of};
 ghost use Rattle.nodes.specs.Tally.{occ};
-ghost use Rattle.nodes.specs.Words.{holds as holds_word, fact_of};
+ghost use Rattle.nodes.specs.Words.{Words, holds as holds_word, fact_of};
 ghost use Rattle.find_hash.specs.Hash.{kids_hash};
-ghost use Rattle.arena.specs.Calls.{made_of, refused, Fair, each, enough_for, all_live, enough, intern_branch_of, raw_ids};
-ghost use Rattle.arena.specs.Models.{bumped, top_for, taken_one, has_one, lasts, given_back, lives_at, late_no, first_no, branch_new_by, branch_take_by, branch_at, branch_by, intern_branch_by};
-ghost use Rattle.arena.specs.Node.{sum_for, value_for};
+ghost use Rattle.arena.specs.Calls.{made_of, refused, Fair, each, enough_for, enough, intern_branch_of, raw_ids};
+ghost use Rattle.arena.specs.Models.{bumped, taken_one, has_one, lasts, given_back, late_no, branch_new_by, branch_at, branch_by, intern_branch_by};
 ghost use Rattle.arena.specs.Tables.{state_of, tables};
 ghost use Rattle.arena.specs.Lent.{before, made};
 
-use arena::{Arena, Made, all_empty, bump, bump_all, fit, hit, is_live_or_empty, slot_of};
-use basics::{KID_WORDS, Kids, MOST_HOLDS, TALLEST};
+use arena::{Arena, Made, all_empty, all_live, bump, bump_all, fit, hit, slot_of};
+use basics::{KID_WORDS, Kids, MOST_HOLDS, Refusal, TALLEST};
 use find::search;
 use find_hash::kids_hash;
 use ids::BlockId;
@@ -29,124 +29,52 @@ use nodes_write::put_fact;
 fn occurs(ks: Kids, y: u64) -> u32
     ensures { result ≡ occ y ks }
 {
-    let mut n: u32 = 0;
-    let mut i: usize = 0;
-    while i < KID_WORDS {
-        if y == ks[i] {
-            n += 1;
-        }
-        i += 1;
-    }
-    n
+    ks.iter().filter(|k| **k == y).count() as u32
 }
 
 // Has k a hold for each of its places among the eight? Eight holds are always enough.
+#[tactic(auto, using(nodes::proofs::Sums::occ_length), unfolding(arena::specs::Calls::enough_for))]
 fn enough_for(facts: &[u32], ks: Kids, k: u64) -> bool
     ensures { result ≡ enough_for (fact_of facts.now) ks k }
 {
-    if k == 0 {
+    if BlockId(k).is_empty() {
         return true;
     }
     let h = fact(facts, slot_of(k), HOLDS);
-    if 8 <= h {
-        return true;
-    }
-    occurs(ks, k) <= h
+    8 <= h || occurs(ks, k) <= h
 }
 
 // Not refusal 5: has each the holds that the call would take?
 fn all_enough(facts: &[u32], ks: Kids) -> bool
     ensures { result ≡ enough (fact_of facts.now) ks }
 {
-    let mut i: usize = 0;
-    while i < KID_WORDS {
-        if !enough_for(facts, ks, ks[i]) {
+    for k in ks {
+        if !enough_for(facts, ks, k) {
             return false;
         }
-        i += 1;
     }
     true
-}
-
-// Not refusal 4: is each EMPTY or live?
-fn all_live(capacity: usize, facts: &[u32], ks: Kids) -> bool
-    ensures { result ≡ all_live capacity (fact_of facts.now) ks }
-{
-    let mut i: usize = 0;
-    while i < KID_WORDS {
-        if !is_live_or_empty(capacity, facts, ks[i]) {
-            return false;
-        }
-        i += 1;
-    }
-    true
-}
-
-// Not refusal 4, once the search has named s, which is 0 where the branch is not there: where it is there its children live.
-fn lives(capacity: usize, facts: &[u32], ks: Kids, s: usize) -> bool
-    ensures { result ≡ lives_at capacity (fact_of facts.now) ks s }
-{
-    if s == 0 {
-        return all_live(capacity, facts, ks);
-    }
-    true
-}
-
-// What the children come to where the branch is not there; else 0, which nobody asks for.
-fn sums_at(facts: &[u32], ks: Kids, s: usize) -> Sums
-    ensures { (result.sum ≡ pick (eqb s 0) (sum_for cube_kids (fact_of facts.now) ks) 0) × (result.value ≡ pick (eqb s 0) (value_for cube_kids (fact_of facts.now) ks) 0) × (result.top ≡ pick (eqb s 0) (top_for (fact_of facts.now) ks cube_kids) 0) }
-{
-    if s == 0 {
-        return sums_of(facts, ks);
-    }
-    Sums {
-        sum: 0,
-        value: 0,
-        top: 0,
-    }
-}
-
-// The refusals after 5: 8 and 11 where the branch is not there, else 10.
-fn late_no(a: Arena, facts: &[u32], s: usize, top: u32) -> u32
-    ensures { result ≡ late_no deepest (state_of a) (fact_of facts.now) s top }
-{
-    if s == 0 {
-        if top < TALLEST {
-            if 0 < free_slots(a) {
-                return 0;
-            }
-            return 11;
-        }
-        return 8;
-    }
-    if MOST_HOLDS <= fact(facts, s, HOLDS) {
-        return 10;
-    }
-    0
-}
-
-// A late refusal, or 5 in its place where there are too few holds. Where none applies, taking the holds shows whether there are enough.
-fn first_no(a: Arena, facts: &[u32], ks: Kids, s: usize, top: u32) -> u32
-    ensures { result ≡ first_no deepest (state_of a) (fact_of facts.now) ks s top }
-{
-    let late = late_no(a, facts, s, top);
-    if late == 0 {
-        return 0;
-    }
-    if all_enough(facts, ks) {
-        return late;
-    }
-    5
 }
 
 // Refused: nothing is changed.
-fn refuse(a: Arena, no: u32) -> Made
-    ensures { (k f e : List ℕ) → made_of a.capacity result k f e ≡ refused no (tables (state_of a) k f e) }
+fn refuse(a: Arena, refusal: Refusal) -> Made
+    ensures { (k f e : List ℕ) → made_of a.capacity result k f e ≡ refused (number refusal) (tables (state_of a) k f e) }
 {
     Made {
-        no: no,
+        no: u32::from(refusal),
         id: BlockId::INVALID,
         slots: a.slots,
+    }
+}
+
+// Refused by one of those after 5, or by 5 in its place where there are too few holds.
+fn refuse_late(a: Arena, facts: &[u32], ks: Kids, late: Refusal) -> Made
+    ensures { (k f e : List ℕ) → made_of a.capacity result k f e ≡ refused (pick (enough (fact_of facts.now) ks) (number late) 5) (tables (state_of a) k f e) }
+{
+    if all_enough(facts, ks) {
+        refuse(a, late)
+    } else {
+        refuse(a, Refusal::FewHolds)
     }
 }
 
@@ -154,7 +82,7 @@ fn refuse(a: Arena, no: u32) -> Made
 fn take_hold(facts: &mut [u32], k: u64) -> bool
     ensures { (result ≡ has_one facts.old k) × (facts.new ≡ pick result (taken_one facts.old k) facts.old) × (pick result (bumped holds_word facts.new k) facts.new ≡ facts.old) }
 {
-    if k == 0 {
+    if BlockId(k).is_empty() {
         return true;
     }
     let s = slot_of(k);
@@ -170,12 +98,10 @@ fn take_hold(facts: &mut [u32], k: u64) -> bool
 fn take_while(facts: &mut [u32], ks: Kids) -> usize
     ensures { (result ≤ kid_words) × (eqb result kid_words ≡ lasts facts.old ks) × (pick (eqb result kid_words) facts.new (given_back facts.new ks result) ≡ pick (eqb result kid_words) (each taken_one facts.old ks) facts.old) }
 {
-    let mut i: usize = 0;
-    while i < KID_WORDS {
-        if !take_hold(facts, ks[i]) {
+    for (i, k) in ks.iter().enumerate() {
+        if !take_hold(facts, *k) {
             return i;
         }
-        i += 1;
     }
     KID_WORDS
 }
@@ -185,10 +111,8 @@ fn give_back(facts: &mut [u32], ks: Kids, n: usize)
     requires { n ≤ kid_words }
     ensures { facts.new ≡ given_back facts.old ks n }
 {
-    let mut left = n;
-    while 0 < left {
-        left -= 1;
-        bump(facts, HOLDS, ks[left]);
+    for i in (0..n).rev() {
+        bump(facts, HOLDS, ks[i]);
     }
 }
 
@@ -238,53 +162,58 @@ fn branch_new(
     )
 }
 
-// The holds of the children end, and a hold is granted on the branch in slot s, or on a fresh one. Refusal 5 alone is left.
-fn branch_take(
-    a: Arena,
-    kids: &mut [u64],
-    facts: &mut [u32],
-    find: &mut [u16],
-    ks: Kids,
-    sums: Sums,
-    k: u32,
-    s: usize,
-    at: usize,
-) -> Made
-    requires { (sums.sum ≡ pick (eqb s 0) (sum_for cube_kids (fact_of facts.old) ks) 0) × (sums.value ≡ pick (eqb s 0) (value_for cube_kids (fact_of facts.old) ks) 0) × (sums.top ≡ pick (eqb s 0) (top_for (fact_of facts.old) ks cube_kids) 0) × (sums.top < deepest) × (k ≡ kids_hash ks) }
-    ensures { made a result kids.new facts.new find.new ≡ branch_take_by cube_kids (before a kids.old facts.old find.old) ks s at }
+// May a branch be made whose tallest child has the height `top`? Refusals 8 and 11.
+#[tactic(auto, unfolding(arena::specs::Models::late_no, arena::specs::Calls::room_of))]
+fn may_make(a: Arena, top: u32) -> Result<(), Refusal>
+    ensures { (U : Words) → no_of result ≡ late_no deepest (state_of a) U 0 top }
 {
-    if !take_holds(facts, ks) {
-        return refuse(a, 5);
+    if top >= TALLEST {
+        return Err(Refusal::Tall);
     }
-    if s == 0 {
-        return branch_new(a, kids, facts, find, ks, sums, k, at);
+    if free_slots(a) == 0 {
+        return Err(Refusal::Full);
     }
-    hit(a, facts, s)
+    Ok(())
 }
 
-// The branch of these children, once the search has ended at the cell `at`, which names s.
-fn branch_at(
+// The branch of these children where it is not there: the search has ended at the empty cell `at`.
+fn branch_miss(
     a: Arena,
     kids: &mut [u64],
     facts: &mut [u32],
     find: &mut [u16],
     ks: Kids,
     k: u32,
-    s: usize,
     at: usize,
 ) -> Made
     requires { k ≡ kids_hash ks }
-    ensures { made a result kids.new facts.new find.new ≡ branch_at cube_kids deepest (before a kids.old facts.old find.old) ks s at }
+    ensures { made a result kids.new facts.new find.new ≡ branch_at cube_kids deepest (before a kids.old facts.old find.old) ks 0 at }
 {
-    if !lives(a.capacity, facts, ks, s) {
-        return refuse(a, 4);
+    if !all_live(a.capacity, facts, ks) {
+        return refuse(a, Refusal::NotLive);
     }
-    let sums = sums_at(facts, ks, s);
-    let no = first_no(a, facts, ks, s, sums.top);
-    if no != 0 {
-        return refuse(a, no);
+    let sums = sums_of(facts, ks);
+    if let Err(late) = may_make(a, sums.top) {
+        return refuse_late(a, facts, ks, late);
     }
-    branch_take(a, kids, facts, find, ks, sums, k, s, at)
+    if !take_holds(facts, ks) {
+        return refuse(a, Refusal::FewHolds);
+    }
+    branch_new(a, kids, facts, find, ks, sums, k, at)
+}
+
+// The branch of these children where it is there, in slot s: so its children live. Their holds end, and it gets one.
+fn branch_hit(a: Arena, facts: &mut [u32], ks: Kids, s: usize) -> Made
+    requires { s ≢ 0 }
+    ensures { (k e : List ℕ) (at : ℕ) → made_of a.capacity result k facts.new e ≡ branch_at cube_kids deepest (before a k facts.old e) ks s at }
+{
+    if fact(facts, s, HOLDS) >= MOST_HOLDS {
+        return refuse_late(a, facts, ks, Refusal::ManyHolds);
+    }
+    if !take_holds(facts, ks) {
+        return refuse(a, Refusal::FewHolds);
+    }
+    hit(a, facts, s)
 }
 
 // The branch of these children: it is searched for first, since where it is there nothing of them but their holds has to be looked at.
@@ -292,30 +221,32 @@ fn branch(a: Arena, kids: &mut [u64], facts: &mut [u32], find: &mut [u16], ks: K
     ensures { made a result kids.new facts.new find.new ≡ branch_by cube_kids deepest (before a kids.old facts.old find.old) ks }
 {
     let k = kids_hash(ks);
-    let f = search(find, kids, facts, a.capacity, k, ks);
-    branch_at(a, kids, facts, find, ks, k, f.slot, f.cell)
+    let found = search(find, kids, facts, a.capacity, k, ks);
+    if found.slot == 0 {
+        branch_miss(a, kids, facts, find, ks, k, found.cell)
+    } else {
+        branch_hit(a, facts, ks, found.slot)
+    }
 }
 
 // Intern branch on any tables. Refusals 1 and 7 first: of eight EMPTY ids neither 4 nor 5 can apply.
 fn branch_any(a: Arena, kids: &mut [u64], facts: &mut [u32], find: &mut [u16], ks: Kids) -> Made
     ensures { made a result kids.new facts.new find.new ≡ intern_branch_by cube_kids deepest (before a kids.old facts.old find.old) ks }
 {
-    if fit(a.capacity, kids.len(), facts.len(), find.len()) {
-        if all_empty(ks) {
-            return refuse(a, 7);
-        }
-        return branch(a, kids, facts, find, ks);
+    if !fit(a.capacity, kids.len(), facts.len(), find.len()) {
+        return refuse(a, Refusal::Size);
     }
-    refuse(a, 1)
+    if all_empty(ks) {
+        return refuse(a, Refusal::AllEmpty);
+    }
+    branch(a, kids, facts, find, ks)
 }
 
 // The raw numbers of eight ids.
 fn raw_ids(ids: [BlockId; KID_WORDS]) -> Kids
     ensures { result ≡ raw_ids ids }
 {
-    [
-        ids[0].0, ids[1].0, ids[2].0, ids[3].0, ids[4].0, ids[5].0, ids[6].0, ids[7].0,
-    ]
+    ids.map(|id| id.0)
 }
 
 // Intern branch: the live node of those eight ids if there is one, else a fresh one; the caller gets one hold. It uses up one of the caller's

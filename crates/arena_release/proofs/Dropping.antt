@@ -49,6 +49,9 @@ module _ (f : List ℕ) (id : ℕ) where
     unfolding take_of stays_of
     take_last m h em eh z l = rw (ne_eqb id 0 d, sym es, eq-eqb (fact_of f s holds) 0 (sym eh ∙ z), le-ltb 1 (fact_of f s places) (omega arith)) (ap (took true) em)
 
+-- what `take_place_unless_last` needs
+pub ruleset taking = (take_empty, take_more, take_held, take_last)
+
 -- ---- and what that comes to
 
 module _ (levels : ℕ) (a : State) (k f e : List ℕ) (id : ℕ) where

@@ -3,23 +3,25 @@
 
 ghost use Rattle.std.specs.Prelude.{◌≡◌, List, ℕ, ◌+◌, ◌*◌, ◌%◌, ◌^◌, ◌≤◌};
 ghost use Rattle.basics.specs.Limits.{deepest, kid_words};
+ghost use Rattle.basics.specs.Refusals.{no_of};
 ghost use Rattle.ids.specs.Ids.{generation_of};
 ghost use Rattle.nodes.specs.Words.{own as own_word, entry as entry_word, fact_of, fact_put, facts_put};
-ghost use Rattle.arena.specs.Calls.{Fair, dead_facts, each, release_of};
+ghost use Rattle.arena.specs.Calls.{Fair, did, dead_facts, each, release_of};
 ghost use Rattle.arena.specs.Models.{gone_by, drop_place, recycled_by, release_by, release_any};
 ghost use Rattle.arena.specs.Node.{next_generation};
 ghost use Rattle.arena.specs.Tables.{state_in, tables};
 ghost use Rattle.arena.specs.Lent.{before, before_in, after_in, answered};
-ghost use Rattle.arena_release.specs.Drop.{took, take_of, drop_slot};
+ghost use Rattle.arena_release.specs.Drop.{took, take_of, drop_slot, slots_after};
 
-use arena::{Answer, Arena, freed_in, more, next_in, settle, slot_of, slots_of, there_no};
-use basics::{KID_WORDS, Kids, LAST_GENERATION, NO_KIDS, TALLEST};
+use arena::{Answer, Arena, freed_in, may_name, more, next_in, settle, slot_of, slots_of};
+use basics::{Kids, LAST_GENERATION, NO_KIDS, Refusal, TALLEST};
 use find_remove::remove_slot;
 use ids::BlockId;
 use nodes::{ENTRY, HEIGHT, HOLDS, PLACES, children, fact, own};
 use nodes_write::{put_children, put_fact, put_facts};
 
 // The own word of a recycled slot: the generation one higher, or 0 where that would reach 0x7FFE.
+#[tactic(auto, unfolding(arena::specs::Node::next_generation))]
 fn next_own(o: u64) -> u64
     ensures { result ≡ next_generation (generation_of o) * 2 ^ 32 }
 {
@@ -31,6 +33,7 @@ fn next_own(o: u64) -> u64
 }
 
 // Clears the facts of slot s, its generation one higher, and puts it on the stack of freed slots, which has `freed` of them.
+#[tactic(auto, unfolding(arena::specs::Calls::dead_facts))]
 fn clear_slot(facts: &mut [u32], s: usize, freed: u32)
     ensures { facts.new ≡ fact_put (facts_put facts.old s (dead_facts (fact_of facts.old s own_word) freed)) freed entry_word (s % 2 ^ 32) }
 {
@@ -40,6 +43,7 @@ fn clear_slot(facts: &mut [u32], s: usize, freed: u32)
 }
 
 // Clears slot s but for its children and puts it on top of the freed ones; the finding table no longer names it. Answers `slots` then.
+#[tactic(auto, unfolding(arena::specs::Models::recycled_by, nodes::specs::Words::word_of, find::specs::Content::home_at))]
 fn recycle(capacity: usize, slots: u64, facts: &mut [u32], find: &mut [u16], s: usize) -> u64
     ensures { (j : List ℕ) → tables (state_in capacity result) j facts.new find.new ≡ recycled_by (tables (state_in capacity slots) j facts.old find.old) s }
 {
@@ -50,6 +54,7 @@ fn recycle(capacity: usize, slots: u64, facts: &mut [u32], find: &mut [u16], s: 
 }
 
 // Takes one place from the node of `id`, unless that leaves it neither a hold nor a place: then the answer is true, and nothing is written. EMPTY: nothing.
+#[tactic(auto, using(crate::proofs::Dropping::taking))]
 fn take_place_unless_last(facts: &mut [u32], id: u64) -> bool
     ensures { took result facts.new ≡ take_of facts.old id }
 {
@@ -109,10 +114,7 @@ fn drop_all(
     ensures { after_in (state_in capacity result) kids.new facts.new find.new ≡ each (drop_place gone_by (levels + 1)) (before_in (state_in capacity slots) kids.old facts.old find.old) ids }
 {
     let mut gone = slots;
-    let mut i: usize = 0;
-    while i < KID_WORDS {
-        let id = ids[i];
-        i += 1;
+    for id in ids {
         if take_place_unless_last(facts, id) {
             gone = drop_slot(capacity, gone, kids, facts, find, slot_of(id), levels);
         }
@@ -139,43 +141,30 @@ fn take_hold(
     slots
 }
 
-// Release on any tables. Refusals 1, 4 and 5; EMPTY: nothing. Where another hold is left the node stays, whatever its places.
-fn release_any(a: Arena, kids: &mut [u64], facts: &mut [u32], find: &mut [u16], id: u64) -> Answer
-    ensures { answered a result kids.new facts.new find.new ≡ release_any deepest (before a kids.old facts.old find.old) id }
+// Release on any tables. Refusals 1, 4 and 5; EMPTY: nothing. Where another hold is left the node stays, whatever its places. Answers `slots` then.
+fn release_any(
+    a: Arena,
+    kids: &mut [u64],
+    facts: &mut [u32],
+    find: &mut [u16],
+    id: u64,
+) -> Result<u64, Refusal>
+    ensures { did (no_of result) (after_in (state_in a.capacity (slots_after a.slots result)) kids.new facts.new find.new) ≡ release_any deepest (before a kids.old facts.old find.old) id }
 {
-    let no = there_no(a, kids, facts, find, id);
-    if no != 0 {
-        return Answer {
-            no: no,
-            slots: a.slots,
-        };
-    }
+    may_name(a, kids, facts, find, id)?;
     if id == BlockId::EMPTY.0 {
-        return Answer {
-            no: 0,
-            slots: a.slots,
-        };
+        return Ok(a.slots);
     }
     let s = slot_of(id);
     let h = fact(facts, s, HOLDS);
     if h == 0 {
-        return Answer {
-            no: 5,
-            slots: a.slots,
-        };
+        return Err(Refusal::FewHolds);
     }
     if 1 < h {
         put_fact(facts, s, HOLDS, h - 1);
-        return Answer {
-            no: 0,
-            slots: a.slots,
-        };
+        return Ok(a.slots);
     }
-    let slots = take_hold(a.capacity, a.slots, kids, facts, find, id);
-    Answer {
-        no: 0,
-        slots: slots,
-    }
+    Ok(take_hold(a.capacity, a.slots, kids, facts, find, id))
 }
 
 // Release: takes one hold. A node with both counts 0 is recycled, and then its children are released, each completely before the next.
@@ -188,5 +177,8 @@ pub fn release(
 ) -> Answer
     ensures { (n tallest : ℕ) → n ≤ kid_words → tallest ≤ deepest → Fair n tallest (before arena kids.old facts.old find.old) → answered arena result kids.new facts.new find.new ≡ release_of tallest (before arena kids.old facts.old find.old) id.0 }
 {
-    release_any(arena, kids, facts, find, id.0)
+    match release_any(arena, kids, facts, find, id.0) {
+        Ok(slots) => Answer::done(slots),
+        Err(refusal) => Answer::refused(refusal, arena.slots),
+    }
 }

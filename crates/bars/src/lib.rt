@@ -47,10 +47,9 @@ fn next(
         slots: answer.slots,
     };
     let released = arena_release::release(edited, kids, facts, find, root);
-    let id = answer.id;
     Made {
         no: answer.no,
-        id: id,
+        id: answer.id,
         slots: released.slots,
     }
 }
@@ -74,20 +73,16 @@ fn onward(
         → made_of capacity result kids.new facts.new find.new ≡ on_of depth y z value (made_of capacity first kids.old facts.old find.old) x more }
 {
     let mut last = first;
-    let mut i: u32 = 0;
-    while i < more {
+    for i in 0..more {
         if last.no != 0 {
             return last;
         }
-        let passing = last.id;
         let state = Arena {
-            capacity: capacity,
+            capacity,
             slots: last.slots,
         };
         let position = cell(x + i, y, z);
-        let made = next(state, kids, facts, find, passing, depth, position, value);
-        last = made;
-        i += 1;
+        last = next(state, kids, facts, find, last.id, depth, position, value);
     }
     last
 }

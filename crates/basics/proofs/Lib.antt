@@ -1,3 +1,4 @@
 pub mod Rungs
 pub mod Puts
 pub mod Ladder
+pub mod Refusals

@@ -6,3 +6,4 @@ pub mod Bytes
 pub mod Sums
 pub mod Puts
 pub mod Ladder
+pub mod Refusals

@@ -1,6 +1,9 @@
 // Definitions and laws that speak of no id, table or tree: the limits, a choice by a test, ladders of tests, the bits of a number, sums and averages, the characters of a text.
-// In code only the limits: see specs/ and proofs/ for the rest.
+// In code only the limits and the refusals: see specs/ and proofs/ for the rest.
 #![tactic(auto)]
+
+ghost use Rattle.std.specs.Prelude.{◌≡◌};
+ghost use Rattle.basics.specs.Refusals.{number};
 
 // The deepest tree: no depth, and no node's height, is above it.
 pub const DEEPEST: u32 = 6;
@@ -49,3 +52,48 @@ pub const MOST_HOLDS: u32 = 1000000;
 
 // The generation after which a slot's next is 0.
 pub const LAST_GENERATION: u16 = 0x7FFD;
+
+// Why a call refuses: the README and docs/RULES.md say each in full.
+#[derive(Clone, Copy, Debug, PartialEq, Eq)]
+pub enum Refusal {
+    Size,
+    Depth,
+    Position,
+    NotLive,
+    FewHolds,
+    ZeroLeaf,
+    AllEmpty,
+    Tall,
+    Cube,
+    ManyHolds,
+    Full,
+    Generation,
+    Record,
+    NotFinite,
+    ShortList,
+}
+
+// The number of a refusal, by which C and the listings know it.
+impl From<Refusal> for u32 {
+    ghost from_gives = { λ refusal no. no ≡ number refusal };
+
+    fn from(refusal: Refusal) -> u32 {
+        match refusal {
+            Refusal::Size => 1,
+            Refusal::Depth => 2,
+            Refusal::Position => 3,
+            Refusal::NotLive => 4,
+            Refusal::FewHolds => 5,
+            Refusal::ZeroLeaf => 6,
+            Refusal::AllEmpty => 7,
+            Refusal::Tall => 8,
+            Refusal::Cube => 9,
+            Refusal::ManyHolds => 10,
+            Refusal::Full => 11,
+            Refusal::Generation => 12,
+            Refusal::Record => 13,
+            Refusal::NotFinite => 14,
+            Refusal::ShortList => 15,
+        }
+    }
+}

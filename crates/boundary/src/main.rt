@@ -8,7 +8,8 @@
 use arena::{Arena, Made};
 use ids::BlockId;
 use paths::IVec3;
-use std::io;
+use std::fmt::{self, Display, Formatter, Write};
+use std::{io, str};
 
 const SLOTS: usize = 8;
 
@@ -22,446 +23,202 @@ const DEPTH: u32 = 6;
 
 // ---- lines
 
-fn say(rt: &impl Print, words: &[u8]) -> io::Result<()> {
-    rt.write_all(words)
-}
+// An id by its text.
+#[derive(Clone, Copy)]
+struct Text(BlockId);
 
-// The first bytes of words, where there are as many.
-fn say_start(rt: &impl Print, words: &[u8], count: usize) -> io::Result<()> {
-    if count <= words.len() {
-        say(rt, &words[..count])?;
+impl Display for Text {
+    fn fmt<W: Write>(&self, f: &mut Formatter<W>) -> Result<(), fmt::Error> {
+        let text = ids_text::text(self.0);
+        let bytes = text.bytes.get(..text.len).unwrap_or(&[]);
+        f.write_str(str::from_utf8(bytes).unwrap_or(""))
     }
-    Ok(())
 }
 
-fn say_number(rt: &impl Print, n: u64) -> io::Result<()> {
-    print!(rt; "{n}")
+fn say_made(rt: &impl Print, asked: &str, made: Made) -> io::Result<()> {
+    println!(rt; "{asked}: {} {}", made.no, Text(made.id))
 }
 
-fn say_id(rt: &impl Print, id: BlockId) -> io::Result<()> {
-    let text = ids_text::text(id);
-    let bytes = text.bytes;
-    say_start(rt, &bytes, text.len)
+fn say_packed(rt: &impl Print, asked: &str, generation: u16) -> io::Result<()> {
+    println!(rt;
+        "{asked}: {} {}",
+        BlockId::packing_no(generation),
+        Text(BlockId::new_leaf(1, generation))
+    )
 }
 
-// What was asked, and the refusal.
-fn say_refusal(rt: &impl Print, asked: &[u8], no: u32) -> io::Result<()> {
-    say(rt, asked)?;
-    say(rt, b": ")?;
-    say_number(rt, no as u64)
-}
-
-fn say_made(rt: &impl Print, asked: &[u8], made: Made) -> io::Result<()> {
-    say_refusal(rt, asked, made.no)?;
-    say(rt, b" ")?;
-    say_id(rt, made.id)?;
-    say(rt, b"\n")
-}
-
-fn say_packed(rt: &impl Print, asked: &[u8], generation: u16) -> io::Result<()> {
-    say_refusal(rt, asked, BlockId::packing_no(generation))?;
-    say(rt, b" ")?;
-    say_id(rt, BlockId::new_leaf(1, generation))?;
-    say(rt, b"\n")
-}
-
-fn say_answer(rt: &impl Print, asked: &[u8], no: u32) -> io::Result<()> {
-    say_refusal(rt, asked, no)?;
-    say(rt, b"\n")
+fn say_answer(rt: &impl Print, asked: &str, no: u32) -> io::Result<()> {
+    println!(rt; "{asked}: {no}")
 }
 
 // ---- calls
 
 fn cell(x: i32) -> IVec3 {
-    IVec3 { x: x, y: 0, z: 0 }
+    IVec3 { x, y: 0, z: 0 }
 }
 
-// The arena after a call that answered `slots`.
-fn after(slots: u64) -> Arena {
-    Arena {
-        capacity: SLOTS,
-        slots: slots,
+// An arena and its tables.
+#[derive(Drop)]
+struct Tables {
+    arena: Arena,
+    kids: [u64; KIDS],
+    facts: [u32; FACTS],
+    find: [u16; CELLS],
+}
+
+impl Tables {
+    fn new() -> Tables {
+        Tables {
+            arena: Arena {
+                capacity: SLOTS,
+                slots: 0,
+            },
+            kids: [0; KIDS],
+            facts: [0; FACTS],
+            find: [0; CELLS],
+        }
     }
-}
 
-fn fresh(kids: &mut [u64], facts: &mut [u32], find: &mut [u16]) -> Arena {
-    let answer = arena_hold::fresh(SLOTS, kids, facts, find);
-    after(answer.slots)
-}
+    // Makes it a fresh arena.
+    fn clear(&mut self) {
+        let answer = arena_hold::fresh(SLOTS, &mut self.kids, &mut self.facts, &mut self.find);
+        self.arena.slots = answer.slots;
+    }
 
-// Edits a cell of the x axis at depth 6.
-fn edit_cell(
-    rt: &impl Print,
-    asked: &[u8],
-    a: Arena,
-    kids: &mut [u64],
-    facts: &mut [u32],
-    find: &mut [u16],
-    root: BlockId,
-    x: i32,
-    value: u16,
-) -> io::Result<Made> {
-    let made = edit::set_voxel(a, kids, facts, find, root, DEPTH, cell(x), value);
-    say_made(rt, asked, made)?;
-    Ok(made)
-}
+    fn release(&mut self, id: BlockId) -> u32 {
+        let answer = arena_release::release(
+            self.arena,
+            &mut self.kids,
+            &mut self.facts,
+            &mut self.find,
+            id,
+        );
+        self.arena.slots = answer.slots;
+        answer.no
+    }
 
-// Looks a cell of the x axis up at depth 6.
-fn look(
-    rt: &impl Print,
-    asked: &[u8],
-    a: Arena,
-    kids: &[u64],
-    facts: &[u32],
-    find: &[u16],
-    root: BlockId,
-    x: i32,
-) -> io::Result<()> {
-    let looked = read_cell::get_at_depth(a, kids, facts, find, root, DEPTH, cell(x));
-    say_refusal(rt, asked, looked.no)?;
-    say(rt, b" ")?;
-    say_number(rt, looked.value as u64)?;
-    say(rt, b"\n")
-}
+    fn intern(&mut self, value: u16) -> Made {
+        let made = arena_leaf::intern_leaf(
+            self.arena,
+            &mut self.kids,
+            &mut self.facts,
+            &mut self.find,
+            value,
+        );
+        self.arena.slots = made.slots;
+        made
+    }
 
-fn intern(
-    rt: &impl Print,
-    asked: &[u8],
-    a: Arena,
-    kids: &mut [u64],
-    facts: &mut [u32],
-    find: &mut [u16],
-    value: u16,
-) -> io::Result<Made> {
-    let made = arena_leaf::intern_leaf(a, kids, facts, find, value);
-    say_made(rt, asked, made)?;
-    Ok(made)
-}
+    // Edits a cell of the x axis at depth 6.
+    fn edit(&mut self, root: BlockId, x: i32, value: u16) -> Made {
+        let made = edit::set_voxel(
+            self.arena,
+            &mut self.kids,
+            &mut self.facts,
+            &mut self.find,
+            root,
+            DEPTH,
+            cell(x),
+            value,
+        );
+        self.arena.slots = made.slots;
+        made
+    }
 
-fn count(
-    rt: &impl Print,
-    asked: &[u8],
-    a: Arena,
-    kids: &[u64],
-    facts: &[u32],
-    find: &[u16],
-    id: BlockId,
-) -> io::Result<()> {
-    let counted = arena_hold::counts(a, kids, facts, find, id);
-    say_refusal(rt, asked, counted.no)?;
-    say(rt, b" holds ")?;
-    say_number(rt, counted.holds)?;
-    say(rt, b" places ")?;
-    say_number(rt, counted.places)?;
-    say(rt, b"\n")
+    // Holds a node so many times; answers the last refusal.
+    fn hold(&mut self, id: BlockId, times: u32) -> u32 {
+        let mut no: u32 = 0;
+        for _ in 0..times {
+            no = arena_hold::hold(self.arena, &self.kids, &mut self.facts, &self.find, id).no;
+        }
+        no
+    }
+
+    // Looks a cell of the x axis up at depth 6.
+    fn say_cell(&self, rt: &impl Print, asked: &str, root: BlockId, x: i32) -> io::Result<()> {
+        let looked = read_cell::get_at_depth(
+            self.arena,
+            &self.kids,
+            &self.facts,
+            &self.find,
+            root,
+            DEPTH,
+            cell(x),
+        );
+        println!(rt; "{asked}: {} {}", looked.no, looked.value)
+    }
+
+    fn say_counts(&self, rt: &impl Print, asked: &str, id: BlockId) -> io::Result<()> {
+        let counted = arena_hold::counts(self.arena, &self.kids, &self.facts, &self.find, id);
+        println!(rt;
+            "{asked}: {} holds {} places {}",
+            counted.no, counted.holds, counted.places
+        )
+    }
 }
 
 // ---- depth 6, cell 63 against 64
 
-fn looks(
-    rt: &impl Print,
-    a: Arena,
-    kids: &[u64],
-    facts: &[u32],
-    find: &[u16],
-    root: BlockId,
-) -> io::Result<()> {
-    look(rt, b"lookup cell 63", a, kids, facts, find, root, 63)?;
-    look(rt, b"lookup cell 64", a, kids, facts, find, root, 64)
-}
-
-fn cells(
-    rt: &impl Print,
-    a: Arena,
-    kids: &mut [u64],
-    facts: &mut [u32],
-    find: &mut [u16],
-) -> io::Result<()> {
-    let made = edit_cell(
-        rt,
-        b"edit cell 63",
-        a,
-        kids,
-        facts,
-        find,
-        BlockId::EMPTY,
-        63,
-        7,
-    )?;
-    let root = made.id;
-    let b = after(made.slots);
-    looks(rt, b, kids, facts, find, root)?;
-    edit_cell(rt, b"edit cell 64", b, kids, facts, find, root, 64, 7)?;
-    Ok(())
+fn cells(rt: &impl Print, tables: &mut Tables) -> io::Result<()> {
+    tables.clear();
+    let made = tables.edit(BlockId::EMPTY, 63, 7);
+    say_made(rt, "edit cell 63", made)?;
+    tables.say_cell(rt, "lookup cell 63", made.id, 63)?;
+    tables.say_cell(rt, "lookup cell 64", made.id, 64)?;
+    say_made(rt, "edit cell 64", tables.edit(made.id, 64, 7))
 }
 
 // ---- a full arena, on a hit and on a miss
 
-fn full(
-    rt: &impl Print,
-    a: Arena,
-    kids: &mut [u64],
-    facts: &mut [u32],
-    find: &mut [u16],
-) -> io::Result<()> {
-    let made = edit_cell(
-        rt,
-        b"edit that fills the arena",
-        a,
-        kids,
-        facts,
-        find,
-        BlockId::EMPTY,
-        0,
-        5,
-    )?;
-    full_edits(rt, made, kids, facts, find)
-}
-
-fn full_edits(
-    rt: &impl Print,
-    made: Made,
-    kids: &mut [u64],
-    facts: &mut [u32],
-    find: &mut [u16],
-) -> io::Result<()> {
-    let root = made.id;
-    let hit = edit_cell(
-        rt,
-        b"full, edit to what is there",
-        after(made.slots),
-        kids,
-        facts,
-        find,
-        root,
-        0,
-        5,
-    )?;
-    full_miss(rt, hit, kids, facts, find)
-}
-
-fn full_miss(
-    rt: &impl Print,
-    made: Made,
-    kids: &mut [u64],
-    facts: &mut [u32],
-    find: &mut [u16],
-) -> io::Result<()> {
-    let root = made.id;
-    let miss = edit_cell(
-        rt,
-        b"full, edit to what is not",
-        after(made.slots),
-        kids,
-        facts,
-        find,
-        root,
-        0,
-        6,
-    )?;
-    full_leaves(rt, after(miss.slots), kids, facts, find)
-}
-
-fn full_leaves(
-    rt: &impl Print,
-    a: Arena,
-    kids: &mut [u64],
-    facts: &mut [u32],
-    find: &mut [u16],
-) -> io::Result<()> {
-    let hit = intern(rt, b"full, leaf that is there", a, kids, facts, find, 5)?;
-    intern(
-        rt,
-        b"full, leaf that is not",
-        after(hit.slots),
-        kids,
-        facts,
-        find,
-        6,
-    )?;
-    Ok(())
+fn full(rt: &impl Print, tables: &mut Tables) -> io::Result<()> {
+    tables.clear();
+    let made = tables.edit(BlockId::EMPTY, 0, 5);
+    say_made(rt, "edit that fills the arena", made)?;
+    let hit = tables.edit(made.id, 0, 5);
+    say_made(rt, "full, edit to what is there", hit)?;
+    say_made(rt, "full, edit to what is not", tables.edit(hit.id, 0, 6))?;
+    say_made(rt, "full, leaf that is there", tables.intern(5))?;
+    say_made(rt, "full, leaf that is not", tables.intern(6))
 }
 
 // ---- generation 0x7FFD against its successor
 
-// Interns a leaf and releases it: its slot is recycled.
-fn recycle_once(a: Arena, kids: &mut [u64], facts: &mut [u32], find: &mut [u16]) -> Arena {
-    let made = arena_leaf::intern_leaf(a, kids, facts, find, 5);
-    let id = made.id;
-    let released = arena_release::release(after(made.slots), kids, facts, find, id);
-    after(released.slots)
-}
-
-fn recycle(a: Arena, kids: &mut [u64], facts: &mut [u32], find: &mut [u16], times: u32) -> Arena {
-    let mut state = a;
-    for _ in 0..times {
-        state = recycle_once(state, kids, facts, find);
+fn generations(rt: &impl Print, tables: &mut Tables) -> io::Result<()> {
+    tables.clear();
+    for _ in 0..0x7FFDu32 {
+        let leaf = tables.intern(5);
+        tables.release(leaf.id);
     }
-    state
-}
-
-fn generations(
-    rt: &impl Print,
-    a: Arena,
-    kids: &mut [u64],
-    facts: &mut [u32],
-    find: &mut [u16],
-) -> io::Result<()> {
-    let b = recycle(a, kids, facts, find, 0x7FFD);
-    last_generation(rt, b, kids, facts, find)
-}
-
-fn last_generation(
-    rt: &impl Print,
-    a: Arena,
-    kids: &mut [u64],
-    facts: &mut [u32],
-    find: &mut [u16],
-) -> io::Result<()> {
-    let last = intern(rt, b"leaf after 32765 recyclings", a, kids, facts, find, 5)?;
-    next_generation(rt, last, kids, facts, find)
-}
-
-fn next_generation(
-    rt: &impl Print,
-    last: Made,
-    kids: &mut [u64],
-    facts: &mut [u32],
-    find: &mut [u16],
-) -> io::Result<()> {
-    let id = last.id;
-    let released = arena_release::release(after(last.slots), kids, facts, find, id);
-    say_answer(rt, b"release it", released.no)?;
-    leaf_after(rt, after(released.slots), kids, facts, find, id)
-}
-
-// The leaf once more, in the slot of the id that is gone.
-fn leaf_after(
-    rt: &impl Print,
-    a: Arena,
-    kids: &mut [u64],
-    facts: &mut [u32],
-    find: &mut [u16],
-    gone: BlockId,
-) -> io::Result<()> {
-    let first = intern(rt, b"leaf after one more", a, kids, facts, find, 5)?;
-    count(
-        rt,
-        b"counts of the id before",
-        after(first.slots),
-        kids,
-        facts,
-        find,
-        gone,
-    )
-}
-
-fn packings(rt: &impl Print) -> io::Result<()> {
-    say_packed(rt, b"pack generation 0x7FFD", 0x7FFD)?;
-    say_packed(rt, b"pack generation 0x7FFE", 0x7FFE)?;
-    say_packed(rt, b"pack generation 0x7FFF", 0x7FFF)
+    let last = tables.intern(5);
+    say_made(rt, "leaf after 32765 recyclings", last)?;
+    say_answer(rt, "release it", tables.release(last.id))?;
+    say_made(rt, "leaf after one more", tables.intern(5))?;
+    tables.say_counts(rt, "counts of the id before", last.id)?;
+    say_packed(rt, "pack generation 0x7FFD", 0x7FFD)?;
+    say_packed(rt, "pack generation 0x7FFE", 0x7FFE)?;
+    say_packed(rt, "pack generation 0x7FFF", 0x7FFF)
 }
 
 // ---- 1,000,000 holds and one more
 
-// Holds a node so many times; answers the last refusal.
-fn hold_times(
-    a: Arena,
-    kids: &[u64],
-    facts: &mut [u32],
-    find: &[u16],
-    id: BlockId,
-    times: u32,
-) -> u32 {
-    let mut no: u32 = 0;
-    for _ in 0..times {
-        let held = arena_hold::hold(a, kids, facts, find, id);
-        no = held.no;
-    }
-    no
-}
-
-fn holds(
-    rt: &impl Print,
-    a: Arena,
-    kids: &mut [u64],
-    facts: &mut [u32],
-    find: &mut [u16],
-) -> io::Result<()> {
-    let leaf = intern(rt, b"leaf, hold 1", a, kids, facts, find, 5)?;
-    most_holds(rt, leaf, kids, facts, find)
-}
-
-fn most_holds(
-    rt: &impl Print,
-    leaf: Made,
-    kids: &mut [u64],
-    facts: &mut [u32],
-    find: &mut [u16],
-) -> io::Result<()> {
-    let id = leaf.id;
-    let a = after(leaf.slots);
-    let no = hold_times(a, kids, facts, find, id, 999999);
-    say_answer(rt, b"hold 1000000", no)?;
-    count(rt, b"counts", a, kids, facts, find, id)?;
-    one_more(rt, a, kids, facts, find, id)
-}
-
-fn one_more(
-    rt: &impl Print,
-    a: Arena,
-    kids: &mut [u64],
-    facts: &mut [u32],
-    find: &mut [u16],
-    id: BlockId,
-) -> io::Result<()> {
-    let no = hold_times(a, kids, facts, find, id, 1);
-    say_answer(rt, b"hold 1000001", no)?;
-    leaf_again(rt, a, kids, facts, find, id)
-}
-
-fn leaf_again(
-    rt: &impl Print,
-    a: Arena,
-    kids: &mut [u64],
-    facts: &mut [u32],
-    find: &mut [u16],
-    id: BlockId,
-) -> io::Result<()> {
-    let again = intern(rt, b"the leaf again", a, kids, facts, find, 5)?;
-    let b = after(again.slots);
-    count(rt, b"counts", b, kids, facts, find, id)?;
-    back_and_again(rt, b, kids, facts, find, id)
-}
-
-// One given back, and one more again.
-fn back_and_again(
-    rt: &impl Print,
-    a: Arena,
-    kids: &mut [u64],
-    facts: &mut [u32],
-    find: &mut [u16],
-    id: BlockId,
-) -> io::Result<()> {
-    let released = arena_release::release(a, kids, facts, find, id);
-    let b = after(released.slots);
-    say_answer(rt, b"release", released.no)?;
-    let no = hold_times(b, kids, facts, find, id, 1);
-    say_answer(rt, b"hold", no)?;
-    count(rt, b"counts", b, kids, facts, find, id)
+fn holds(rt: &impl Print, tables: &mut Tables) -> io::Result<()> {
+    tables.clear();
+    let leaf = tables.intern(5);
+    say_made(rt, "leaf, hold 1", leaf)?;
+    say_answer(rt, "hold 1000000", tables.hold(leaf.id, 999999))?;
+    tables.say_counts(rt, "counts", leaf.id)?;
+    say_answer(rt, "hold 1000001", tables.hold(leaf.id, 1))?;
+    say_made(rt, "the leaf again", tables.intern(5))?;
+    tables.say_counts(rt, "counts", leaf.id)?;
+    say_answer(rt, "release", tables.release(leaf.id))?;
+    say_answer(rt, "hold", tables.hold(leaf.id, 1))?;
+    tables.say_counts(rt, "counts", leaf.id)
 }
 
 fn main(rt: HostRuntime) -> io::Result<()> {
-    let mut kids = [0u64; KIDS];
-    let mut facts = [0u32; FACTS];
-    let mut find = [0u16; CELLS];
-    let a = fresh(&mut kids, &mut facts, &mut find);
-    cells(&rt, a, &mut kids, &mut facts, &mut find)?;
-    let b = fresh(&mut kids, &mut facts, &mut find);
-    full(&rt, b, &mut kids, &mut facts, &mut find)?;
-    let c = fresh(&mut kids, &mut facts, &mut find);
-    generations(&rt, c, &mut kids, &mut facts, &mut find)?;
-    packings(&rt)?;
-    let d = fresh(&mut kids, &mut facts, &mut find);
-    holds(&rt, d, &mut kids, &mut facts, &mut find)
+    let mut tables = Tables::new();
+    cells(&rt, &mut tables)?;
+    full(&rt, &mut tables)?;
+    generations(&rt, &mut tables)?;
+    holds(&rt, &mut tables)
 }

@@ -8,30 +8,37 @@ ghost use Rattle.ids.specs.Ids.{empty, invalid, index_of, generation_of, types_o
 use ids::BlockId;
 
 // What packing answers: an id, or INVALID and the number of the refusal.
+// Kept: C has the number beside the id.
 #[repr(C)]
-#[derive(Clone, Copy)]
+#[derive(Clone, Copy, Debug, PartialEq, Eq)]
 pub struct Packed {
     pub no: u32,
     pub id: u64,
 }
 
+// An id, and the number of the refusal of packing with the generation.
+fn answered(generation: u16, id: BlockId) -> Packed
+    ensures { (result.no ≡ packing_no generation) × (result.id ≡ id.0) }
+{
+    Packed {
+        no: BlockId::packing_no(generation),
+        id: id.0,
+    }
+}
+
 pub fn fenpiling_new_leaf(index: u32, generation: u16) -> Packed
     ensures { (result.no ≡ packing_no generation) × (result.id ≡ new_leaf index generation) }
 {
-    let no = BlockId::packing_no(generation);
-    let leaf = BlockId::new_leaf(index, generation);
-    Packed { no: no, id: leaf.0 }
+    answered(generation, BlockId::new_leaf(index, generation))
 }
 
 pub fn fenpiling_new_branch(index: u32, generation: u16, types: u8, mask: u8) -> Packed
     ensures { (result.no ≡ packing_no generation) × (result.id ≡ new_branch index generation types mask) }
 {
-    let no = BlockId::packing_no(generation);
-    let branch = BlockId::new_branch(index, generation, types, mask);
-    Packed {
-        no: no,
-        id: branch.0,
-    }
+    answered(
+        generation,
+        BlockId::new_branch(index, generation, types, mask),
+    )
 }
 
 pub fn fenpiling_index(raw: u64) -> u32

@@ -16,8 +16,7 @@ use metres::ReadingFields;
 pub fn fenpiling_parse_reading(bytes: &[u8]) -> ReadingFields
     ensures { result ≡ struct_of (reading_of bytes.now) }
 {
-    let reading = metres::parse(bytes);
-    metres::fields(reading)
+    ReadingFields::from(metres::parse(bytes))
 }
 
 pub fn fenpiling_enter_reading(

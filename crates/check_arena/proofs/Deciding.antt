@@ -1,13 +1,13 @@
 -- The check says yes exactly if the tables are well formed, on any tables, and leaves them as before.
 use mathlib.Core.Path.{◌≡◌, sym, ◌∙◌, subst}
 use mathlib.Core.Logic.{◌≢◌, ◌↔◌}
-use mathlib.Core.Bool.{Bool, true, false, not}
+use mathlib.Core.Bool.{Bool, true, false}
 use mathlib.Core.List.{List}
 use Prim.Native.Nat.{ℕ, ◌≤◌, ◌<◌}
 use native.Mathlib.Decide.{dec_lt}
 use native.Mathlib.Omega.{arith}
-use borrow.Author.Tests.{not-false}
 use Rattle.basics.specs.Limits.{deepest, cube_kids}
+use Rattle.basics.proofs.Rungs.{via_yes, via_no}
 use Rattle.nodes.specs.Words.{Words, own, mark, nodes, kid_of, word_of, slot, floor}
 use Rattle.nodes.specs.Tally.{occ, kids_of, Live}
 use Rattle.nodes.proofs.Access.{word_kid}
@@ -18,7 +18,7 @@ use Rattle.arena.proofs.Fits.{fits_sized, sized_fits}
 use Rattle.arena.proofs.Ids.{node_slot, node_child}
 use Rattle.check_freed.specs.Models.{all_in}
 use Rattle.check_places.specs.Models.{count_to, clear_to, agree_at}
-use Rattle.check_freed.proofs.Ladders.{Tells, tells_le, tells_map, tells_and, not_yes, not_no}
+use Rattle.check_freed.proofs.Ladders.{Tells, tells_le, tells_map, tells_and}
 use Rattle.check_places.proofs.Tallying.{count_restored, tallies_law}
 use Rattle.check_freed.proofs.Freed.{state_tells}
 use Rattle.check_find.proofs.Searching.{find_tells}
@@ -91,13 +91,13 @@ module _ (a : State) (k f e : List ℕ) where
   answer r d = ((λ q. check_tells.0 (sym d ∙ q)), (λ v. d ∙ check_tells.1 v))
 
   module _ (s : Bool) (is : s ≡ sound_by a k f e) where
-    pub refused : not s ≡ true → (false ≡ true) ↔ WellFormed cube_kids deepest t
+    pub refused : s ≡ false → (s ≡ true) ↔ WellFormed cube_kids deepest t
     unfolding check_by
-    refused h = answer false (search (is, h, not_yes))
+    refused h = answer s (via_no (sound_by a k f e) _ false s s is h h)
 
-    pub answered : (r : Bool) → not s ≡ false → r ≡ all_in 0 c (agree_at (count_to k f c)) → (r ≡ true) ↔ WellFormed cube_kids deepest t
+    pub answered : (r : Bool) → s ≡ true → r ≡ all_in 0 c (agree_at (count_to k f c)) → (r ≡ true) ↔ WellFormed cube_kids deepest t
     unfolding check_by
-    answered r h d = answer r (search (is, h, d, not_no))
+    answered r h d = answer r (via_yes (sound_by a k f e) _ false s r is h d)
 
-    pub kept : (g : List ℕ) → not s ≡ false → g ≡ clear_to (count_to k f c) c → g ≡ f
-    kept g h d = d ∙ sound_kept (sound_tells.0 (sym is ∙ not-false s h))
+    pub kept : (g : List ℕ) → s ≡ true → g ≡ clear_to (count_to k f c) c → g ≡ f
+    kept g h d = d ∙ sound_kept (sound_tells.0 (sym is ∙ h))

@@ -1,3 +1,4 @@
 pub mod Slots
 pub mod Checking
 pub mod Deciding
+pub mod Ranges

@@ -6,14 +6,14 @@ ghost use Rattle.std.specs.Prelude.{◌≡◌, ◌↔◌, true, ◌+◌, leb};
 ghost use Rattle.basics.specs.Limits.{deepest, cube_kids, kid_words};
 ghost use Rattle.nodes.specs.Words.{kid_of, fact_of, holds, places};
 ghost use Rattle.nodes.specs.Tally.{kids_of};
-ghost use Rattle.arena.specs.Calls.{none_of, all_live};
+ghost use Rattle.arena.specs.Calls.{none_of};
 ghost use Rattle.arena.specs.Tables.{WellFormed, state_of};
 ghost use Rattle.arena.specs.Lent.{before};
 ghost use Rattle.check_freed.specs.Models.{all_in};
 ghost use Rattle.check_arena.specs.Models.{blank_at, dead_fine, counts_fine, leaf_named, kept_at, leaf_fine, branch_named, tall_at, branch_fine, kind_fine, live_fine, rests_at, plain_at, slot_fine, ranged_by, sound_by};
 
-use arena::{Arena, all_empty, fit, is_live_or_empty, next_in};
-use basics::{KID_WORDS, Kids, LARGEST_VALUE, LAST_GENERATION, MOST_HOLDS, TALLEST};
+use arena::{Arena, all_empty, all_live, fit, next_in};
+use basics::{Kids, LARGEST_VALUE, LAST_GENERATION, MOST_HOLDS, TALLEST};
 use check_find::find_fine;
 use check_freed::{is_given, state_fine};
 use check_places::tallies;
@@ -30,14 +30,7 @@ use nodes::{FLOOR, HASH, HEIGHT, HOLDS, MARK, PLACES, SPARE, SUM, VALUE, childre
 fn blank(facts: &[u32], s: usize) -> bool
     ensures { result ≡ blank_at facts.now s }
 {
-    let mut f: usize = VALUE;
-    while f < MARK {
-        if fact(facts, s, f) != 0 {
-            return false;
-        }
-        f += 1;
-    }
-    true
+    (VALUE..MARK).all(|f| fact(facts, s, f) == 0)
 }
 
 // Are the children of slot s EMPTY?
@@ -48,17 +41,11 @@ fn bare(kids: &[u64], s: usize) -> bool
 }
 
 // Is slot s cleared: value 0, children EMPTY, both counts 0? Its own word is a generation alone.
+#[tactic(auto, unfolding(crate::specs::Models::dead_fine))]
 fn dead_fine(kids: &[u64], facts: &[u32], s: usize) -> bool
     ensures { result ≡ dead_fine kids.now facts.now s }
 {
-    let o = own(facts, s);
-    if o % 0x1_0000_0000 != 0 {
-        return false;
-    }
-    if !bare(kids, s) {
-        return false;
-    }
-    blank(facts, s)
+    own(facts, s) % 0x1_0000_0000 == 0 && bare(kids, s) && blank(facts, s)
 }
 
 // ---- a live slot
@@ -67,23 +54,15 @@ fn dead_fine(kids: &[u64], facts: &[u32], s: usize) -> bool
 fn is_used(facts: &[u32], s: usize) -> bool
     ensures { result ≡ leb 1 (fact_of facts.now s holds + fact_of facts.now s places) }
 {
-    if 1 <= fact(facts, s, HOLDS) {
-        return true;
-    }
-    1 <= fact(facts, s, PLACES)
+    1 <= fact(facts, s, HOLDS) || 1 <= fact(facts, s, PLACES)
 }
 
 // At most 1,000,000 holds, holds plus places at least 1, and the mark 0.
+#[tactic(auto, unfolding(crate::specs::Models::counts_fine))]
 fn counts_fine(facts: &[u32], s: usize) -> bool
     ensures { result ≡ counts_fine facts.now s }
 {
-    if fact(facts, s, HOLDS) > MOST_HOLDS {
-        return false;
-    }
-    if !is_used(facts, s) {
-        return false;
-    }
-    fact(facts, s, MARK) == 0
+    fact(facts, s, HOLDS) <= MOST_HOLDS && is_used(facts, s) && fact(facts, s, MARK) == 0
 }
 
 // Is the own word of slot s the id of a leaf there?
@@ -95,30 +74,23 @@ fn leaf_named(facts: &[u32], s: usize) -> bool
 }
 
 // Slot s keeps this sum and this hash.
+#[tactic(auto, unfolding(crate::specs::Models::kept_at))]
 fn keeps(facts: &[u32], sum: u64, hash: u32, s: usize) -> bool
     ensures { result ≡ kept_at facts.now sum hash s }
 {
-    if fact(facts, s, SUM) as u64 != sum {
-        return false;
-    }
-    fact(facts, s, HASH) == hash
+    u64::from(fact(facts, s, SUM)) == sum && fact(facts, s, HASH) == hash
 }
 
 // A leaf has a value other than 0; its height is 0. It keeps the sum 0 and the hash of its value.
+#[tactic(auto, unfolding(crate::specs::Models::leaf_fine))]
 fn leaf_fine(facts: &[u32], s: usize) -> bool
     ensures { result ≡ leaf_fine facts.now s }
 {
-    if !leaf_named(facts, s) {
-        return false;
-    }
     let value = fact(facts, s, VALUE);
-    if value == 0 {
-        return false;
-    }
-    if fact(facts, s, HEIGHT) != 0 {
-        return false;
-    }
-    keeps(facts, 0, leaf_hash(value), s)
+    leaf_named(facts, s)
+        && value != 0
+        && fact(facts, s, HEIGHT) == 0
+        && keeps(facts, 0, leaf_hash(value), s)
 }
 
 // Is the own word of slot s the id of a branch there with the children ks?
@@ -129,171 +101,116 @@ fn branch_named(facts: &[u32], ks: Kids, s: usize) -> bool
     o == branch_id(ks, s, o)
 }
 
-// Is each of the eight ids EMPTY or live?
-fn each_live(capacity: usize, facts: &[u32], ks: Kids) -> bool
-    ensures { result ≡ all_live capacity (fact_of facts.now) ks }
-{
-    let mut i: usize = 0;
-    while i < KID_WORDS {
-        if !is_live_or_empty(capacity, facts, ks[i]) {
-            return false;
-        }
-        i += 1;
-    }
-    true
-}
-
 // The height of slot s is one more than `top`, at most the tallest allowed.
+#[tactic(auto, unfolding(crate::specs::Models::tall_at))]
 fn is_tall(facts: &[u32], top: u32, s: usize) -> bool
     ensures { result ≡ tall_at facts.now top s }
 {
     let height = fact(facts, s, HEIGHT);
-    if height == 0 {
-        return false;
-    }
-    if height > TALLEST {
-        return false;
-    }
-    height - 1 == top
+    height != 0 && height <= TALLEST && height - 1 == top
 }
 
 // A branch with the children ks: they are live or EMPTY, and its id, its stored value and its height follow from them, and so do the sum and the hash that it
 // keeps.
+#[tactic(auto, unfolding(crate::specs::Models::branch_fine))]
 fn branch_fine(facts: &[u32], capacity: usize, ks: Kids, s: usize) -> bool
     ensures { result ≡ branch_fine facts.now capacity ks s }
 {
-    if !branch_named(facts, ks, s) {
-        return false;
-    }
-    if !each_live(capacity, facts, ks) {
-        return false;
-    }
     let sums = sums_of(facts, ks);
-    if fact(facts, s, VALUE) != sums.value {
-        return false;
-    }
-    if !keeps(facts, sums.sum, kids_hash(ks), s) {
-        return false;
-    }
-    is_tall(facts, sums.top, s)
+    branch_named(facts, ks, s)
+        && all_live(capacity, facts, ks)
+        && fact(facts, s, VALUE) == sums.value
+        && keeps(facts, sums.sum, kids_hash(ks), s)
+        && is_tall(facts, sums.top, s)
 }
 
 // Without children the node in slot s is a leaf, else a branch.
+#[tactic(auto, unfolding(crate::specs::Models::kind_fine))]
 fn kind_fine(facts: &[u32], capacity: usize, ks: Kids, s: usize) -> bool
     ensures { result ≡ kind_fine facts.now capacity ks s }
 {
     if all_empty(ks) {
-        return leaf_fine(facts, s);
+        leaf_fine(facts, s)
+    } else {
+        branch_fine(facts, capacity, ks, s)
     }
-    branch_fine(facts, capacity, ks, s)
 }
 
 // A live node meets the rules on content, stored value, height and id, with at most 1,000,000 holds.
+#[tactic(auto, unfolding(crate::specs::Models::live_fine))]
 fn live_fine(kids: &[u64], facts: &[u32], capacity: usize, s: usize) -> bool
     ensures { result ≡ live_fine kids.now facts.now capacity s }
 {
-    if !counts_fine(facts, s) {
-        return false;
-    }
-    kind_fine(facts, capacity, children(kids, s), s)
+    counts_fine(facts, s) && kind_fine(facts, capacity, children(kids, s), s)
 }
 
 // ---- every slot
 
 // Slot s was given out, or has generation 0, no node and the mark 0.
+#[tactic(auto, unfolding(crate::specs::Models::rests_at))]
 fn rests(facts: &[u32], next: usize, s: usize) -> bool
     ensures { result ≡ rests_at facts.now next s }
 {
-    if is_given(next, s) {
-        return true;
-    }
-    if own(facts, s) != 0 {
-        return false;
-    }
-    fact(facts, s, MARK) == 0
+    is_given(next, s) || (own(facts, s) == 0 && fact(facts, s, MARK) == 0)
 }
 
 // The spare word of slot s is 0, its value at most 65,535, and its generation not above 0x7FFD.
+#[tactic(auto, unfolding(crate::specs::Models::plain_at))]
 fn is_plain(facts: &[u32], s: usize) -> bool
     ensures { result ≡ plain_at facts.now s }
 {
-    if fact(facts, s, SPARE) != 0 {
-        return false;
-    }
-    if fact(facts, s, VALUE) > LARGEST_VALUE {
-        return false;
-    }
-    BlockId(own(facts, s)).generation() <= LAST_GENERATION
+    fact(facts, s, SPARE) == 0
+        && fact(facts, s, VALUE) <= LARGEST_VALUE
+        && BlockId(own(facts, s)).generation() <= LAST_GENERATION
 }
 
 // Slot s has a live node that meets the rules, or is cleared.
+#[tactic(auto, unfolding(crate::specs::Models::slot_fine, nodes::specs::Words::floor))]
 fn slot_fine(kids: &[u64], facts: &[u32], capacity: usize, next: usize, s: usize) -> bool
     ensures { result ≡ slot_fine kids.now facts.now capacity next s }
 {
-    if !is_plain(facts, s) {
-        return false;
-    }
-    if !rests(facts, next, s) {
-        return false;
-    }
-    if FLOOR <= own(facts, s) {
-        return live_fine(kids, facts, capacity, s);
-    }
-    dead_fine(kids, facts, s)
+    is_plain(facts, s)
+        && rests(facts, next, s)
+        && if FLOOR <= own(facts, s) {
+            live_fine(kids, facts, capacity, s)
+        } else {
+            dead_fine(kids, facts, s)
+        }
 }
 
 // Every slot is as it must be by itself and by its children.
 fn slots_fine(kids: &[u64], facts: &[u32], capacity: usize, next: usize) -> bool
     ensures { result ≡ all_in 0 capacity (slot_fine kids.now facts.now capacity next) }
 {
-    let mut s: usize = 0;
-    while s < capacity {
-        if !slot_fine(kids, facts, capacity, next, s) {
-            return false;
-        }
-        s += 1;
-    }
-    true
+    (0..capacity).all(|s| slot_fine(kids, facts, capacity, next, s))
 }
 
 // ---- the check
 
 // The lowest slot never given out is one of 1 to the capacity.
+#[tactic(auto, unfolding(crate::specs::Models::ranged_by))]
 fn is_ranged(next: usize, capacity: usize) -> bool
     ensures { result ≡ ranged_by next capacity }
 {
-    if next < 1 {
-        return false;
-    }
-    next <= capacity
+    1 <= next && next <= capacity
 }
 
 // All of it but the tally, which wants these to be right.
+#[tactic(auto, unfolding(crate::specs::Models::sound_by))]
 fn is_sound(kids: &[u64], facts: &[u32], find: &[u16], arena: Arena) -> bool
     ensures { result ≡ sound_by (state_of arena) kids.now facts.now find.now }
 {
-    if !fit(arena.capacity, kids.len(), facts.len(), find.len()) {
-        return false;
-    }
     let next = next_in(arena.slots) as usize;
-    if !is_ranged(next, arena.capacity) {
-        return false;
-    }
-    if !slots_fine(kids, facts, arena.capacity, next) {
-        return false;
-    }
-    if !state_fine(facts, arena) {
-        return false;
-    }
-    find_fine(kids, facts, find, arena)
+    fit(arena.capacity, kids.len(), facts.len(), find.len())
+        && is_ranged(next, arena.capacity)
+        && slots_fine(kids, facts, arena.capacity, next)
+        && state_fine(facts, arena)
+        && find_fine(kids, facts, find, arena)
 }
 
 // The arena check: yes exactly if the tables are well formed, on any tables; with refusal 1 it says no. The tables are as before.
 pub fn check_arena(arena: Arena, kids: &[u64], facts: &mut [u32], find: &[u16]) -> bool
     ensures { ((result ≡ true) ↔ WellFormed cube_kids deepest (before arena kids.now facts.old find.now)) × (facts.new ≡ facts.old) }
 {
-    if !is_sound(kids, facts, find, arena) {
-        return false;
-    }
-    tallies(kids, facts, arena.capacity)
+    is_sound(kids, facts, find, arena) && tallies(kids, facts, arena.capacity)
 }

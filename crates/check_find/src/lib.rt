@@ -17,10 +17,7 @@ use nodes::{FLOOR, VALUE, children, fact, own};
 fn lives(facts: &[u32], capacity: usize, s: usize) -> bool
     ensures { result ≡ live_at facts.now capacity s }
 {
-    if capacity <= s {
-        return false;
-    }
-    FLOOR <= own(facts, s)
+    s < capacity && FLOOR <= own(facts, s)
 }
 
 // Searches for the content of slot s, by the hash worked out from it.
@@ -39,10 +36,7 @@ fn search_for(kids: &[u64], facts: &[u32], find: &[u16], capacity: usize, s: usi
 fn is_at(kids: &[u64], facts: &[u32], find: &[u16], capacity: usize, s: usize, p: usize) -> bool
     ensures { result ≡ named_at kids.now facts.now find.now capacity s p }
 {
-    if !lives(facts, capacity, s) {
-        return false;
-    }
-    search_for(kids, facts, find, capacity, s).cell == p
+    lives(facts, capacity, s) && search_for(kids, facts, find, capacity, s).cell == p
 }
 
 // Cell p is empty, or names a live slot, and no other cell does: the search for the slot's content ends there.
@@ -50,56 +44,33 @@ fn cell_fine(kids: &[u64], facts: &[u32], find: &[u16], capacity: usize, p: usiz
     ensures { result ≡ cell_fine kids.now facts.now find.now capacity p }
 {
     let s = cell(find, p);
-    if s == 0 {
-        return true;
-    }
-    is_at(kids, facts, find, capacity, s, p)
+    s == 0 || is_at(kids, facts, find, capacity, s, p)
 }
 
 // The finding table names live slots only, each once.
 fn cells_fine(kids: &[u64], facts: &[u32], find: &[u16], capacity: usize) -> bool
     ensures { result ≡ all_in 0 (length find.now) (cell_fine kids.now facts.now find.now capacity) }
 {
-    let mut p: usize = 0;
-    while p < find.len() {
-        if !cell_fine(kids, facts, find, capacity, p) {
-            return false;
-        }
-        p += 1;
-    }
-    true
+    (0..find.len()).all(|p| cell_fine(kids, facts, find, capacity, p))
 }
 
 // The search finds the node in slot s, if it is live: so no other has equal content.
 fn is_found(kids: &[u64], facts: &[u32], find: &[u16], capacity: usize, s: usize) -> bool
     ensures { result ≡ found_at kids.now facts.now find.now capacity s }
 {
-    if !lives(facts, capacity, s) {
-        return true;
-    }
-    search_for(kids, facts, find, capacity, s).slot == s
+    !lives(facts, capacity, s) || search_for(kids, facts, find, capacity, s).slot == s
 }
 
 // The search finds every live node; no two have equal content.
 fn all_found(kids: &[u64], facts: &[u32], find: &[u16], capacity: usize) -> bool
     ensures { result ≡ all_in 0 capacity (found_at kids.now facts.now find.now capacity) }
 {
-    let mut s: usize = 0;
-    while s < capacity {
-        if !is_found(kids, facts, find, capacity, s) {
-            return false;
-        }
-        s += 1;
-    }
-    true
+    (0..capacity).all(|s| is_found(kids, facts, find, capacity, s))
 }
 
 // The finding table names live slots only, each once, and the search finds every live node.
 pub fn find_fine(kids: &[u64], facts: &[u32], find: &[u16], arena: Arena) -> bool
     ensures { result ≡ find_fine arena.capacity kids.now facts.now find.now }
 {
-    if !cells_fine(kids, facts, find, arena.capacity) {
-        return false;
-    }
-    all_found(kids, facts, find, arena.capacity)
+    cells_fine(kids, facts, find, arena.capacity) && all_found(kids, facts, find, arena.capacity)
 }

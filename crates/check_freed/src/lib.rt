@@ -2,9 +2,9 @@
 // answer is in specs/Models.antt. Each takes time linear in what it goes over, and stops where it says no.
 #![tactic(auto)]
 
-ghost use Rattle.std.specs.Prelude.{◌≡◌, ◌≤◌};
+ghost use Rattle.std.specs.Prelude.{◌≡◌};
 ghost use Rattle.nodes.specs.Words.{fact_of};
-ghost use Rattle.nodes.specs.Tally.{live_bit, live_count};
+ghost use Rattle.nodes.specs.Tally.{live_count};
 ghost use Rattle.arena.specs.Tables.{state_of};
 ghost use Rattle.check_freed.specs.Models.{all_in, is_given, is_free, numbered_by, entry_fine, state_fine};
 
@@ -15,67 +15,35 @@ use nodes::{ENTRY, FLOOR, MARK, fact, own};
 pub fn is_given(next: usize, s: usize) -> bool
     ensures { result ≡ is_given next s }
 {
-    if s == 0 {
-        return false;
-    }
-    s < next
-}
-
-// 1 for the own word of a live node, else 0.
-fn live_bit(own: u64) -> usize
-    ensures { (result ≡ live_bit own) × (result ≤ 1) }
-{
-    if FLOOR <= own {
-        return 1;
-    }
-    0
+    s != 0 && s < next
 }
 
 // How many of the slots below c live.
 fn count_live(facts: &[u32], c: usize) -> usize
     ensures { result ≡ live_count c (fact_of facts.now) }
 {
-    let mut live: usize = 0;
-    let mut s: usize = 0;
-    while s < c {
-        live += live_bit(own(facts, s));
-        s += 1;
-    }
-    live
+    (0..c).filter(|s| FLOOR <= own(facts, *s)).count()
 }
 
 // Slot s was given out and is not live.
 fn is_free(facts: &[u32], next: usize, s: usize) -> bool
     ensures { result ≡ is_free facts.now next s }
 {
-    if !is_given(next, s) {
-        return false;
-    }
-    own(facts, s) < FLOOR
+    is_given(next, s) && own(facts, s) < FLOOR
 }
 
 // Slot s was given out and is not live, and its number on the stack is i.
 fn is_numbered(facts: &[u32], next: usize, i: usize, s: usize) -> bool
     ensures { result ≡ numbered_by facts.now next i s }
 {
-    if !is_free(facts, next, s) {
-        return false;
-    }
-    fact(facts, s, MARK) as usize == i
+    is_free(facts, next, s) && fact(facts, s, MARK) as usize == i
 }
 
 // Each of the entries of the stack below `freed` is such a slot. (So no two are one slot.)
 fn entries_fine(facts: &[u32], next: usize, freed: usize) -> bool
     ensures { result ≡ all_in 0 freed (entry_fine facts.now next) }
 {
-    let mut i: usize = 0;
-    while i < freed {
-        if !is_numbered(facts, next, i, fact(facts, i, ENTRY) as usize) {
-            return false;
-        }
-        i += 1;
-    }
-    true
+    (0..freed).all(|i| is_numbered(facts, next, i, fact(facts, i, ENTRY) as usize))
 }
 
 // Every slot from 1 up to the highest given out is live or on the stack of the freed ones, once.
@@ -87,8 +55,5 @@ pub fn state_fine(facts: &[u32], arena: Arena) -> bool
     if freed >= next {
         return false;
     }
-    if count_live(facts, arena.capacity) != next - 1 - freed {
-        return false;
-    }
-    entries_fine(facts, next, freed)
+    count_live(facts, arena.capacity) == next - 1 - freed && entries_fine(facts, next, freed)
 }

@@ -14,10 +14,8 @@ use nodes_write::put_fact;
 fn count_all(kids: &[u64], facts: &mut [u32], c: usize)
     ensures { facts.new ≡ count_to kids.now facts.old c }
 {
-    let mut s: usize = 0;
-    while s < c {
+    for s in 0..c {
         bump_all(facts, MARK, children(kids, s));
-        s += 1;
     }
 }
 
@@ -34,10 +32,8 @@ fn clear_mark(facts: &mut [u32], s: usize)
 fn clear_marks(facts: &mut [u32], c: usize)
     ensures { facts.new ≡ clear_to facts.old c }
 {
-    let mut s: usize = 0;
-    while s < c {
+    for s in 0..c {
         clear_mark(facts, s);
-        s += 1;
     }
 }
 
@@ -45,24 +41,14 @@ fn clear_marks(facts: &mut [u32], c: usize)
 fn agrees(facts: &[u32], s: usize) -> bool
     ensures { result ≡ agree_at facts.now s }
 {
-    if FLOOR <= own(facts, s) {
-        return fact(facts, s, PLACES) == fact(facts, s, MARK);
-    }
-    true
+    own(facts, s) < FLOOR || fact(facts, s, PLACES) == fact(facts, s, MARK)
 }
 
 // The places of each live slot below c equal its counter.
 fn all_agree(facts: &[u32], c: usize) -> bool
     ensures { result ≡ all_in 0 c (agree_at facts.now) }
 {
-    let mut s: usize = 0;
-    while s < c {
-        if !agrees(facts, s) {
-            return false;
-        }
-        s += 1;
-    }
-    true
+    (0..c).all(|s| agrees(facts, s))
 }
 
 // Places equal the true tally, of the slots below c. (Of tables whose children are live or EMPTY and whose live slots have the mark 0: then the

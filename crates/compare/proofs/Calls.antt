@@ -16,7 +16,7 @@ use Rattle.arena.specs.Tables.{State, Tables, tables, cap, W}
 use Rattle.arena.specs.Calls.{fits, live_of, live_or_empty}
 use Rattle.compare_pairs.specs.Differing.{differing}
 use Rattle.compare_pairs.proofs.Pairs.{count_le}
-use Rattle.compare_pairs.proofs.Sizes.{cells_shift}
+use Rattle.read_cell.proofs.Cube.{cells_shift}
 use Rattle.compare_count.specs.Count.{count_of}
 use Rattle.compare_list.specs.List.{Written, wrote, cells_written, written_of}
 use Rattle.compare_list.specs.declared.Found.{Found}

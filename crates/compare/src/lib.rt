@@ -3,6 +3,7 @@
 
 ghost use Rattle.std.specs.Prelude.{◌≡◌, ◌≤◌, leb, length};
 ghost use Rattle.basics.specs.Limits.{deepest, cube_kids};
+ghost use Rattle.basics.specs.Refusals.{number, no_of};
 ghost use Rattle.nodes.specs.Words.{fact_of};
 ghost use Rattle.nodes.specs.Lent.{words_in};
 ghost use Rattle.arena.specs.Lent.{before};
@@ -11,13 +12,14 @@ ghost use Rattle.compare.specs.Compare.{compared, compare_of};
 ghost use Rattle.compare.specs.Models.{roots_by, first_no, refused_with};
 
 use arena::{Arena, fit, is_live_or_empty};
-use basics::DEEPEST;
+use basics::{DEEPEST, Refusal};
 use compare_count::count_differing;
 use compare_list::write_differing;
 use ids::BlockId;
 use new_value::height_at;
 
 // The answer of a comparison: the refusal or 0, how many cells differ, how many pairs were opened.
+// Kept: the refusal and the counts side by side, as C takes them.
 #[repr(C)]
 #[derive(Clone, Copy)]
 pub struct Compared {
@@ -27,24 +29,20 @@ pub struct Compared {
 }
 
 // Refusals 4 and 8: each root is EMPTY or live, and neither is taller than the depth.
-fn roots_no(capacity: usize, facts: &[u32], a: u64, b: u64, depth: u32) -> u32
-    ensures { result ≡ roots_by capacity (fact_of facts.now) a b depth }
+fn may_enter(capacity: usize, facts: &[u32], a: u64, b: u64, depth: u32) -> Result<(), Refusal>
+    ensures { no_of result ≡ roots_by capacity (fact_of facts.now) a b depth }
 {
-    if is_live_or_empty(capacity, facts, a) {
-        if is_live_or_empty(capacity, facts, b) {
-            if height_at(facts, a) <= depth {
-                if height_at(facts, b) <= depth {
-                    return 0;
-                }
-            }
-            return 8;
-        }
+    if !is_live_or_empty(capacity, facts, a) || !is_live_or_empty(capacity, facts, b) {
+        return Err(Refusal::NotLive);
     }
-    4
+    if depth < height_at(facts, a) || depth < height_at(facts, b) {
+        return Err(Refusal::Tall);
+    }
+    Ok(())
 }
 
 // Refusals 1, 2, 4 and 8; the parts of the lent list are c, l and r long.
-fn first_no(
+fn may_compare(
     arena: Arena,
     kids: &[u64],
     facts: &[u32],
@@ -55,20 +53,16 @@ fn first_no(
     c: usize,
     l: usize,
     r: usize,
-) -> u32
-    ensures { result ≡ first_no (before arena kids.now facts.now find.now) a b depth c l r }
+) -> Result<(), Refusal>
+    ensures { no_of result ≡ first_no (before arena kids.now facts.now find.now) a b depth c l r }
 {
-    if fit(arena.capacity, kids.len(), facts.len(), find.len()) {
-        if l == c {
-            if r == c {
-                if depth <= DEEPEST {
-                    return roots_no(arena.capacity, facts, a, b, depth);
-                }
-                return 2;
-            }
-        }
+    if !fit(arena.capacity, kids.len(), facts.len(), find.len()) || l != c || r != c {
+        return Err(Refusal::Size);
     }
-    1
+    if depth > DEEPEST {
+        return Err(Refusal::Depth);
+    }
+    may_enter(arena.capacity, facts, a, b, depth)
 }
 
 // Is there room for every cell that differs? Where there is room for the whole cube they need not be counted.
@@ -76,18 +70,14 @@ fn has_room(kids: &[u64], facts: &[u32], a: u64, b: u64, depth: u32, room: usize
     requires { depth ≤ deepest }
     ensures { result ≡ leb (length (differing cube_kids (words_in kids.now facts.now) depth a b)) room }
 {
-    let one: usize = 1;
-    if one << (3 * depth) <= room {
-        return true;
-    }
-    count_differing(kids, facts, a, b, depth) as usize <= room
+    1usize << (3 * depth) <= room || count_differing(kids, facts, a, b, depth) as usize <= room
 }
 
-fn refused(no: u32) -> Compared
-    ensures { result ≡ refused_with no }
+fn refused(refusal: Refusal) -> Compared
+    ensures { result ≡ refused_with (number refusal) }
 {
     Compared {
-        no: no,
+        no: u32::from(refusal),
         count: 0,
         opened: 0,
     }
@@ -108,7 +98,7 @@ pub fn compare(
 ) -> Compared
     ensures { compared result codes.new lefts.new rights.new ≡ compare_of (before arena kids.now facts.now find.now) left.0 right.0 depth codes.old lefts.old rights.old }
 {
-    let no = first_no(
+    match may_compare(
         arena,
         kids,
         facts,
@@ -119,17 +109,18 @@ pub fn compare(
         codes.len(),
         lefts.len(),
         rights.len(),
-    );
-    if no != 0 {
-        return refused(no);
+    ) {
+        Err(refusal) => refused(refusal),
+        Ok(()) => {
+            if !has_room(kids, facts, left.0, right.0, depth, codes.len()) {
+                return refused(Refusal::ShortList);
+            }
+            let found = write_differing(kids, facts, left.0, right.0, depth, codes, lefts, rights);
+            Compared {
+                no: 0,
+                count: found.cells,
+                opened: found.opened,
+            }
+        }
     }
-    if has_room(kids, facts, left.0, right.0, depth, codes.len()) {
-        let found = write_differing(kids, facts, left.0, right.0, depth, codes, lefts, rights);
-        return Compared {
-            no: 0,
-            count: found.cells,
-            opened: found.opened,
-        };
-    }
-    refused(15)
 }

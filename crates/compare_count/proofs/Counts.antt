@@ -1,13 +1,12 @@
 -- How many cells of a pair differ: no more than there are; none of equal ids; all or none of two ends.
 use mathlib.Core.Path.{◌≡◌, ◌∙◌, refl, ap, ap₂}
 use mathlib.Core.Bool.{Bool, true, false}
-use Prim.Native.Nat.{ℕ, zero, suc, ◌*◌, ◌^◌, ◌≤◌, ◌<◌}
+use Prim.Native.Nat.{ℕ, zero, suc, ◌*◌, ◌^◌, ◌≤◌}
 use native.Mathlib.Nat.{pow-succ', pow-zero}
 use native.Mathlib.Omega.{arith}
 use lib.Dec.{eqb}
 use lib.ListN.{length}
 use Rattle.basics.specs.Pick.{pick}
-use Rattle.basics.specs.Sums.{sum_to}
 use Rattle.nodes.specs.Words.{Words}
 use Rattle.nodes.proofs.Sums.{sum_to_ext_lem, sum_to_const_lem}
 use Rattle.tree.specs.Tree.{Flat}

@@ -1,6 +1,6 @@
 -- The steps of the count: a block, eight cells, pairs and places.
 use mathlib.Core.Path.{◌≡◌, ◌∙◌, refl, sym, ap, ap₂}
-use mathlib.Core.Logic.{◌⊎◌, ⊎_elim}
+use mathlib.Core.Logic.{⊎_elim}
 use mathlib.Core.Bool.{Bool, true, false}
 use mathlib.Core.List.{List}
 use Prim.Native.Nat.{ℕ, zero, suc, ◌+◌, ◌*◌, ◌-◌, ◌%◌, ◌^◌, ◌≤◌, ◌<◌}
@@ -16,7 +16,8 @@ use Rattle.basics.specs.Sums.{sum_to}
 use Rattle.nodes.specs.Words.{Words, nodes, kid_of, fact_of, word_of, slot}
 use Rattle.nodes.specs.Tally.{kids_of}
 use Rattle.nodes.proofs.Access.{word_kid}
-use Rattle.nodes.proofs.Sums.{sum_to_ext_lem, tab_at}
+use Rattle.nodes.proofs.Sums.{cases, sum_to_ext_lem, tab_at}
+use native.Mathlib.Decide.{ℕ_discrete}
 use Rattle.tree.specs.Tree.{child_of}
 use Rattle.tree.specs.Anew.{part}
 use Rattle.tree.proofs.Making.{part_flat, part_branch}
@@ -24,9 +25,13 @@ use Rattle.read_cell.specs.Models.{val}
 use Rattle.read_cell.proofs.Ends.{val_facts}
 use Rattle.compare_pairs.specs.Differing.{branches}
 use Rattle.compare_pairs.specs.Models.{goes_on}
-use Rattle.compare_pairs.proofs.Ids.{is_branch_lem, is_flat, part_kids, on_not_last, off_ends}
+use Rattle.compare_pairs.proofs.Ids.{is_branch_lem, branches_no, part_kids, on_not_last, off_ends}
+use Rattle.ids.specs.Ids.{is_end}
+use Rattle.tree.specs.Tree.{Flat}
+use Rattle.tree.proofs.Ends.{flat_end, branch_end}
 use Rattle.compare_pairs.proofs.Pairs.{eqb_sym, count_end, count_places}
-use Rattle.compare_pairs.proofs.Sizes.{cells_shift, places_most}
+use Rattle.compare_pairs.proofs.Sizes.{places_most}
+use Rattle.read_cell.proofs.Cube.{cells_shift}
 use Rattle.compare_count.specs.Count.{count_of}
 use Rattle.compare_count.specs.Models.{count_in, block_count, against_to, both_to, places_count}
 use Rattle.compare_count.proofs.Counts.{count_few, count_same, count_ends}
@@ -41,9 +46,9 @@ pub block_differs : (u v k : ℕ) → k ≤ deepest → (u ≡ v → ⊥) → 1 
 unfolding block_count
 block_differs u v k h n = rw (ne_eqb u v n) (cells_shift 32 k (omega arith))
 
-pub cell_differs : (u v : ℕ) → (u ≡ v → ⊥) → 1 ≡ block_count u v 0
+pub cell_few : (u v : ℕ) → block_count u v 0 ≤ 1
 unfolding block_count
-cell_differs u v n = rw (ne_eqb u v n) refl
+cell_few u v = cases (ℕ_discrete u v) (λ e. rw (eq-eqb u v e) (omega arith)) (λ e. rw (ne_eqb u v e) (omega arith))
 
 -- ---- eight cells
 
@@ -61,7 +66,7 @@ child_value ks fs row a c u eu e h = eu ∙ val_facts ks fs (get_or row c 0) ∙
 pub row_of : (ks row : List ℕ) (a s : ℕ) → row ≡ kids_of kid_words (kid_of ks) s → s ≡ slot a → row ≡ kids_of kid_words (kid_of ks) (slot a)
 row_of ks row a s e q = e ∙ ap (kids_of kid_words (kid_of ks)) q
 
-module _ (ks fs : List ℕ) (a b v : ℕ) where
+module _ (ks fs : List ℕ) (a v : ℕ) where
   pub against_none : 0 ≡ against_to (word_of (nodes ks fs)) a v 0
   unfolding against_to sum_to
   against_none = refl
@@ -71,9 +76,7 @@ module _ (ks fs : List ℕ) (a b v : ℕ) where
   unfolding against_to sum_to
   against_step row c m u q em eq eu er h = rw (add-one c, em, eq, child_value ks fs row a c u eu er h)
 
-  pub against_all : (c m : ℕ) → m ≡ against_to (word_of (nodes ks fs)) a v c → c ≤ 8 → 8 ≤ c → m ≡ against_to (word_of (nodes ks fs)) a v cube_kids
-  against_all c m e h k = let q : c ≡ 8 = omega arith in e ∙ ap (against_to (word_of (nodes ks fs)) a v) q
-
+module _ (ks fs : List ℕ) (a b : ℕ) where
   pub both_none : 0 ≡ both_to (word_of (nodes ks fs)) a b 0
   unfolding both_to sum_to
   both_none = refl
@@ -83,9 +86,6 @@ module _ (ks fs : List ℕ) (a b v : ℕ) where
       → m + q ≡ both_to (word_of (nodes ks fs)) a b (c + 1)
   unfolding both_to sum_to
   both_step rowa rowb c m u w q em eq eu ew ea eb h = rw (add-one c, em, eq, child_value ks fs rowa a c u eu ea h, child_value ks fs rowb b c w ew eb h)
-
-  pub both_all : (c m : ℕ) → m ≡ both_to (word_of (nodes ks fs)) a b c → c ≤ 8 → 8 ≤ c → m ≡ both_to (word_of (nodes ks fs)) a b cube_kids
-  both_all c m e h k = let q : c ≡ 8 = omega arith in e ∙ ap (both_to (word_of (nodes ks fs)) a b) q
 
 -- each is the count of the places
 
@@ -98,38 +98,39 @@ block_sym : (u v k : ℕ) → block_count u v k ≡ block_count v u k
 unfolding block_count
 block_sym u v k = ap (λ (t : Bool). pick t 0 (cube_kids ^ k)) (eqb_sym u v)
 
-module _ (ks fs : List ℕ) (a b : ℕ) (s t : Bool) (es : s ≡ branches a) (et : t ≡ branches b) where
-  pub cells_both : (m : ℕ) → m ≡ both_to (word_of (nodes ks fs)) a b cube_kids → s ≡ true → t ≡ true → m ≡ places_count (word_of (nodes ks fs)) 0 a b cube_kids
+module _ (ks fs : List ℕ) (a b : ℕ) (s t : Bool) (es : s ≡ is_end a) (et : t ≡ is_end b) where
+  pub cells_both : (m : ℕ) → m ≡ both_to (word_of (nodes ks fs)) a b cube_kids → s ≡ false → t ≡ false → m ≡ places_count (word_of (nodes ks fs)) 0 a b cube_kids
   unfolding both_to
   cells_both m e hs ht =
       e
       ∙ cells_by (word_of (nodes ks fs)) a b _
       (λ i.
-      ap₂ (λ (x y : ℕ). block_count (val (word_of (nodes ks fs)) x) (val (word_of (nodes ks fs)) y) 0) (sym (part_branch (word_of (nodes ks fs)) a i (is_branch_lem a (sym es ∙ hs))))
-      (sym (part_branch (word_of (nodes ks fs)) b i (is_branch_lem b (sym et ∙ ht)))))
+      ap₂ (λ (x y : ℕ). block_count (val (word_of (nodes ks fs)) x) (val (word_of (nodes ks fs)) y) 0) (sym (part_branch (word_of (nodes ks fs)) a i (branch_end a (sym es ∙ hs))))
+      (sym (part_branch (word_of (nodes ks fs)) b i (branch_end b (sym et ∙ ht)))))
 
-  pub cells_left : (m v : ℕ) → m ≡ against_to (word_of (nodes ks fs)) a v cube_kids → v ≡ val (fact_of fs) b → s ≡ true → t ≡ false
+  pub cells_left : (m v : ℕ) → m ≡ against_to (word_of (nodes ks fs)) a v cube_kids → v ≡ val (fact_of fs) b → s ≡ false → t ≡ true
       → m ≡ places_count (word_of (nodes ks fs)) 0 a b cube_kids
   unfolding against_to
   cells_left m v e ev hs ht =
       e
       ∙ cells_by (word_of (nodes ks fs)) a b _
       (λ i.
-      ap₂ (λ (x y : ℕ). block_count (val (word_of (nodes ks fs)) x) y 0) (sym (part_branch (word_of (nodes ks fs)) a i (is_branch_lem a (sym es ∙ hs))))
-      (ev ∙ val_facts ks fs b ∙ ap (val (word_of (nodes ks fs))) (sym (part_flat (word_of (nodes ks fs)) b i (is_flat b (sym et ∙ ht))))))
+      ap₂ (λ (x y : ℕ). block_count (val (word_of (nodes ks fs)) x) y 0) (sym (part_branch (word_of (nodes ks fs)) a i (branch_end a (sym es ∙ hs))))
+      (ev ∙ val_facts ks fs b ∙ ap (val (word_of (nodes ks fs))) (sym (part_flat (word_of (nodes ks fs)) b i (flat_end b (sym et ∙ ht))))))
 
-pub cells_right : (ks fs : List ℕ) (a b m u : ℕ) (s : Bool) → m ≡ against_to (word_of (nodes ks fs)) b u cube_kids → u ≡ val (fact_of fs) a → s ≡ branches a → s ≡ false
+pub cells_right : (ks fs : List ℕ) (a b m u : ℕ) (s : Bool) → m ≡ against_to (word_of (nodes ks fs)) b u cube_kids → u ≡ val (fact_of fs) a → s ≡ is_end a → s ≡ true
     → goes_on 1 a b ≡ true → m ≡ places_count (word_of (nodes ks fs)) 0 a b cube_kids
 unfolding against_to goes_on
 cells_right ks fs a b m u s e eu es hs g =
-    let na : branches a ≡ false = sym es ∙ hs in
+    let fa : Flat a = flat_end a (sym es ∙ hs) in
+    let na : branches a ≡ false = branches_no a fa in
     let nb : branches b ≡ true = rw na at g in
     e
     ∙ cells_by (word_of (nodes ks fs)) a b _
     (λ i.
     block_sym (val (word_of (nodes ks fs)) (child_of (word_of (nodes ks fs)) b i)) u 0
     ∙ ap₂ (λ (x y : ℕ). block_count x (val (word_of (nodes ks fs)) y) 0)
-    (eu ∙ val_facts ks fs a ∙ ap (val (word_of (nodes ks fs))) (sym (part_flat (word_of (nodes ks fs)) a i (is_flat a na))))
+    (eu ∙ val_facts ks fs a ∙ ap (val (word_of (nodes ks fs))) (sym (part_flat (word_of (nodes ks fs)) a i fa)))
     (sym (part_branch (word_of (nodes ks fs)) b i (is_branch_lem b nb))))
 
 pub one_left : (k a b : ℕ) (t : Bool) → t ≡ goes_on k a b → t ≡ true → k ≡ 1 → goes_on 1 a b ≡ true
@@ -193,9 +194,6 @@ module _ (ks fs : List ℕ) (a b k : ℕ) where
       → p ≡ part (kid_of ks) a c → q ≡ part (kid_of ks) b c → c < 8 → m + r ≡ places_count (word_of (nodes ks fs)) k a b (c + 1)
   unfolding places_count sum_to
   places_step c m p q r em er ep eq h = rw (add-one c, em, er, ep, eq, part_kids ks fs a c h, part_kids ks fs b c h)
-
-  pub places_all : (c m : ℕ) → m ≡ places_count (word_of (nodes ks fs)) k a b c → c ≤ 8 → 8 ≤ c → m ≡ places_count (word_of (nodes ks fs)) k a b cube_kids
-  places_all c m e h l = let q : c ≡ 8 = omega arith in e ∙ ap (places_count (word_of (nodes ks fs)) k a b) q
 
 -- so few that a sum of eight has no more than 32 bits
 module _ (ks fs : List ℕ) (p q k c m r : ℕ) (e : r ≡ count_in cube_kids (word_of (nodes ks fs)) k p q) (f : m ≤ c * 8 ^ k) where

@@ -10,9 +10,11 @@ ghost use Rattle.compare_count.specs.Models.{count_in, block_count, against_to, 
 
 use arena::slot_of;
 use basics::{CUBE_KIDS, DEEPEST};
-use compare_pairs::{goes_on, is_branch, part_of};
+use compare_pairs::goes_on;
+use ids::BlockId;
 use nodes::children;
 use read_cell::value;
+use tree::part_of;
 
 // ---- the cells of a pair
 
@@ -21,30 +23,17 @@ fn count_block(u: u16, v: u16, left: u32) -> u32
     requires { left ≤ deepest }
     ensures { result ≡ block_count u v left }
 {
-    if u == v {
-        return 0;
-    }
-    let one: u32 = 1;
-    one << (3 * left)
+    if u == v { 0 } else { 1u32 << (3 * left) }
 }
 
-// One cell with a value on each side.
-fn count_cell(u: u16, v: u16) -> u32
-    ensures { (result ≡ block_count u v 0) × (result ≤ 1) }
-{
-    if u == v { 0 } else { 1 }
-}
-
+// Kept: a function for each way that one or both sides are branches, since with the values of both sides in arrays, or each read by itself, counting takes 1.5 times as long or more (docs/DECISIONS.md).
 // The cells of the eight children of a branch, against one value on the other side.
 fn count_against(kids: &[u64], facts: &[u32], id: u64, v: u16) -> u32
     ensures { result ≡ against_to (words_in kids.now facts.now) id v cube_kids }
 {
-    let row = children(kids, slot_of(id));
-    let mut c: usize = 0;
-    let mut cells: u32 = 0;
-    while c < CUBE_KIDS {
-        cells += count_cell(value(facts, row[c]), v);
-        c += 1;
+    let mut cells = 0;
+    for child in children(kids, slot_of(id)) {
+        cells += count_block(value(facts, child), v, 0);
     }
     cells
 }
@@ -55,11 +44,9 @@ fn count_both(kids: &[u64], facts: &[u32], a: u64, b: u64) -> u32
 {
     let lefts = children(kids, slot_of(a));
     let rights = children(kids, slot_of(b));
-    let mut c: usize = 0;
-    let mut cells: u32 = 0;
-    while c < CUBE_KIDS {
-        cells += count_cell(value(facts, lefts[c]), value(facts, rights[c]));
-        c += 1;
+    let mut cells = 0;
+    for c in 0..CUBE_KIDS {
+        cells += count_block(value(facts, lefts[c]), value(facts, rights[c]), 0);
     }
     cells
 }
@@ -69,13 +56,13 @@ fn count_cells(kids: &[u64], facts: &[u32], a: u64, b: u64) -> u32
     requires { goes_on 1 a b ≡ true }
     ensures { result ≡ places_count (words_in kids.now facts.now) 0 a b cube_kids }
 {
-    if is_branch(a) {
-        if is_branch(b) {
-            return count_both(kids, facts, a, b);
-        }
+    if BlockId(a).is_end() {
+        return count_against(kids, facts, b, value(facts, a));
+    }
+    if BlockId(b).is_end() {
         return count_against(kids, facts, a, value(facts, b));
     }
-    count_against(kids, facts, b, value(facts, a))
+    count_both(kids, facts, a, b)
 }
 
 // ---- pairs and places
@@ -104,13 +91,11 @@ fn count_places(kids: &[u64], facts: &[u32], a: u64, b: u64, left: u32) -> u32
     requires { left < deepest }
     ensures { result ≡ places_count (words_in kids.now facts.now) left a b cube_kids }
 {
-    let mut c: usize = 0;
-    let mut cells: u32 = 0;
-    while c < CUBE_KIDS {
+    let mut cells = 0;
+    for c in 0..CUBE_KIDS {
         let p = part_of(kids, a, c);
         let q = part_of(kids, b, c);
         cells += count_pair(kids, facts, p, q, left);
-        c += 1;
     }
     cells
 }
@@ -119,8 +104,8 @@ fn count_places(kids: &[u64], facts: &[u32], a: u64, b: u64, left: u32) -> u32
 pub fn count_differing(kids: &[u64], facts: &[u32], a: u64, b: u64, depth: u32) -> u32
     ensures { result ≡ count_of (words_in kids.now facts.now) a b depth }
 {
-    if depth <= DEEPEST {
-        return count_pair(kids, facts, a, b, depth);
+    if DEEPEST < depth {
+        return 0;
     }
-    0
+    count_pair(kids, facts, a, b, depth)
 }

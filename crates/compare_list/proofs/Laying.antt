@@ -46,8 +46,3 @@ module _ (at : ℕ) (c l r : List ℕ) where
       one f s s₁ s₂ i j =
           let k : x ≡ at + length (map f ds) = u.to ∙ ap (λ (n : ℕ). at + n) (sym (length-map ds f)) in
           rw (map-append f ds es, puts_append (map f ds) (map f es) s at, ← k, ← i) j
-
--- a walk that found no more than size cells and opened no more pairs
-pub within : {at : ℕ} {ds : List Differs} {o x y : ℕ} {c l r c' l' r' : List ℕ} (size : ℕ) → Laid at ds o x y c l r c' l' r' → length ds ≤ size → o ≤ size
-    → Laid at ds o x y c l r c' l' r' × ((x ≤ at + size) × (y ≤ size))
-within size q i j = (q, (omega (arith, q.to), omega (arith, q.opened)))

@@ -1,6 +1,6 @@
 -- The steps of the walk: blocks, cells, pairs and places.
 use mathlib.Core.Path.{◌≡◌, ◌∙◌, refl, sym, ap, subst}
-use mathlib.Core.Logic.{◌⊎◌, ⊎_elim}
+use mathlib.Core.Logic.{⊎_elim}
 use mathlib.Core.Bool.{Bool, true, false}
 use mathlib.Core.List.{List, [], ◌∷◌, ◌++◌}
 use Prim.Native.Nat.{ℕ, zero, suc, ◌+◌, ◌*◌, ◌-◌, ◌/◌, ◌%◌, ◌^◌, ◌≤◌, ◌<◌}
@@ -23,10 +23,13 @@ use Rattle.read_cell.proofs.Ends.{val_facts}
 use Rattle.compare_pairs.specs.Differing.{Differs, branches, differs, if_differs, joined, differing, opens, opened}
 use Rattle.compare_pairs.specs.Models.{cells_in, goes_on}
 use Rattle.compare_pairs.proofs.Differing.{cells_are}
-use Rattle.compare_pairs.proofs.Ids.{is_branch_lem, is_flat, part_kids, on_not_last, on_opens, off_ends, ends_shut}
+use Rattle.ids.specs.Ids.{is_end}
+use Rattle.tree.proofs.Ends.{flat_end, branch_end}
+use Rattle.compare_pairs.proofs.Ids.{branches_yes, branches_no, is_branch_lem, is_flat, part_kids, on_not_last, on_opens, off_ends, ends_shut}
 use Rattle.compare_pairs.proofs.Joined.{joined_step}
 use Rattle.compare_pairs.proofs.Pairs.{if_same, if_apart, equal_none, equal_unopened, cells_length_le, opened_few}
-use Rattle.compare_pairs.proofs.Sizes.{cells_shift, cells_most}
+use Rattle.compare_pairs.proofs.Sizes.{cells_most}
+use Rattle.read_cell.proofs.Cube.{cells_shift}
 use Rattle.compare_list.specs.List.{written, cells_written}
 use Rattle.compare_list.specs.Models.{most_cells, Laid, row, block, places_to, opened_to}
 use Rattle.compare_list.proofs.Blocks.{ends_block, last_block}
@@ -148,13 +151,6 @@ module _ (ks fs : List ℕ) (at base a b k : ℕ) (c l r : List ℕ) where
       let qb : q ≡ part M b i = eq ∙ part_kids ks fs b i h in
       place_more i x y z w c₁ l₁ r₁ c₂ l₂ r₂ u (rw (f, pa, qb) at v)
 
-  pub places_all : (i x y : ℕ) (c₁ l₁ r₁ : List ℕ) → i ≤ 8 → 8 ≤ i
-      → Laid at (places_to (word_of (nodes ks fs)) k base a b i) (opened_to (word_of (nodes ks fs)) k a b i) x y c l r c₁ l₁ r₁
-      → Laid at (places_to (word_of (nodes ks fs)) k base a b 8) (opened_to (word_of (nodes ks fs)) k a b 8) x y c l r c₁ l₁ r₁
-  places_all i x y c₁ l₁ r₁ h j q =
-      let e : i ≡ 8 = omega arith in
-      subst (λ (n : ℕ). Laid at (places_to M k base a b n) (opened_to M k a b n) x y c l r c₁ l₁ r₁) e q
-
 -- ---- the places of a pair one level above the cells
 
 cells_step : (ks fs : List ℕ) (at base a b i x z code u v : ℕ) (c l r c₁ l₁ r₁ c₂ l₂ r₂ : List ℕ)
@@ -204,13 +200,16 @@ module _ (ks fs : List ℕ) (at base a b i x z code u v : ℕ) (c l r c₁ l₁ 
   both_step us vs eu ea ev eb ha hb = cells_step ks fs at base a b i x z code u v c l r c₁ l₁ r₁ c₂ l₂ r₂ s t (row_value ks fs us a i u eu ea ha h) (row_value ks fs vs b i v ev eb hb h) e
 
 -- which of the two are branches
-module _ (a b : ℕ) (s : Bool) (e : s ≡ branches a) where
-  pub known : (t : Bool) → s ≡ t → branches a ≡ t
-  known t h = sym e ∙ h
+module _ (a : ℕ) (s : Bool) (e : s ≡ is_end a) where
+  pub branch_known : s ≡ false → branches a ≡ true
+  branch_known h = branches_yes a (branch_end a (sym e ∙ h))
 
-  pub right_branch : s ≡ false → goes_on 1 a b ≡ true → branches b ≡ true
+  pub end_known : s ≡ true → branches a ≡ false
+  end_known h = branches_no a (flat_end a (sym e ∙ h))
+
+  pub right_branch : (b : ℕ) → s ≡ true → goes_on 1 a b ≡ true → branches b ≡ true
   unfolding goes_on
-  right_branch h g = let na : branches a ≡ false = sym e ∙ h in rw na at g
+  right_branch b h g = let na : branches a ≡ false = end_known h in rw na at g
 
 pub one_left : (k a b : ℕ) (t : Bool) → t ≡ goes_on k a b → t ≡ true → k ≡ 1 → goes_on 1 a b ≡ true
 one_left k a b t e h o = ap (λ (i : ℕ). goes_on i a b) (sym o) ∙ sym e ∙ h
@@ -249,6 +248,14 @@ module _ (W : Words) (k size : ℕ) (e : size ≡ 8 ^ k) (a b : ℕ) where
   pub pairs_few : opened 8 W k a b ≤ size
   pairs_few = omega (arith, opened_few 7 W k a b)
 
+-- so how far the walk came
+pub few : (ks fs : List ℕ) (k base a b size at x y : ℕ) (c l r c' l' r' : List ℕ) → size ≡ 8 ^ k
+    → Laid at (cells_in 8 (word_of (nodes ks fs)) k base a b) (opened 8 (word_of (nodes ks fs)) k a b) x y c l r c' l' r' → (x ≤ at + size) × (y ≤ size)
+few ks fs k base a b size at x y c l r c' l' r' e q =
+    let i = cells_few (word_of (nodes ks fs)) k size e a b base in
+    let j = pairs_few (word_of (nodes ks fs)) k size e a b in
+    (omega (arith, q.to), omega (arith, q.opened))
+
 module _ (base size c : ℕ) (i : c < 8) (j : base + 8 * size ≤ most_cells) where
   pub place_fits : (from : ℕ) → from ≡ base + c * size → from + size ≤ most_cells
   place_fits from e = let m : suc c * size ≤ 8 * size = mul-le-mul_right size i in omega arith
@@ -269,3 +276,9 @@ write_done ks fs a b d x y c l r c' l' r' q =
     let W : Words = word_of (nodes ks fs) in
     let e : x ≡ length (cells_in 8 W d 0 a b) = omega (arith, q.to) in
     rw (← cells_are 8 W d a b) (λ i. written (e i) (q.opened i) (q.codes i) (q.lefts i) (q.rights i))
+
+-- .. and the parts are given back
+pub write_back : (ks fs : List ℕ) (a b d x y : ℕ) (c l r c₁ l₁ r₁ c' l' r' : List ℕ)
+    → Laid 0 (cells_in 8 (word_of (nodes ks fs)) d 0 a b) (opened 8 (word_of (nodes ks fs)) d a b) x y c l r c₁ l₁ r₁ → c' ≡ c₁ → l' ≡ l₁ → r' ≡ r₁
+    → written x y c' l' r' ≡ cells_written (differing 8 (word_of (nodes ks fs)) d a b) (opened 8 (word_of (nodes ks fs)) d a b) c l r
+write_back ks fs a b d x y c l r c₁ l₁ r₁ c' l' r' q i j k = rw (i, j, k) (write_done ks fs a b d x y c l r c₁ l₁ r₁ q)

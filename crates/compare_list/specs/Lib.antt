@@ -1,2 +1,3 @@
 pub mod List
 pub mod Models
+pub mod Lists

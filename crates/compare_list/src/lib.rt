@@ -6,14 +6,20 @@ ghost use Rattle.basics.specs.Limits.{deepest, cube_kids};
 ghost use Rattle.nodes.specs.Lent.{words_in};
 ghost use Rattle.compare_pairs.specs.Differing.{branches, if_differs, differing, opened as opened_in};
 ghost use Rattle.compare_pairs.specs.Models.{goes_on, cells_in};
+ghost use Rattle.compare_list.specs.Lists.{Same};
 ghost use Rattle.compare_list.specs.List.{wrote, cells_written, written_of};
 ghost use Rattle.compare_list.specs.Models.{most_cells, Laid, block as block_of, places_to, opened_to};
 
+mod list;
+
 use arena::slot_of;
 use basics::{CUBE_KIDS, DEEPEST};
-use compare_pairs::{goes_on, is_branch, part_of};
+use compare_pairs::goes_on;
+use ids::BlockId;
+use list::List;
 use nodes::children;
 use read_cell::value;
+use tree::part_of;
 
 // How many cells differ, and how many pairs were opened.
 #[derive(Clone, Copy)]
@@ -32,47 +38,30 @@ struct Walk {
 // ---- cells
 
 // One cell at a place of the list; nothing past the end.
-fn put(
-    codes: &mut [u32],
-    lefts: &mut [u16],
-    rights: &mut [u16],
-    at: usize,
-    code: u32,
-    u: u16,
-    v: u16,
-)
-    requires { (length lefts.old ≡ length codes.old) × (length rights.old ≡ length codes.old) }
-    ensures { (codes.new ≡ set codes.old at code) × (lefts.new ≡ set lefts.old at u) × (rights.new ≡ set rights.old at v) }
+fn put(list: &mut List<'_>, at: usize, code: u32, u: u16, v: u16)
+    ensures same { Same list.old list.new }
+    ensures codes { list.new.codes.now ≡ set list.old.codes.now at code }
+    ensures lefts { list.new.lefts.now ≡ set list.old.lefts.now at u }
+    ensures rights { list.new.rights.now ≡ set list.old.rights.now at v }
 {
-    if at < codes.len() {
-        codes[at] = code;
-        lefts[at] = u;
-        rights[at] = v;
+    if at < list.codes.len() {
+        list.codes[at] = code;
+        list.lefts[at] = u;
+        list.rights[at] = v;
     }
 }
 
 // A block of `size` cells from the code `base` on, with one value on each side: all of them if the values differ.
-fn block(
-    codes: &mut [u32],
-    lefts: &mut [u16],
-    rights: &mut [u16],
-    u: u16,
-    v: u16,
-    size: u32,
-    base: u32,
-    at: usize,
-) -> Walk
+fn block(list: &mut List<'_>, u: u16, v: u16, size: u32, base: u32, at: usize) -> Walk
     requires size_bound { (base + size ≤ most_cells) × (at ≤ base) }
-    requires lefts_len { (length lefts.old ≡ length codes.old) × (length rights.old ≡ length codes.old) }
-    ensures { Laid at (block_of size base u v) 0 result.at result.opened codes.old lefts.old rights.old codes.new lefts.new rights.new }
+    ensures same { Same list.old list.new }
+    ensures laid { Laid at (block_of size base u v) 0 result.at result.opened list.old.codes.now list.old.lefts.now list.old.rights.now list.new.codes.now list.new.lefts.now list.new.rights.now }
 {
     if u == v {
-        return Walk { at: at, opened: 0 };
+        return Walk { at, opened: 0 };
     }
-    let mut i: u32 = 0;
-    while i < size {
-        put(codes, lefts, rights, at + i as usize, base + i, u, v);
-        i += 1;
+    for i in 0..size {
+        put(list, at + i as usize, base + i, u, v);
     }
     Walk {
         at: at + size as usize,
@@ -81,52 +70,40 @@ fn block(
 }
 
 // One cell, if its values differ. The place after it.
-fn one_cell(
-    codes: &mut [u32],
-    lefts: &mut [u16],
-    rights: &mut [u16],
-    u: u16,
-    v: u16,
-    code: u32,
-    at: usize,
-) -> usize
+fn one_cell(list: &mut List<'_>, u: u16, v: u16, code: u32, at: usize) -> usize
     requires at_le_code { at ≤ code }
-    requires lefts_len { (length lefts.old ≡ length codes.old) × (length rights.old ≡ length codes.old) }
-    ensures laid { Laid at (if_differs code u v) 0 result 0 codes.old lefts.old rights.old codes.new lefts.new rights.new }
+    ensures same { Same list.old list.new }
+    ensures laid { Laid at (if_differs code u v) 0 result 0 list.old.codes.now list.old.lefts.now list.old.rights.now list.new.codes.now list.new.lefts.now list.new.rights.now }
     ensures upper_bound { result ≤ at + 1 }
 {
     if u == v {
         return at;
     }
-    put(codes, lefts, rights, at, code, u, v);
+    put(list, at, code, u, v);
     at + 1
 }
 
+// Kept: a function for each way that one or both sides are branches, since with the values of both sides in arrays, or each read by itself, listing takes 1.5 times as long or more (docs/DECISIONS.md).
 // The eight cells of a branch on the left, against one value on the right. The place after the last.
 fn left_cells(
     kids: &[u64],
     facts: &[u32],
-    codes: &mut [u32],
-    lefts: &mut [u16],
-    rights: &mut [u16],
+    list: &mut List<'_>,
     a: u64,
     b: u64,
     base: u32,
     at: usize,
 ) -> usize
     requires a_value { (branches a ≡ true) × (branches b ≡ false) × (base + 8 ≤ most_cells) × (at ≤ base) }
-    requires lefts_len { (length lefts.old ≡ length codes.old) × (length rights.old ≡ length codes.old) }
-    ensures { Laid at (places_to (words_in kids.now facts.now) 0 base a b cube_kids) (opened_to (words_in kids.now facts.now) 0 a b cube_kids) result 1 codes.old lefts.old rights.old codes.new lefts.new rights.new }
+    ensures same { Same list.old list.new }
+    ensures laid { Laid at (places_to (words_in kids.now facts.now) 0 base a b cube_kids) (opened_to (words_in kids.now facts.now) 0 a b cube_kids) result 1 list.old.codes.now list.old.lefts.now list.old.rights.now list.new.codes.now list.new.lefts.now list.new.rights.now }
 {
     let row = children(kids, slot_of(a));
     let v = value(facts, b);
-    let mut c: usize = 0;
-    let mut code = base;
     let mut to = at;
-    while c < CUBE_KIDS {
-        to = one_cell(codes, lefts, rights, value(facts, row[c]), v, code, to);
-        code += 1;
-        c += 1;
+    for c in 0..CUBE_KIDS {
+        let code = base + c as u32;
+        to = one_cell(list, value(facts, row[c]), v, code, to);
     }
     to
 }
@@ -135,27 +112,22 @@ fn left_cells(
 fn right_cells(
     kids: &[u64],
     facts: &[u32],
-    codes: &mut [u32],
-    lefts: &mut [u16],
-    rights: &mut [u16],
+    list: &mut List<'_>,
     a: u64,
     b: u64,
     base: u32,
     at: usize,
 ) -> usize
     requires a_value { (branches a ≡ false) × (branches b ≡ true) × (base + 8 ≤ most_cells) × (at ≤ base) }
-    requires lefts_len { (length lefts.old ≡ length codes.old) × (length rights.old ≡ length codes.old) }
-    ensures { Laid at (places_to (words_in kids.now facts.now) 0 base a b cube_kids) (opened_to (words_in kids.now facts.now) 0 a b cube_kids) result 1 codes.old lefts.old rights.old codes.new lefts.new rights.new }
+    ensures same { Same list.old list.new }
+    ensures laid { Laid at (places_to (words_in kids.now facts.now) 0 base a b cube_kids) (opened_to (words_in kids.now facts.now) 0 a b cube_kids) result 1 list.old.codes.now list.old.lefts.now list.old.rights.now list.new.codes.now list.new.lefts.now list.new.rights.now }
 {
     let row = children(kids, slot_of(b));
     let u = value(facts, a);
-    let mut c: usize = 0;
-    let mut code = base;
     let mut to = at;
-    while c < CUBE_KIDS {
-        to = one_cell(codes, lefts, rights, u, value(facts, row[c]), code, to);
-        code += 1;
-        c += 1;
+    for c in 0..CUBE_KIDS {
+        let code = base + c as u32;
+        to = one_cell(list, u, value(facts, row[c]), code, to);
     }
     to
 }
@@ -164,35 +136,24 @@ fn right_cells(
 fn both_cells(
     kids: &[u64],
     facts: &[u32],
-    codes: &mut [u32],
-    lefts: &mut [u16],
-    rights: &mut [u16],
+    list: &mut List<'_>,
     a: u64,
     b: u64,
     base: u32,
     at: usize,
 ) -> usize
     requires a_value { (branches a ≡ true) × (branches b ≡ true) × (base + 8 ≤ most_cells) × (at ≤ base) }
-    requires lefts_len { (length lefts.old ≡ length codes.old) × (length rights.old ≡ length codes.old) }
-    ensures { Laid at (places_to (words_in kids.now facts.now) 0 base a b cube_kids) (opened_to (words_in kids.now facts.now) 0 a b cube_kids) result 1 codes.old lefts.old rights.old codes.new lefts.new rights.new }
+    ensures same { Same list.old list.new }
+    ensures laid { Laid at (places_to (words_in kids.now facts.now) 0 base a b cube_kids) (opened_to (words_in kids.now facts.now) 0 a b cube_kids) result 1 list.old.codes.now list.old.lefts.now list.old.rights.now list.new.codes.now list.new.lefts.now list.new.rights.now }
 {
     let us = children(kids, slot_of(a));
     let vs = children(kids, slot_of(b));
-    let mut c: usize = 0;
-    let mut code = base;
     let mut to = at;
-    while c < CUBE_KIDS {
-        to = one_cell(
-            codes,
-            lefts,
-            rights,
-            value(facts, us[c]),
-            value(facts, vs[c]),
-            code,
-            to,
-        );
-        code += 1;
-        c += 1;
+    for c in 0..CUBE_KIDS {
+        let code = base + c as u32;
+        let u = value(facts, us[c]);
+        let v = value(facts, vs[c]);
+        to = one_cell(list, u, v, code, to);
     }
     to
 }
@@ -201,25 +162,23 @@ fn both_cells(
 fn eight_cells(
     kids: &[u64],
     facts: &[u32],
-    codes: &mut [u32],
-    lefts: &mut [u16],
-    rights: &mut [u16],
+    list: &mut List<'_>,
     a: u64,
     b: u64,
     base: u32,
     at: usize,
 ) -> usize
     requires b_value { (goes_on 1 a b ≡ true) × (base + 8 ≤ most_cells) × (at ≤ base) }
-    requires lefts_len { (length lefts.old ≡ length codes.old) × (length rights.old ≡ length codes.old) }
-    ensures { Laid at (places_to (words_in kids.now facts.now) 0 base a b cube_kids) (opened_to (words_in kids.now facts.now) 0 a b cube_kids) result 1 codes.old lefts.old rights.old codes.new lefts.new rights.new }
+    ensures same { Same list.old list.new }
+    ensures laid { Laid at (places_to (words_in kids.now facts.now) 0 base a b cube_kids) (opened_to (words_in kids.now facts.now) 0 a b cube_kids) result 1 list.old.codes.now list.old.lefts.now list.old.rights.now list.new.codes.now list.new.lefts.now list.new.rights.now }
 {
-    if is_branch(a) {
-        if is_branch(b) {
-            return both_cells(kids, facts, codes, lefts, rights, a, b, base, at);
-        }
-        return left_cells(kids, facts, codes, lefts, rights, a, b, base, at);
+    if BlockId(a).is_end() {
+        return right_cells(kids, facts, list, a, b, base, at);
     }
-    right_cells(kids, facts, codes, lefts, rights, a, b, base, at)
+    if BlockId(b).is_end() {
+        return left_cells(kids, facts, list, a, b, base, at);
+    }
+    both_cells(kids, facts, list, a, b, base, at)
 }
 
 // ---- pairs and places
@@ -229,9 +188,7 @@ fn eight_cells(
 fn pair(
     kids: &[u64],
     facts: &[u32],
-    codes: &mut [u32],
-    lefts: &mut [u16],
-    rights: &mut [u16],
+    list: &mut List<'_>,
     a: u64,
     b: u64,
     left: u32,
@@ -240,44 +197,23 @@ fn pair(
     at: usize,
 ) -> Walk
     requires size_value { (size ≡ cube_kids ^ left) × (base + size ≤ most_cells) × (at ≤ base) }
-    requires lefts_len { (length lefts.old ≡ length codes.old) × (length rights.old ≡ length codes.old) }
-    ensures laid { Laid at (cells_in cube_kids (words_in kids.now facts.now) left base a b) (opened_in cube_kids (words_in kids.now facts.now) left a b) result.at result.opened codes.old lefts.old rights.old codes.new lefts.new rights.new }
+    ensures same { Same list.old list.new }
+    ensures laid { Laid at (cells_in cube_kids (words_in kids.now facts.now) left base a b) (opened_in cube_kids (words_in kids.now facts.now) left a b) result.at result.opened list.old.codes.now list.old.lefts.now list.old.rights.now list.new.codes.now list.new.lefts.now list.new.rights.now }
     ensures at_bound { (result.at ≤ at + size) × (result.opened ≤ size) }
 {
     if a == b {
-        return Walk { at: at, opened: 0 };
+        return Walk { at, opened: 0 };
     }
     if goes_on(a, b, left) {
         if left == 1 {
             return Walk {
-                at: eight_cells(kids, facts, codes, lefts, rights, a, b, base, at),
+                at: eight_cells(kids, facts, list, a, b, base, at),
                 opened: 1,
             };
         }
-        return places(
-            kids,
-            facts,
-            codes,
-            lefts,
-            rights,
-            a,
-            b,
-            left - 1,
-            size / 8,
-            base,
-            at,
-        );
+        return places(kids, facts, list, a, b, left - 1, size / 8, base, at);
     }
-    block(
-        codes,
-        lefts,
-        rights,
-        value(facts, a),
-        value(facts, b),
-        size,
-        base,
-        at,
-    )
+    block(list, value(facts, a), value(facts, b), size, base, at)
 }
 
 // The eight places of an opened pair in turn, each of `size` cells, `left` levels above them.
@@ -285,9 +221,7 @@ fn pair(
 fn places(
     kids: &[u64],
     facts: &[u32],
-    codes: &mut [u32],
-    lefts: &mut [u16],
-    rights: &mut [u16],
+    list: &mut List<'_>,
     a: u64,
     b: u64,
     left: u32,
@@ -296,29 +230,20 @@ fn places(
     at: usize,
 ) -> Walk
     requires size_value { (size ≡ cube_kids ^ left) × (base + 8 * size ≤ most_cells) × (at ≤ base) }
-    requires lefts_len { (length lefts.old ≡ length codes.old) × (length rights.old ≡ length codes.old) }
-    ensures { Laid at (places_to (words_in kids.now facts.now) left base a b cube_kids) (opened_to (words_in kids.now facts.now) left a b cube_kids) result.at result.opened codes.old lefts.old rights.old codes.new lefts.new rights.new }
+    ensures same { Same list.old list.new }
+    ensures laid { Laid at (places_to (words_in kids.now facts.now) left base a b cube_kids) (opened_to (words_in kids.now facts.now) left a b cube_kids) result.at result.opened list.old.codes.now list.old.lefts.now list.old.rights.now list.new.codes.now list.new.lefts.now list.new.rights.now }
 {
-    let mut c: usize = 0;
-    let mut from = base;
     let mut to = at;
     let mut opened: u32 = 1;
-    while c < CUBE_KIDS {
-        let next = from + size;
+    for c in 0..CUBE_KIDS {
+        let from = base + c as u32 * size;
         let p = part_of(kids, a, c);
         let q = part_of(kids, b, c);
-        let w = pair(
-            kids, facts, codes, lefts, rights, p, q, left, size, from, to,
-        );
+        let w = pair(kids, facts, list, p, q, left, size, from, to);
         to = w.at;
         opened += w.opened;
-        from = next;
-        c += 1;
     }
-    Walk {
-        at: to,
-        opened: opened,
-    }
+    Walk { at: to, opened }
 }
 
 // ---- the list
@@ -328,8 +253,7 @@ fn size_of(d: u32) -> u32
     requires { d ≤ deepest }
     ensures { (result ≡ cube_kids ^ d) × (result ≤ most_cells) }
 {
-    let one: u32 = 1;
-    one << (3 * d)
+    1u32 << (3 * d)
 }
 
 // All differing cells of a cube of the depth, from the start of the list.
@@ -347,19 +271,12 @@ fn write_cells(
     requires lefts_len { (length lefts.old ≡ length codes.old) × (length rights.old ≡ length codes.old) }
     ensures { wrote result codes.new lefts.new rights.new ≡ cells_written (differing cube_kids (words_in kids.now facts.now) depth a b) (opened_in cube_kids (words_in kids.now facts.now) depth a b) codes.old lefts.old rights.old }
 {
-    let w = pair(
-        kids,
-        facts,
+    let mut list = List {
         codes,
         lefts,
         rights,
-        a,
-        b,
-        depth,
-        size_of(depth),
-        0,
-        0,
-    );
+    };
+    let w = pair(kids, facts, &mut list, a, b, depth, size_of(depth), 0, 0);
     Found {
         cells: w.at as u32,
         opened: w.opened,
@@ -380,15 +297,11 @@ pub fn write_differing(
 ) -> Found
     ensures { wrote result codes.new lefts.new rights.new ≡ written_of (words_in kids.now facts.now) a b depth codes.old lefts.old rights.old }
 {
-    if lefts.len() == codes.len() {
-        if rights.len() == codes.len() {
-            if depth <= DEEPEST {
-                return write_cells(kids, facts, a, b, depth, codes, lefts, rights);
-            }
-        }
+    if lefts.len() != codes.len() || rights.len() != codes.len() || DEEPEST < depth {
+        return Found {
+            cells: 0,
+            opened: 0,
+        };
     }
-    Found {
-        cells: 0,
-        opened: 0,
-    }
+    write_cells(kids, facts, a, b, depth, codes, lefts, rights)
 }

@@ -3,7 +3,7 @@ use mathlib.Core.Path.{◌≡◌, ◌∙◌, refl, sym, ap}
 use mathlib.Core.Logic.{◌⊎◌, inl, inr}
 use mathlib.Core.Bool.{Bool, true, false, not}
 use mathlib.Core.List.{List}
-use Prim.Native.Nat.{ℕ, ◌^◌, ◌≤◌, ◌<◌}
+use Prim.Native.Nat.{ℕ, ◌<◌}
 use native.Mathlib.Decide.{ℕ_discrete}
 use native.Mathlib.Omega.{arith}
 use borrow.Author.Tests.{eq-eqb, ne_eqb}
@@ -15,6 +15,8 @@ use Rattle.nodes.proofs.Sums.{cases}
 use Rattle.tree.specs.Tree.{Branch, Flat, Kind, empty, leaf, branch, kind}
 use Rattle.tree.specs.Anew.{part}
 use Rattle.tree.proofs.Making.{part_flat, part_branch}
+use Rattle.tree.proofs.Ends.{end_flat, end_branch}
+use Rattle.ids.specs.Ids.{is_end}
 use Rattle.read_cell.proofs.Ends.{never}
 use Rattle.compare_pairs.specs.Differing.{branches, opens}
 use Rattle.compare_pairs.specs.Models.{goes_on}
@@ -56,19 +58,26 @@ is_flat a h = go (kind a)
 
 -- ---- the code's tests
 
-pub branch_low : (a : ℕ) → a < 2 ^ 63 → not (eqb a 0) ≡ branches a
-branch_low a h =
-    cases (ℕ_discrete a 0) (λ e. rw (eq-eqb a 0 e) (sym (branches_no a (inl e)))) (λ e. rw (ne_eqb a 0 e) (sym (branches_yes a (e, h))))
+pub branches_is : (a : ℕ) → branches a ≡ not (is_end a)
+branches_is a = go (kind a)
+  where
+    go : Kind a → branches a ≡ not (is_end a)
+    go (empty e) = branches_no a (inl e) ∙ sym (ap not (end_flat a (inl e)))
+    go (leaf e) = branches_no a (inr e) ∙ sym (ap not (end_flat a (inr e)))
+    go (branch e) = branches_yes a e ∙ sym (ap not (end_branch a e))
 
-pub branch_high : (a : ℕ) → 2 ^ 63 ≤ a → false ≡ branches a
-branch_high a h = sym (branches_no a (inr h))
+module _ (k a b : ℕ) where
+  pub goes_none : k ≡ 0 → not (eqb k 0) ≡ goes_on k a b
+  unfolding goes_on
+  goes_none e = rw e refl
 
-module _ (ks : List ℕ) (a c : ℕ) (t : Bool) (e : t ≡ branches a) where
-  pub part_yes : (s r : ℕ) → t ≡ true → s ≡ slot a → r ≡ kid_of ks s c → r ≡ part (kid_of ks) a c
-  part_yes s r h es er = er ∙ ap (λ (i : ℕ). kid_of ks i c) es ∙ sym (part_branch (kid_of ks) a c (is_branch_lem a (sym e ∙ h)))
+  pub goes_left : (t : Bool) → (k ≡ 0 → ⊥) → t ≡ is_end a → t ≡ false → not t ≡ goes_on k a b
+  unfolding goes_on
+  goes_left t n e h = rw (ne_eqb k 0 n, branches_is a, sym e ∙ h, h) refl
 
-  pub part_no : t ≡ false → a ≡ part (kid_of ks) a c
-  part_no h = sym (part_flat (kid_of ks) a c (is_flat a (sym e ∙ h)))
+  pub goes_right : (t u : Bool) → (k ≡ 0 → ⊥) → t ≡ is_end a → t ≡ true → u ≡ is_end b → not u ≡ goes_on k a b
+  unfolding goes_on
+  goes_right t u n e h f = rw (ne_eqb k 0 n, branches_is a, sym e ∙ h, branches_is b, f) refl
 
 -- the table of children alone tells
 pub part_kids : (ks fs : List ℕ) (a c : ℕ) → c < 8 → part (kid_of ks) a c ≡ part (word_of (nodes ks fs)) a c

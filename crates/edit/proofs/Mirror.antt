@@ -42,7 +42,8 @@ use Rattle.arena.proofs.Searched.{kids_hash_lem, leaf_one, kids_one, search_hit,
 use Rattle.arena.proofs.Branching.{found_slot}
 use Rattle.read_cell.proofs.Meaning.{wf_made}
 use Rattle.edit.specs.Edit.{words_of, one_leaf, need_of, cell_need, up_need, plan_of, owed, low_of, make_of}
-use Rattle.edit_way.specs.Models.{is_end, eight_parts, hash_over}
+use Rattle.ids.specs.Ids.{is_end}
+use Rattle.edit_way.specs.Models.{eight_parts, hash_over}
 use Rattle.edit_plan.specs.Models.{planned, leaf_found, whole_of, hash_with, kids_found, slot_plan, cell_plan, need_plan, up_plan, plan_by}
 use Rattle.edit_plan.specs.declared.Plan as planning
 use Rattle.edit_way.proofs.Words.{end_flat, end_leaf, tab_get}

@@ -4,7 +4,7 @@ use mathlib.Core.Logic.{◌≢◌}
 use mathlib.Core.Bool.{Bool, not, false}
 use mathlib.Core.List.{List, [], ◌∷◌}
 use Prim.Native.Nat.{ℕ, zero, suc, ◌+◌, ◌-◌, ◌*◌, ◌/◌, ◌%◌, ◌^◌, ◌≤◌, ◌<◌}
-use native.Mathlib.Nat.{mul-le-mul_right, div-add-mod', pow-succ', div-div-eq-div-mul, mul_left_comm}
+use native.Mathlib.Nat.{pow-succ', div-div-eq-div-mul, mul_left_comm}
 use native.Mathlib.Decide.{ℕ_discrete}
 use native.Mathlib.Omega.{arith}
 use lib.Dec.{eqb}
@@ -18,17 +18,10 @@ use Rattle.arena.specs.Calls.{each}
 use Rattle.arena.specs.Models.{more_of, bumped}
 use Rattle.arena.specs.Node.{bits_of}
 use Rattle.arena.proofs.Bits.{bits_below}
+use Rattle.edit_make.proofs.Steps.{bit_fits}
 use Rattle.edit_make.specs.Models.{placed_if, placed_where, other_bits, with_bit, seven_placed}
 
 -- ---- a mask without one of its bits
-
--- a bit of a number is no more than the number
-bit_fits : (m c : ℕ) → m / 2 ^ c % 2 * 2 ^ c ≤ m
-bit_fits m c =
-    let low : m / 2 ^ c % 2 ≤ m / 2 ^ c = omega arith in
-    let a : m / 2 ^ c % 2 * 2 ^ c ≤ m / 2 ^ c * 2 ^ c = mul-le-mul_right (2 ^ c) low in
-    let b = div-add-mod' m (2 ^ c) in
-    omega arith
 
 one_small : (b : Bool) → one_if b ≤ 1
 unfolding one_if

@@ -4,13 +4,14 @@
 
 ghost use Rattle.std.specs.Prelude.{◌≡◌};
 ghost use Rattle.basics.specs.Limits.{deepest, cube_kids};
+ghost use Rattle.basics.specs.Refusals.{no_of};
 ghost use Rattle.arena.specs.Calls.{Fair};
 ghost use Rattle.arena.specs.Lent.{before, made};
 ghost use Rattle.edit.specs.Edit.{edit_of};
 ghost use Rattle.edit.specs.Models.{grant_by, edit_no_at, answer_by, edit_past, edit_by};
 
 use arena::{Arena, Made, bump, slot_of};
-use basics::MOST_HOLDS;
+use basics::{MOST_HOLDS, Refusal};
 use edit_make::make;
 use edit_plan::{Plan, plan_edit};
 use edit_way::{Way, way_down};
@@ -19,39 +20,40 @@ use new_node::free_slots;
 use new_value::height_at;
 use nodes::{HOLDS, fact};
 use paths::{Cell, IVec3, to_cell};
-use read_cell::look_no;
+use read_cell::may_look;
 
 // Refusals 10 and 11.
-fn grant_no(a: Arena, kids: &[u64], facts: &[u32], find: &[u16], p: Plan) -> u32
-    ensures { result ≡ grant_by (before a kids.now facts.now find.now) p }
+fn may_grant(a: Arena, kids: &[u64], facts: &[u32], find: &[u16], p: Plan) -> Result<(), Refusal>
+    ensures { no_of result ≡ grant_by (before a kids.now facts.now find.now) p }
 {
-    if p.new == 0 {
-        if p.id == BlockId::EMPTY.0 {
-            return 0;
+    if p.new != 0 {
+        if free_slots(a) < p.new as u64 {
+            return Err(Refusal::Full);
         }
-        if MOST_HOLDS <= fact(facts, slot_of(p.id), HOLDS) {
-            return 10;
-        }
-        return 0;
+        return Ok(());
     }
-    if p.new as u64 <= free_slots(a) {
-        return 0;
+    if p.id != BlockId::EMPTY.0 && MOST_HOLDS <= fact(facts, slot_of(p.id), HOLDS) {
+        return Err(Refusal::ManyHolds);
     }
-    11
+    Ok(())
 }
 
 // Refusals 1, 2, 3, 4 and 8, which are told before the dry run.
-fn early_no(a: Arena, kids: &[u64], facts: &[u32], find: &[u16], root: u64, cell: Cell) -> u32
-    ensures { result ≡ edit_no_at (before a kids.now facts.now find.now) root cell }
+fn may_edit(
+    a: Arena,
+    kids: &[u64],
+    facts: &[u32],
+    find: &[u16],
+    root: u64,
+    cell: Cell,
+) -> Result<(), Refusal>
+    ensures { no_of result ≡ edit_no_at (before a kids.now facts.now find.now) root cell }
 {
-    let no = look_no(a, kids, facts, find, root, cell);
-    if no != 0 {
-        return no;
-    }
+    may_look(a, kids, facts, find, root, cell)?;
     if height_at(facts, root) <= cell.depth {
-        return 0;
+        return Ok(());
     }
-    8
+    Err(Refusal::Tall)
 }
 
 // The answer: a result that is there gets a hold; else it is made.
@@ -91,15 +93,14 @@ fn edit_planned(
 ) -> Made
     ensures { made a result kids.new facts.new find.new ≡ edit_past (before a kids.old facts.old find.old) v w depth p }
 {
-    let no = grant_no(a, kids, facts, find, p);
-    if no != 0 {
-        return Made {
-            no: no,
+    match may_grant(a, kids, facts, find, p) {
+        Ok(()) => hold_or_make(a, kids, facts, find, w, depth, v, p),
+        Err(refusal) => Made {
+            no: u32::from(refusal),
             id: BlockId::INVALID,
             slots: a.slots,
-        };
+        },
     }
-    hold_or_make(a, kids, facts, find, w, depth, v, p)
 }
 
 // The edit of a cell, on any tables.
@@ -114,17 +115,18 @@ fn edit_cell(
 ) -> Made
     ensures { made a result kids.new facts.new find.new ≡ edit_by (before a kids.old facts.old find.old) root cell v }
 {
-    let no = early_no(a, kids, facts, find, root, cell);
-    if no != 0 {
-        return Made {
-            no: no,
+    match may_edit(a, kids, facts, find, root, cell) {
+        Err(refusal) => Made {
+            no: u32::from(refusal),
             id: BlockId::INVALID,
             slots: a.slots,
-        };
+        },
+        Ok(()) => {
+            let w = way_down(kids, root, cell);
+            let p = plan_edit(a, kids, facts, find, root, cell, v, w);
+            edit_planned(a, kids, facts, find, w, cell.depth, v as u32, p)
+        }
     }
-    let w = way_down(kids, root, cell);
-    let p = plan_edit(a, kids, facts, find, root, cell, v, w);
-    edit_planned(a, kids, facts, find, w, cell.depth, v as u32, p)
 }
 
 // The root with the cell at the position set to the value, or a refusal: 1, 2, 3, 4, 8, 10 or 11. The root is not used up; the answer has one new

@@ -9,14 +9,13 @@ ghost use Rattle.basics.specs.Bytes.{word16};
 ghost use Rattle.basics.specs.Limits.{deepest, cube_kids};
 ghost use Rattle.arena.specs.Calls.{Fair};
 ghost use Rattle.arena.specs.Lent.{before as tables_before, made};
-ghost use Rattle.listing.specs.Lent.{before, after, lined, told};
-ghost use Rattle.listing.specs.Listing.{widest, record_in, taken_of, told_of};
-ghost use Rattle.listing.specs.Models.{one_of};
+ghost use Rattle.listing.specs.Lent.{before, told};
+ghost use Rattle.listing.specs.Listing.{taken_of, told_of};
 ghost use Rattle.edit_listing.specs.Listing.{record_width, cell_in, value_in, whole_in, edit_in, edits};
 
 use arena::{Arena, Made};
 use ids::BlockId;
-use listing::{Lined, Ran, Run};
+use listing::{Kind, Ran, Run};
 use paths::IVec3;
 
 // A record has so many bytes.
@@ -25,20 +24,11 @@ pub const RECORD: usize = 8;
 // The depth of the cell that a record names.
 pub const DEPTH: u32 = 6;
 
-fn wide(byte: u8) -> u16
-    ensures { (result ≡ byte) × (result < 256) }
-{
-    byte as u16
-}
-
 // The byte at a place; 0 past the end.
-fn byte_at(bytes: &[u8], at: usize) -> u16
+fn byte_at(bytes: &[u8], at: usize) -> u8
     ensures { (result ≡ get_or bytes.now at 0) × (result < 256) }
 {
-    if at < bytes.len() {
-        return wide(bytes[at]);
-    }
-    0
+    bytes.get(at).copied().unwrap_or(0)
 }
 
 // The number of 16 bits at a place of a record's bytes, low byte first.
@@ -46,7 +36,7 @@ fn word(bytes: &[u8], at: usize) -> u16
     requires { at < record_width }
     ensures { (result ≡ word16 bytes.now at) × (result < 65536) }
 {
-    byte_at(bytes, at) + 256 * byte_at(bytes, at + 1)
+    u16::from_le_bytes([byte_at(bytes, at), byte_at(bytes, at + 1)])
 }
 
 // The cell of a record.
@@ -54,9 +44,9 @@ fn cell_in(bytes: &[u8]) -> IVec3
     ensures { result ≡ cell_in bytes.now }
 {
     IVec3 {
-        x: word(bytes, 0) as i32,
-        y: word(bytes, 2) as i32,
-        z: word(bytes, 4) as i32,
+        x: i32::from(word(bytes, 0)),
+        y: i32::from(word(bytes, 2)),
+        z: i32::from(word(bytes, 4)),
     }
 }
 
@@ -84,38 +74,31 @@ pub fn edit_record(
     edit::set_voxel(arena, kids, facts, find, root, DEPTH, cell, value)
 }
 
-// One record, its line at the start of `out`.
-fn one(
-    run: Run,
-    kids: &mut [u64],
-    facts: &mut [u32],
-    find: &mut [u16],
-    bytes: &[u8],
-    out: &mut [u8],
-) -> Lined
-    ensures { (result.len ≤ widest)
-        × (Fair cube_kids deepest (before run kids.old facts.old find.old).tables
-        → Fair cube_kids deepest (after result.run kids.new facts.new find.new).tables
-        × (lined result kids.new facts.new find.new out.new ≡ one_of edits (before run kids.old facts.old find.old) bytes.now out.old)) }
-{
-    let root = run.root;
-    let made = edit_record(run.arena, kids, facts, find, root, bytes);
-    listing::after_record(run, made, kids, facts, find, out)
-}
+// Records of edits, with a line each.
+struct Edits;
 
-// Record i: eight bytes, or as many as are left.
-pub fn record_in(bytes: &[u8], i: usize) -> &[u8]
-    ensures { result.now ≡ record_in record_width bytes.now i }
-{
-    let len = bytes.len();
-    if len / RECORD < i {
-        return &bytes[len..];
+impl Kind for Edits {
+    ghost records = { λ _. edits };
+
+    fn width(&self) -> usize {
+        RECORD
     }
-    let from = RECORD * i;
-    if len - from < RECORD {
-        return &bytes[from..];
+
+    fn enter(
+        &self,
+        arena: Arena,
+        kids: &mut [u64],
+        facts: &mut [u32],
+        find: &mut [u16],
+        root: BlockId,
+        bytes: &[u8],
+    ) -> Made {
+        edit_record(arena, kids, facts, find, root, bytes)
     }
-    &bytes[from..from + RECORD]
+
+    fn put(&self, out: &mut [u8], number: u64, no: u32, root: BlockId) -> usize {
+        listing::put_line(out, number, no, root)
+    }
 }
 
 // Edits the whole records of `bytes`, as far as `out` has room for their lines, and writes the lines at the start of `out`.
@@ -131,20 +114,6 @@ pub fn edit_records(
         × (Fair cube_kids deepest (before run kids.old facts.old find.old).tables
         → told result kids.new facts.new find.new out.new ≡ told_of edits (before run kids.old facts.old find.old) bytes.now out.old result.records) }
 {
-    let most = listing::taken(bytes.len() / RECORD, out.len());
-    let mut now = run;
-    let mut i: usize = 0;
-    let mut len: usize = 0;
-    while i < most {
-        let lined = one(now, kids, facts, find, record_in(bytes, i), &mut out[len..]);
-        let next = lined.run;
-        now = next;
-        len += lined.len;
-        i += 1;
-    }
-    Ran {
-        run: now,
-        records: i,
-        len: len,
-    }
+    let whole = bytes.len() / RECORD;
+    listing::list_records(&Edits, whole, run, kids, facts, find, bytes, out)
 }

@@ -1,15 +1,19 @@
 -- The steps of the making, and that along the way to the cell it is the making by the cell's path.
 use mathlib.Core.Path.{◌≡◌, refl, sym, ap, ap₂, ◌∙◌, subst}
-use mathlib.Core.Bool.{Bool}
+use mathlib.Core.Bool.{Bool, true, false}
 use mathlib.Core.List.{List, [], ◌∷◌}
-use Prim.Native.Nat.{ℕ, zero, suc, ◌+◌, ◌-◌, ◌/◌, ◌%◌, ◌≤◌, ◌<◌}
+use Prim.Native.Nat.{ℕ, zero, suc, ◌+◌, ◌-◌, ◌*◌, ◌/◌, ◌%◌, ◌^◌, ◌≤◌, ◌<◌}
+use native.Mathlib.Nat.{mul-le-mul_right, div-add-mod', pow-succ', div-div-eq-div-mul}
 use native.Mathlib.Decide.{dec_lt}
 use native.Mathlib.Omega.{arith}
 use lib.Dec.{eqb}
 use lib.ListN.{length, get_or, drop}
+use mir.Val.{bool_byte}
 use borrow.Author.Tests.{eq-eqb, ne_eqb, lt-ltb, le-ltb, le-leb}
 use Rattle.basics.specs.Limits.{deepest}
+use Rattle.basics.specs.Pick.{pick}
 use Rattle.nodes.specs.Words.{Words, fact_of, word_of, nodes}
+use Rattle.nodes.specs.Tally.{one_if}
 use Rattle.nodes.specs.Values.{value_at, height_at}
 use Rattle.nodes.proofs.Sums.{cases}
 use Rattle.find_hash.specs.Hash.{home_in}
@@ -70,23 +74,7 @@ module _ (ks l₀ : List ℕ) (m₀ : ℕ) where
     unfolding placed_where
     place_end h = sym (ap (λ (x : List ℕ). placed_where l x m) (drop_none ks i eight h)) ∙ rest
 
--- ---- the loops over digits and levels
-
-module _ (path n : ℕ) where
-  abbrev pub Passes : ℕ → ℕ → Type 0
-  Passes i p = passed p (n - i) ≡ passed path n
-
-  pub pass_start : Passes 0 path
-  pass_start = let e : n - 0 ≡ n = omega arith in ap (passed path) e
-
-  module _ (i p : ℕ) (rest : Passes i p) where
-    pub pass_on : i < n → Passes (i + 1) (p / 8)
-    unfolding passed
-    pass_on h = let e : n - i ≡ suc (n - (i + 1)) = omega arith in sym (ap (passed p) e) ∙ rest
-
-    pub pass_end : n ≤ i → p ≡ passed path n
-    unfolding passed
-    pass_end h = let e : n - i ≡ 0 = omega arith in sym (ap (passed p) e) ∙ rest
+-- ---- the loop over levels
 
 module _ (ids : List ℕ) (d from path : ℕ) (o₀ : Out) where
   abbrev pub Makes : ℕ → ℕ → Out → Type 0
@@ -196,3 +184,36 @@ module _ (t : Tables) (v root : ℕ) (c : Cell) (k s : ℕ) where
       rw (le-leb d deepest deep, le-ltb d k (omega arith))
       (sym (ap (make_up w.ids d (d - m) m (passed w.path m)) (make_zero t v (path_by (octants c) m) y.0 s (hold_at m d) (1 - hold_at m d)))
       ∙ upward m y.0 0 (subst (λ (i : ℕ). Rises (W t) (octants c) w.ids d root (passed w.path m) i y.0) z y.1) (omega arith)))
+
+-- ---- numbers of bits
+
+-- a bit of a number is no more than the number
+pub bit_fits : (m c : ℕ) → m / 2 ^ c % 2 * 2 ^ c ≤ m
+bit_fits m c =
+    let low : m / 2 ^ c % 2 ≤ m / 2 ^ c = omega arith in
+    let a : m / 2 ^ c % 2 * 2 ^ c ≤ m / 2 ^ c * 2 ^ c = mul-le-mul_right (2 ^ c) low in
+    let b = div-add-mod' m (2 ^ c) in
+    omega arith
+
+-- an octal digit is three bits
+pub shift_passed : (p n : ℕ) → p / 2 ^ (3 * n) ≡ passed p n
+unfolding passed
+shift_passed p zero = let e : 2 ^ (3 * 0) ≡ 1 = refl in rw e (omega arith)
+shift_passed p (suc n) =
+    let three : 3 * suc n ≡ suc (suc (suc (3 * n))) = omega arith in
+    let eight : 2 ^ (3 * suc n) ≡ 8 * 2 ^ (3 * n) = ap (λ (k : ℕ). 2 ^ k) three ∙ omega (arith, pow-succ' 2 (suc (suc (3 * n))), pow-succ' 2 (suc (3 * n)), pow-succ' 2 (3 * n)) in
+    ap (λ (k : ℕ). p / k) eight ∙ sym (div-div-eq-div-mul p 8 (2 ^ (3 * n))) ∙ shift_passed (p / 8) n
+
+-- a flag as a number
+pub flag_one : (b : Bool) → bool_byte b ≡ one_if b
+unfolding one_if
+flag_one true = refl
+flag_one false = refl
+
+pub flag_hold : (l d : ℕ) → bool_byte (eqb l d) ≡ hold_at l d
+unfolding hold_at
+flag_hold l d = flag_pick (eqb l d)
+  where
+    flag_pick : (b : Bool) → bool_byte b ≡ pick b 1 0
+    flag_pick true = refl
+    flag_pick false = refl

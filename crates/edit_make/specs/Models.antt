@@ -13,7 +13,8 @@ use Rattle.arena.specs.Tables.{Tables, tables_of, cap, W}
 use Rattle.arena.specs.Calls.{Out, said, refused, fresh_in}
 use Rattle.arena.specs.Models.{more_of, placed_by, leaf_fresh, branch_with, top_for}
 use Rattle.edit_way.specs.declared.Way.{Way}
-use Rattle.edit_way.specs.Models.{is_end, eight_parts, hash_over}
+use Rattle.ids.specs.Ids.{is_end}
+use Rattle.edit_way.specs.Models.{eight_parts, hash_over}
 use Rattle.edit_plan.specs.Models.{planned}
 use Rattle.edit_plan.specs.declared.Plan.{Plan}
 

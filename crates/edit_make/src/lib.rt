@@ -4,20 +4,21 @@
 ghost use Rattle.std.specs.Prelude.{◌≡◌, ◌-◌, ◌*◌, ◌%◌, ◌^◌, ◌≤◌, ◌<◌, eqb};
 ghost use Rattle.basics.specs.Limits.{deepest};
 ghost use Rattle.basics.specs.Pick.{pick};
+ghost use Rattle.ids.specs.Ids.{is_end};
 ghost use Rattle.nodes.specs.Words.{fact_of};
 ghost use Rattle.nodes.specs.Tally.{one_if};
 ghost use Rattle.find_hash.specs.Hash.{home_in};
 ghost use Rattle.find.specs.Cells.{probe};
-ghost use Rattle.edit_make.specs.Models.{sum_over, height_over, resum as resum_of, placed_if, other_bits, placed_where, with_bit, types_over, mask_over, seven_placed, placed_over, leaf_anew_by, branch_anew_by, up_by, hold_at, low_of, from_of, passed as passed_of, make_up, make_on};
+ghost use Rattle.edit_make.specs.Models.{sum_over, height_over, resum as resum_of, placed_if, other_bits, placed_where, with_bit, seven_placed, placed_over, leaf_anew_by, branch_anew_by, up_by, hold_at, low_of, from_of, passed as passed_of, make_up, make_on};
 ghost use Rattle.arena.specs.Calls.{made_of, fresh_slot};
 ghost use Rattle.arena.specs.Lent.{before, made};
 ghost use Rattle.arena.specs.Models.{more_of};
 ghost use Rattle.arena.specs.Tables.{state_of};
 
 use arena::{Arena, Made, bump, more, slot_of};
-use basics::{DEEPEST, KID_WORDS, Kids};
+use basics::{DEEPEST, Kids, Refusal};
 use edit_plan::Plan;
-use edit_way::{LEVELS, Way, hash_over, is_end, part, parts, with_part};
+use edit_way::{LEVELS, Way, hash_over, part, parts, with_part};
 use find::number_from;
 use find_hash::{home_in, leaf_hash, rehash};
 use ids::BlockId;
@@ -53,8 +54,8 @@ fn leaf_anew(
 fn sum_over(facts: &[u32], id: u64) -> u32
     ensures { result ≡ sum_over (fact_of facts.now) id }
 {
-    if is_end(id) {
-        return (8 * (value_at(facts, id) as u64) % 0x1_0000_0000) as u32;
+    if BlockId(id).is_end() {
+        return 8_u32.wrapping_mul(value_at(facts, id));
     }
     fact(facts, slot_of(id), SUM)
 }
@@ -63,7 +64,7 @@ fn sum_over(facts: &[u32], id: u64) -> u32
 fn resum(sum: u32, x: u32, y: u32) -> u32
     ensures { result ≡ resum_of sum x y }
 {
-    ((sum as u64 + y as u64 + (0x1_0000_0000 - x as u64)) % 0x1_0000_0000) as u32
+    sum.wrapping_add(y).wrapping_sub(x)
 }
 
 // The height of the branch of the children ks, one of them the part y, new in a node of height g. Only if the part is too low for g are the others looked at.
@@ -99,11 +100,9 @@ fn place_where(facts: &mut [u32], ks: Kids, mask: u8)
     ensures { facts.new ≡ placed_where facts.old ks mask }
 {
     let mut bits = mask;
-    let mut i: usize = 0;
-    while i < KID_WORDS {
-        place_if(facts, ks[i], bits % 2 == 1);
-        bits = bits / 2;
-        i += 1;
+    for k in &ks {
+        place_if(facts, *k, bits % 2 == 1);
+        bits /= 2;
     }
 }
 
@@ -116,20 +115,12 @@ fn other_bits(mask: u8, c: usize) -> u8
     mask - (((mask >> n) % 2) << n)
 }
 
-// 1 if `on`, else 0.
-fn one_if(on: bool) -> u8
-    ensures { result ≡ one_if on }
-{
-    if on { 1 } else { 0 }
-}
-
 // Bit c alone if `on`, else 0.
 fn bit_if(c: usize, on: bool) -> u8
     requires { c < 8 }
     ensures { result ≡ one_if on * 2 ^ c % 2 ^ 8 }
 {
-    let n = c as u32;
-    one_if(on) << n
+    u8::from(on) << c as u32
 }
 
 // A byte with bit c as `on` says.
@@ -137,35 +128,20 @@ fn with_bit(byte: u8, c: usize, on: bool) -> u8
     requires { c < 8 }
     ensures { result ≡ with_bit byte c on }
 {
-    let others = other_bits(byte, c) as u32;
-    let bit = bit_if(c, on) as u32;
-    ((others + bit) % 256) as u8
+    other_bits(byte, c).wrapping_add(bit_if(c, on))
 }
 
-// The types of a branch with the parts of id; an end's eight are alike.
-fn types_over(id: u64) -> u8
-    ensures { result ≡ types_over id }
+// A byte with a bit for each part of id: a branch keeps it; an end's eight parts are alike, and EMPTY has no bit.
+fn byte_over(id: u64, kept: u8) -> u8
+    ensures { result ≡ pick (eqb id 0) 0 (pick (is_end id) 255 kept) }
 {
     if id == BlockId::EMPTY.0 {
-        return 0;
+        0
+    } else if BlockId(id).is_end() {
+        255
+    } else {
+        kept
     }
-    if is_end(id) {
-        return 255;
-    }
-    BlockId(id).types()
-}
-
-// And its mask.
-fn mask_over(id: u64) -> u8
-    ensures { result ≡ mask_over id }
-{
-    if id == BlockId::EMPTY.0 {
-        return 0;
-    }
-    if is_end(id) {
-        return 255;
-    }
-    BlockId(id).mask()
 }
 
 // Seven places more for the node of id; EMPTY: nothing.
@@ -176,8 +152,8 @@ fn place_seven(facts: &mut [u32], id: u64)
         return;
     }
     let s = slot_of(id);
-    let p = fact(facts, s, PLACES) as u64;
-    put_fact(facts, s, PLACES, ((p + 7) % 0x1_0000_0000) as u32);
+    let p = fact(facts, s, PLACES);
+    put_fact(facts, s, PLACES, p.wrapping_add(7));
 }
 
 // One place more for each of the parts ks of `old` but number c. The mask of a branch says which of them are not EMPTY; an end stands for all seven.
@@ -185,7 +161,7 @@ fn place_others(facts: &mut [u32], ks: Kids, old: u64, c: usize)
     requires { c < 8 }
     ensures { facts.new ≡ placed_over facts.old ks old c }
 {
-    if is_end(old) {
+    if BlockId(old).is_end() {
         place_seven(facts, old);
         return;
     }
@@ -243,8 +219,16 @@ fn branch_over(
     ensures { made_of capacity result kids.new facts.new find.new ≡ up_by (made_of capacity low kids.old facts.old find.old) old c h q }
 {
     let new = low.id.0;
-    let types = with_bit(types_over(old), c, BlockId(new).is_leaf());
-    let mask = with_bit(mask_over(old), c, !BlockId(new).is_empty());
+    let types = with_bit(
+        byte_over(old, BlockId(old).types()),
+        c,
+        BlockId(new).is_leaf(),
+    );
+    let mask = with_bit(
+        byte_over(old, BlockId(old).mask()),
+        c,
+        !BlockId(new).is_empty(),
+    );
     let ks = parts(kids, old);
     let was = part(kids, old, c);
     let hash = rehash(hash_over(facts, old), c, was, new);
@@ -256,7 +240,7 @@ fn branch_over(
     let up = height_over(facts, all, new, g);
     let total = resum(sum, x, value_at(facts, new));
     let a = Arena {
-        capacity: capacity,
+        capacity,
         slots: low.slots,
     };
     branch_anew(
@@ -268,7 +252,7 @@ fn branch_over(
 fn hold_at(l: u32, depth: u32) -> u32
     ensures { (result ≡ hold_at l depth) × (result ≤ 1) }
 {
-    if l == depth { 1 } else { 0 }
+    u32::from(l == depth)
 }
 
 // What the new branches stand over: the leaf, made anew where it is missing too, else the plan's part, which gets its place.
@@ -307,15 +291,10 @@ fn lowest_level(depth: u32, plan: Plan) -> u32
 
 // The octal digits of a path without the lowest n.
 fn passed(path: u32, n: u32) -> u32
+    requires { n ≤ deepest }
     ensures { result ≡ passed_of path n }
 {
-    let mut digits = path;
-    let mut i: u32 = 0;
-    while i < n {
-        digits = digits / 8;
-        i += 1;
-    }
-    digits
+    path >> (3 * n)
 }
 
 // From number `from` of the way upward to the root: a branch in the place of each node.
@@ -335,15 +314,21 @@ fn make_up(
 {
     let mut last = low;
     let mut digits = path;
-    let mut l = from;
-    while l < depth {
+    for l in from..depth {
         let c = (digits % 8) as usize;
-        digits = digits / 8;
-        let old = ids[l as usize];
-        l += 1;
-        let h = hold_at(l, depth);
-        let made = branch_over(capacity, last, kids, facts, find, old, c, h, 1 - h);
-        last = made;
+        digits /= 8;
+        let h = hold_at(l + 1, depth);
+        last = branch_over(
+            capacity,
+            last,
+            kids,
+            facts,
+            find,
+            ids[l as usize],
+            c,
+            h,
+            1 - h,
+        );
     }
     last
 }
@@ -363,7 +348,7 @@ pub fn make(
 {
     if DEEPEST < depth {
         return Made {
-            no: 2,
+            no: u32::from(Refusal::Depth),
             id: BlockId::INVALID,
             slots: a.slots,
         };
@@ -371,6 +356,7 @@ pub fn make(
     let low = make_lowest(a, kids, facts, find, depth, v, plan);
     let from = lowest_level(depth, plan);
     let digits = passed(way.path, from);
-    let ids = way.ids;
-    make_up(a.capacity, low, kids, facts, find, ids, digits, from, depth)
+    make_up(
+        a.capacity, low, kids, facts, find, way.ids, digits, from, depth,
+    )
 }

@@ -15,7 +15,8 @@ use Rattle.arena.specs.Tables.{Tables, cap, W}
 use Rattle.arena.specs.Calls.{all_of}
 use Rattle.arena.specs.Models.{more_of, leaf_for}
 use Rattle.edit_way.specs.declared.Way.{Way}
-use Rattle.edit_way.specs.Models.{is_end, eight_parts, hash_over}
+use Rattle.ids.specs.Ids.{is_end}
+use Rattle.edit_way.specs.Models.{eight_parts, hash_over}
 use Rattle.edit_plan.specs.declared.Plan.{Plan}
 
 abbrev pub planned : ℕ → ℕ → Plan

@@ -1,16 +1,15 @@
 // The dry run of an edit: what of the result is there already, and how many nodes are not. It changes nothing.
 #![tactic(auto)]
 
-ghost use Rattle.std.specs.Prelude.{◌≡◌, ◌≤◌, ◌<◌, eqb};
+ghost use Rattle.std.specs.Prelude.{◌≡◌, ◌≤◌, ◌<◌};
 ghost use Rattle.basics.specs.Limits.{deepest};
 ghost use Rattle.nodes.specs.Words.{fact_of};
-ghost use Rattle.arena.specs.Calls.{all_of};
 ghost use Rattle.arena.specs.Lent.{before};
 ghost use Rattle.edit_plan.specs.Models.{slot_plan, cell_plan, whole_of, need_plan, plan_up, plan_on};
 
 use arena::Arena;
-use basics::{DEEPEST, KID_WORDS, Kids};
-use edit_way::{LEVELS, Way, hash_over, is_end, part, parts, with_part};
+use basics::{DEEPEST, Kids};
+use edit_way::{LEVELS, Way, hash_over, part, parts, with_part};
 use find::{search, search_leaf};
 use find_hash::{leaf_hash, rehash};
 use ids::BlockId;
@@ -25,28 +24,11 @@ pub struct Plan {
     pub id: u64,
 }
 
-// Is each of the eight k?
-fn all_are(ks: Kids, k: u64) -> bool
-    ensures { result ≡ all_of (eqb k) ks }
-{
-    let mut i: usize = 0;
-    while i < KID_WORDS {
-        if ks[i] != k {
-            return false;
-        }
-        i += 1;
-    }
-    true
-}
-
 // Are the eight all the part s, which is EMPTY or a leaf? Then they are s, and no branch.
 fn is_whole(ks: Kids, s: u64) -> bool
     ensures { result ≡ whole_of ks s }
 {
-    if is_end(s) {
-        return all_are(ks, s);
-    }
-    false
+    BlockId(s).is_end() && ks.iter().all(|k| *k == s)
 }
 
 // The node in the slot that a search found; none found: one is to be made over the part s.
@@ -114,8 +96,7 @@ fn plan_up(
 {
     let mut below = plan_cell(a, kids, facts, find, v);
     let mut digits = path;
-    let mut l: u32 = 0;
-    while l < depth {
+    for l in 0..depth {
         if below.new != 0 {
             return Plan {
                 new: 1 + (depth - l),
@@ -123,9 +104,8 @@ fn plan_up(
             };
         }
         let c = (digits % 8) as usize;
-        digits = digits / 8;
+        digits /= 8;
         below = plan_node(a, kids, facts, find, ids[l as usize], c, below.id);
-        l += 1;
     }
     below
 }
@@ -152,6 +132,7 @@ pub fn plan_edit(
     if value_at(facts, way.end) % 65536 == v as u32 {
         return Plan { new: 0, id: root };
     }
-    let ids = way.ids;
-    plan_up(a, kids, facts, find, ids, way.path, cell.depth, v as u32)
+    plan_up(
+        a, kids, facts, find, way.ids, way.path, cell.depth, v as u32,
+    )
 }

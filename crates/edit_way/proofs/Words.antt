@@ -15,7 +15,8 @@ use Rattle.nodes.proofs.Sums.{tab_from_ext_lem}
 use Rattle.tree.specs.Tree.{Flat, Leaf, Branch, Kind, empty, leaf, branch, kind}
 use Rattle.tree.specs.Anew.{part}
 use Rattle.tree.proofs.Making.{part_flat, part_branch}
-use Rattle.edit_way.specs.Models.{is_end, eight_parts, hash_over}
+use Rattle.ids.specs.Ids.{is_end}
+use Rattle.edit_way.specs.Models.{eight_parts, hash_over}
 
 -- ---- ends
 

@@ -1,5 +1,6 @@
 -- What the functions answer, of any tables: mirrors of the code. No reader has to believe them.
-use Rattle.std.specs.Prelude.{Bool, true, List, ℕ, zero, suc, ◌+◌, ◌*◌, ◌^◌, eqb, leb, set, replicate}
+use Rattle.ids.specs.Ids.{is_end}
+use Rattle.std.specs.Prelude.{List, ℕ, zero, suc, ◌+◌, ◌*◌, leb, set, replicate}
 use Rattle.basics.specs.Limits.{deepest, kid_words}
 use Rattle.basics.specs.Pick.{pick}
 use Rattle.nodes.specs.Words.{Words, hash, slot}
@@ -9,10 +10,6 @@ use Rattle.paths.specs.declared.Cell.{Cell}
 use Rattle.paths.specs.Paths.{octant}
 use Rattle.tree.specs.Anew.{part}
 use Rattle.edit_way.specs.declared.Way.{Way}
-
--- EMPTY or a leaf, which stands for eight of itself
-unfoldable pub is_end : ℕ → Bool
-is_end a = pick (eqb a 0) true (leb (2 ^ 63) a)
 
 -- the eight parts of an id
 unfoldable pub eight_parts : Words → ℕ → List ℕ

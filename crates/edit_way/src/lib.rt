@@ -5,7 +5,7 @@ ghost use Rattle.std.specs.Prelude.{◌≡◌, ◌<◌, eqb, set};
 ghost use Rattle.basics.specs.Pick.{pick};
 ghost use Rattle.nodes.specs.Words.{kid_of, fact_of};
 ghost use Rattle.tree.specs.Anew.{part as part_of};
-ghost use Rattle.edit_way.specs.Models.{is_end, eight_parts, hash_over, way_of};
+ghost use Rattle.edit_way.specs.Models.{eight_parts, hash_over, way_of};
 
 use arena::slot_of;
 use basics::{DEEPEST, KID_WORDS, Kids};
@@ -26,24 +26,11 @@ pub struct Way {
     pub path: u32,
 }
 
-// Is the id EMPTY or a leaf, which stands for eight of itself?
-pub fn is_end(id: u64) -> bool
-    ensures { result ≡ is_end id }
-{
-    if id == BlockId::EMPTY.0 {
-        return true;
-    }
-    if LOWEST_LEAF <= id {
-        return true;
-    }
-    false
-}
-
 // Part number c of an id: a child of a branch; a leaf, and EMPTY, is each of its own parts.
 pub fn part(kids: &[u64], id: u64, c: usize) -> u64
     ensures { result ≡ part_of (kid_of kids.now) id c }
 {
-    if is_end(id) {
+    if BlockId(id).is_end() {
         return id;
     }
     kid(kids, slot_of(id), c)
@@ -53,7 +40,7 @@ pub fn part(kids: &[u64], id: u64, c: usize) -> u64
 pub fn parts(kids: &[u64], id: u64) -> Kids
     ensures { result ≡ eight_parts (kid_of kids.now) id }
 {
-    if is_end(id) {
+    if BlockId(id).is_end() {
         return [id; KID_WORDS];
     }
     children(kids, slot_of(id))
@@ -66,7 +53,8 @@ fn at_place(c: usize, i: usize, new: u64, old: u64) -> u64
     if c == i { new } else { old }
 }
 
-// The parts with number c replaced. (A row written at a variable place would go through memory; this one does not.)
+// The parts with number c replaced.
+// Kept: a row written at a variable place goes through memory, which misses the bar of speed of an edit; this one does not.
 pub fn with_part(ks: Kids, c: usize, new: u64) -> Kids
     ensures { result ≡ set ks c new }
 {
@@ -86,7 +74,7 @@ pub fn with_part(ks: Kids, c: usize, new: u64) -> Kids
 pub fn hash_over(facts: &[u32], id: u64) -> u32
     ensures { result ≡ hash_over (fact_of facts.now) id }
 {
-    if is_end(id) {
+    if BlockId(id).is_end() {
         return even_hash(id);
     }
     fact(facts, slot_of(id), HASH)
@@ -96,27 +84,19 @@ pub fn hash_over(facts: &[u32], id: u64) -> u32
 pub fn way_down(kids: &[u64], root: u64, cell: Cell) -> Way
     ensures { result ≡ way_of (kid_of kids.now) cell root }
 {
-    let mut ids = [root; LEVELS];
-    let mut at = root;
-    let mut path: u32 = 0;
+    let mut way = Way {
+        ids: [root; LEVELS],
+        end: root,
+        path: 0,
+    };
     if DEEPEST < cell.depth {
-        return Way {
-            ids: ids,
-            end: at,
-            path: path,
-        };
+        return way;
     }
-    let mut left = cell.depth;
-    while 0 < left {
-        left -= 1;
+    for left in (0..cell.depth).rev() {
         let c = octant(left, cell.x, cell.y, cell.z);
-        ids[left as usize] = at;
-        at = part(kids, at, c);
-        path = 8 * path + c as u32;
+        way.ids[left as usize] = way.end;
+        way.end = part(kids, way.end, c);
+        way.path = 8 * way.path + c as u32;
     }
-    Way {
-        ids: ids,
-        end: at,
-        path: path,
-    }
+    way
 }

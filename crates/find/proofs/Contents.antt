@@ -1,12 +1,14 @@
 -- A content compared, and the homes: a slot's home depends on its hash alone.
 use mathlib.Core.Path.{◌≡◌, refl, sym, ap, ◌∙◌, subst}
-use mathlib.Core.Bool.{Bool, true, false, true≢false}
+use mathlib.Core.Bool.{Bool, true, false, true≢false, ◌&&◌}
 use mathlib.Core.List.{List, [], ◌∷◌}
 use Prim.Native.Nat.{ℕ, zero, suc, ◌+◌, ◌-◌, ◌≤◌, ◌<◌}
 use native.Mathlib.Decide.{ℕ_discrete}
 use native.Mathlib.Omega.{arith}
 use lib.Dec.{eqb}
 use lib.ListN.{length, get_or}
+use lib.Pointwise.{pointwise}
+use native.Mathlib.Numerals.{add-one}
 use borrow.Author.Tests.{eq-eqb, ne_eqb, eqb-true}
 use Rattle.basics.specs.Pick.{pick}
 use Rattle.ids.specs.Ids.{is_leaf}
@@ -48,6 +50,22 @@ agree_words W s i (k ∷ ks) a (suc j) m =
     go : (b : Bool) → pick b (agree W s (i + 1) ks) false ≡ true → agree W s (i + 1) ks ≡ true
     go true q = q
     go false q = absurd (true≢false (sym q))
+
+-- what `==` says of the children of slot s and others
+and_rest : (b : Bool) {r s : Bool} → r ≡ s → (b && r) ≡ pick b s false
+and_rest true e = e
+and_rest false e = refl
+
+tab_same : (W : Words) (s n i : ℕ) (ks : List ℕ) → length ks ≡ n → pointwise eqb (tab_from n i (W s)) ks ≡ agree W s i ks
+unfolding tab_from agree
+tab_same W s zero i [] e = refl
+tab_same W s zero i (k ∷ ks) e = absurd (omega arith)
+tab_same W s (suc n) i [] e = absurd (omega arith)
+tab_same W s (suc n) i (k ∷ ks) e = rw add-one (and_rest (eqb (W s i) k) (tab_same W s n (suc i) ks (omega arith)))
+
+pub kids_same : (W : Words) (s : ℕ) (ks : List ℕ) → length ks ≡ 8 → pointwise eqb (kids_of 8 W s) ks ≡ agree W s 0 ks
+unfolding kids_of
+kids_same W s ks e = tab_same W s 8 0 ks e
 
 -- ---- a leaf, and a branch
 

@@ -5,7 +5,7 @@ use mathlib.Core.Path.{◌≡◌, refl, sym, ap, ◌∙◌}
 use mathlib.Core.List.{List}
 use native.Mathlib.Numerals.{add-one}
 use native.Mathlib.Omega.{arith}
-use lib.ListN.{length, get_or, set, length-set, get_or-eq_default}
+use lib.ListN.{length, get_or, set, length-set}
 use lib.Seq.{set_out}
 use lib.Dec.{eqb, leb}
 use borrow.Author.Tests.{eq-eqb, ne_eqb, le-leb, lt-leb}
@@ -60,21 +60,11 @@ module _ (same : ℕ → Bool) (t : List ℕ) (u i : ℕ) (e : u ≡ probe same 
   pub search_on : (s : ℕ) (b : Bool) → i < length t → s ≡ get_or t i 0 → (s ≡ 0 → ⊥) → b ≡ same s → b ≡ false → u ≡ probe same t (i + 1)
   search_on s b l d n q z = e ∙ probe_on same t i l (stops_not same (get_or t i 0) (λ y. n (d ∙ y)) (ap same (sym d) ∙ sym q ∙ z))
 
-  pub search_end : length t ≤ i → i ≡ u
-  search_end l = sym (e ∙ probe_end same t i l)
-
   pub search_empty : (s : ℕ) → i < length t → s ≡ get_or t i 0 → s ≡ 0 → i ≡ u
   search_empty s l d z = sym (e ∙ probe_here same t i l (stops_empty same (get_or t i 0) (sym d ∙ z)))
 
   pub search_hit : (s : ℕ) (b : Bool) → i < length t → s ≡ get_or t i 0 → b ≡ same s → b ≡ true → i ≡ u
   search_hit s b l d q z = sym (e ∙ probe_here same t i l (stops_same same (get_or t i 0) (ap same (sym d) ∙ sym q ∙ z)))
-
--- the cell where it ends names no slot
-pub none_past : (t : List ℕ) (i : ℕ) → length t ≤ i → 0 ≡ get_or t i 0
-none_past t i l = sym (get_or-eq_default t 0 l)
-
-pub none_empty : (t : List ℕ) (i s : ℕ) → s ≡ get_or t i 0 → s ≡ 0 → 0 ≡ get_or t i 0
-none_empty t i s d z = sym z ∙ d
 
 -- ---- a shift's steps
 pub shift_end : (home : ℕ → ℕ) (t : List ℕ) (i j : ℕ) → length t ≤ j → shift home t i j ≡ set t i 0

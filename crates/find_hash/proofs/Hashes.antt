@@ -1,6 +1,7 @@
 -- One child changed changes the hash by the difference of two terms; a home lies below four times the capacity.
 use Rattle.std.proofs.Common.{◌≡◌, ℕ, zero, suc, ◌+◌, ◌-◌, ◌*◌, ◌/◌, ◌%◌, ◌^◌, ◌<◌, ◌≤◌, List, [], ◌∷◌, length, get_or, set, sym, refl, ap, ◌∙◌, mod-eq_of_lt, mul_comm, div-lt_iff_lt-mul, mul-le-mul, mul-lt-mul_of_pos_right, arith, get_or-set_other, get_or-set_same, le-leb}
-use native.Mathlib.Nat.{mod-add-mod, add-mod-mod, add-mod, add-mul-mod_self_left}
+use native.Mathlib.Numerals.{add-one}
+use native.Mathlib.Nat.{mod-add-mod, add-mod, add-mul-mod_self_left}
 use native.Mathlib.Decide.{dec_lt}
 use lib.ListN.{get_or-eq_default}
 use borrow.Author.Tests.{lt-leb}
@@ -75,32 +76,26 @@ half x = omega arith
 over : (x y z m n : ℕ) → x % 2 ^ 32 ≡ m % 2 ^ 32 → y % 2 ^ 32 ≡ n % 2 ^ 32 → z ≡ (x + y) % 2 ^ 64 → z % 2 ^ 32 ≡ (m + n) % 2 ^ 32
 over x y z m n p q e = rw e (half (x + y) ∙ add-mod x y (2 ^ 32) ∙ rw (p, q) (sym (add-mod m n (2 ^ 32))))
 
--- the terms added two by two
-pub sum_code : (ks : List ℕ) (a b c d e f g h ab cd ef gh l u r : ℕ)
-    → a ≡ term 0 (get_or ks 0 0) → b ≡ term 1 (get_or ks 1 0) → c ≡ term 2 (get_or ks 2 0) → d ≡ term 3 (get_or ks 3 0)
-    → e ≡ term 4 (get_or ks 4 0) → f ≡ term 5 (get_or ks 5 0) → g ≡ term 6 (get_or ks 6 0) → h ≡ term 7 (get_or ks 7 0)
-    → ab ≡ (a + b) % 2 ^ 64 → cd ≡ (c + d) % 2 ^ 64 → ef ≡ (e + f) % 2 ^ 64 → gh ≡ (g + h) % 2 ^ 64
-    → l ≡ (ab + cd) % 2 ^ 64 → u ≡ (ef + gh) % 2 ^ 64 → r ≡ (l + u) % 2 ^ 64 → r % 2 ^ 32 ≡ kids_hash ks
-unfolding kids_hash sum_to
-sum_code ks a b c d e f g h ab cd ef gh l u r q₀ q₁ q₂ q₃ q₄ q₅ q₆ q₇ s₀ s₁ s₂ s₃ s₄ s₅ s₆ =
-    over l u r (a + b + (c + d)) (e + f + (g + h))
-    (over ab cd l (a + b) (c + d) (over a b ab a b refl refl s₀) (over c d cd c d refl refl s₁) s₄)
-    (over ef gh u (e + f) (g + h) (over e f ef e f refl refl s₂) (over g h gh g h refl refl s₃) s₅) s₆
-    ∙ ap (λ (n : ℕ). n % 2 ^ 32) (sums a b c d e f g h _ _ _ _ _ _ _ _ q₀ q₁ q₂ q₃ q₄ q₅ q₆ q₇)
-  where
-    sums : (a b c d e f g h a' b' c' d' e' f' g' h' : ℕ) → a ≡ a' → b ≡ b' → c ≡ c' → d ≡ d' → e ≡ e' → f ≡ f' → g ≡ g' → h ≡ h'
-        → a + b + (c + d) + (e + f + (g + h)) ≡ 0 + a' + b' + c' + d' + e' + f' + g' + h'
-    sums a b c d e f g h a' b' c' d' e' f' g' h' q₀ q₁ q₂ q₃ q₄ q₅ q₆ q₇ = omega arith
+-- the terms of the first children added up, one more
+module _ (ks : List ℕ) where
+  abbrev sums : ℕ → ℕ
+  sums i = sum_to i (λ j. term j (get_or ks j 0))
 
-pub change_code : (h i x y a b d r : ℕ) → a ≡ term i y → b ≡ term i x → (d + b) % 2 ^ 64 ≡ a → d < 2 ^ 64 → r ≡ (h + d) % 2 ^ 64 → r % 2 ^ 32 ≡ rekids_hash h i x y
+  pub sum_first : 0 % 2 ^ 32 ≡ sums 0 % 2 ^ 32
+  unfolding sum_to
+  sum_first = refl
+
+  pub sum_next : (i x t : ℕ) → x % 2 ^ 32 ≡ sums i % 2 ^ 32 → t ≡ term i (get_or ks i 0) → (x + t) % 2 ^ 64 % 2 ^ 32 ≡ sums (i + 1) % 2 ^ 32
+  unfolding sum_to
+  sum_next i x t e h = rw (add-one i) (over x t ((x + t) % 2 ^ 64) (sums i) (term i (get_or ks i 0)) e (ap (λ (n : ℕ). n % 2 ^ 32) h) refl)
+
+  pub sum_last : (i x : ℕ) → i ≡ 8 → x % 2 ^ 32 ≡ sums i % 2 ^ 32 → x % 2 ^ 32 ≡ kids_hash ks
+  unfolding kids_hash
+  sum_last i x q e = rw q at e
+
+pub change_code : (h i x y a b : ℕ) → a ≡ term i y → b ≡ term i x → (h + (a + (2 ^ 64 - b)) % 2 ^ 64) % 2 ^ 64 % 2 ^ 32 ≡ rekids_hash h i x y
 unfolding rekids_hash
-change_code h i x y a b d r p q e l s =
-    rw (s, ← p, ← q) (half (h + d) ∙ sym (add-mod-mod h d (2 ^ 32)) ∙ ap (λ (n : ℕ). (h + n) % 2 ^ 32) (sym (less a b d (rw q (term_low i x)) l e)) ∙ add-mod-mod h (a + (2 ^ 64 - b)) (2 ^ 32))
-  where
-    less : (a b d : ℕ) → b < 2 ^ 64 → d < 2 ^ 64 → (d + b) % 2 ^ 64 ≡ a → (a + (2 ^ 64 - b)) % 2 ^ 32 ≡ d % 2 ^ 32
-    less a b d m l e = cases (dec_lt (d + b) (2 ^ 64))
-        (λ g. let z : (d + b) % 2 ^ 64 ≡ d + b = mod-eq_of_lt g in let y : a + (2 ^ 64 - b) ≡ d + 2 ^ 32 * 2 ^ 32 = omega arith in rw y (add-mul-mod_self_left d (2 ^ 32) (2 ^ 32)))
-        (λ g. let y : a + (2 ^ 64 - b) ≡ d = omega arith in rw y)
+change_code h i x y a b p q = rw (sym p, sym q) (omega arith)
 
 -- a sum of eight equal ids
 pub even : (k : ℕ) → kids_hash (k ∷ k ∷ k ∷ k ∷ k ∷ k ∷ k ∷ k ∷ []) ≡ even_hash k
@@ -141,3 +136,20 @@ least i = omega arith
 -- none of eight
 pub none_of_lem : (i : ℕ) → (i ≡ 0 → ⊥) → (i ≡ 1 → ⊥) → (i ≡ 2 → ⊥) → (i ≡ 3 → ⊥) → (i ≡ 4 → ⊥) → (i ≡ 5 → ⊥) → (i ≡ 6 → ⊥) → (i ≡ 7 → ⊥) → 0 ≡ factor i
 none_of_lem i a b c d e f g h = factor_past i (up i 7 (up i 6 (up i 5 (up i 4 (up i 3 (up i 2 (up i 1 (up i 0 (least i) a) b) c) d) e) f) g) h)
+
+-- the terms added two by two
+pub sum_code : (ks : List ℕ) (a b c d e f g h ab cd ef gh l u r : ℕ)
+    → a ≡ term 0 (get_or ks 0 0) → b ≡ term 1 (get_or ks 1 0) → c ≡ term 2 (get_or ks 2 0) → d ≡ term 3 (get_or ks 3 0)
+    → e ≡ term 4 (get_or ks 4 0) → f ≡ term 5 (get_or ks 5 0) → g ≡ term 6 (get_or ks 6 0) → h ≡ term 7 (get_or ks 7 0)
+    → ab ≡ (a + b) % 2 ^ 64 → cd ≡ (c + d) % 2 ^ 64 → ef ≡ (e + f) % 2 ^ 64 → gh ≡ (g + h) % 2 ^ 64
+    → l ≡ (ab + cd) % 2 ^ 64 → u ≡ (ef + gh) % 2 ^ 64 → r ≡ (l + u) % 2 ^ 64 → r % 2 ^ 32 ≡ kids_hash ks
+unfolding kids_hash sum_to
+sum_code ks a b c d e f g h ab cd ef gh l u r q₀ q₁ q₂ q₃ q₄ q₅ q₆ q₇ s₀ s₁ s₂ s₃ s₄ s₅ s₆ =
+    over l u r (a + b + (c + d)) (e + f + (g + h))
+    (over ab cd l (a + b) (c + d) (over a b ab a b refl refl s₀) (over c d cd c d refl refl s₁) s₄)
+    (over ef gh u (e + f) (g + h) (over e f ef e f refl refl s₂) (over g h gh g h refl refl s₃) s₅) s₆
+    ∙ ap (λ (n : ℕ). n % 2 ^ 32) (sums a b c d e f g h _ _ _ _ _ _ _ _ q₀ q₁ q₂ q₃ q₄ q₅ q₆ q₇)
+  where
+    sums : (a b c d e f g h a' b' c' d' e' f' g' h' : ℕ) → a ≡ a' → b ≡ b' → c ≡ c' → d ≡ d' → e ≡ e' → f ≡ f' → g ≡ g' → h ≡ h'
+        → a + b + (c + d) + (e + f + (g + h)) ≡ 0 + a' + b' + c' + d' + e' + f' + g' + h'
+    sums a b c d e f g h a' b' c' d' e' f' g' h' q₀ q₁ q₂ q₃ q₄ q₅ q₆ q₇ = omega arith

@@ -5,9 +5,9 @@ ghost use Rattle.std.specs.Prelude.{◌≡◌};
 ghost use Rattle.find_hash.specs.Hash.{factor as factor_of, term as term_of, kids_hash, rekids_hash, leaf_hash, even_hash, home_in};
 
 use basics::{Kids, MOST_SLOTS, SLOT_HOMES};
-use std::num::{wrapping_add_u64, wrapping_sub_u64};
 
-// The factor of child i. (A table indexed by a variable would be written anew at each call; this one is not.)
+// The factor of child i.
+// Kept: a table indexed by a variable would be written anew at each call; this one is not.
 fn factor(i: usize) -> u64
     ensures { result ≡ factor_of i }
 {
@@ -35,11 +35,10 @@ fn term(i: usize, k: u64) -> u64
 pub fn kids_hash(ks: Kids) -> u32
     ensures { result ≡ kids_hash ks }
 {
-    let a = wrapping_add_u64(term(0, ks[0]), term(1, ks[1]));
-    let b = wrapping_add_u64(term(2, ks[2]), term(3, ks[3]));
-    let c = wrapping_add_u64(term(4, ks[4]), term(5, ks[5]));
-    let d = wrapping_add_u64(term(6, ks[6]), term(7, ks[7]));
-    let sum = wrapping_add_u64(wrapping_add_u64(a, b), wrapping_add_u64(c, d));
+    let mut sum: u64 = 0;
+    for (i, k) in ks.iter().enumerate() {
+        sum = sum.wrapping_add(term(i, *k));
+    }
     (sum % 0x1_0000_0000) as u32
 }
 
@@ -47,8 +46,8 @@ pub fn kids_hash(ks: Kids) -> u32
 pub fn rehash(hash: u32, i: usize, old: u64, new: u64) -> u32
     ensures { result ≡ rekids_hash hash i old new }
 {
-    let by = wrapping_sub_u64(term(i, new), term(i, old));
-    let sum = wrapping_add_u64(hash as u64, by);
+    let by = term(i, new).wrapping_sub(term(i, old));
+    let sum = u64::from(hash).wrapping_add(by);
     (sum % 0x1_0000_0000) as u32
 }
 
@@ -56,7 +55,7 @@ pub fn rehash(hash: u32, i: usize, old: u64, new: u64) -> u32
 pub fn leaf_hash(v: u32) -> u32
     ensures { result ≡ leaf_hash v }
 {
-    ((v as u64) * 0x9E37_79B1 % 0x1_0000_0000) as u32
+    (u64::from(v) * 0x9E37_79B1 % 0x1_0000_0000) as u32
 }
 
 // The hash of a branch with eight times one child: the factors' sum.

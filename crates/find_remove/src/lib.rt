@@ -21,29 +21,21 @@ fn home_at(facts: &[u32], capacity: usize, s: usize) -> usize
 fn erase_at(find: &mut [u16], facts: &[u32], capacity: usize, at: usize)
     ensures { find.new ≡ erase (home_at capacity (fact_of facts.now)) find.old at }
 {
-    if find.len() <= at {
+    if at >= find.len() {
         return;
     }
     let mut hole = at;
-    let mut j = at + 1;
-    loop {
-        if find.len() <= j {
-            find[hole] = 0;
-            return;
-        }
+    for j in at + 1..find.len() {
         let x = find[j];
         if x == 0 {
-            find[hole] = 0;
-            return;
+            break;
         }
-        if home_at(facts, capacity, x as usize) <= hole {
+        if home_at(facts, capacity, usize::from(x)) <= hole {
             find[hole] = x;
             hole = j;
-            j += 1;
-        } else {
-            j += 1;
         }
     }
+    find[hole] = 0;
 }
 
 // Takes slot s out of the finding table: the cell where the probe for its number from its home on ends.

@@ -1,5 +1,5 @@
 -- Ids: bit 63 is the leaf flag; bits 55 to 62 types; 47 to 54 mask; 32 to 46 generation; 0 to 31 index.
-use Rattle.std.specs.Prelude.{◌≡◌, ◌⊎◌, Bool, false, ℕ, ◌+◌, ◌-◌, ◌*◌, ◌%◌, ◌^◌, ◌≤◌, ◌<◌, eqb, leb, ltb}
+use Rattle.std.specs.Prelude.{◌≡◌, ◌⊎◌, Bool, true, false, ℕ, ◌+◌, ◌-◌, ◌*◌, ◌%◌, ◌^◌, ◌≤◌, ◌<◌, eqb, leb, ltb}
 use Rattle.basics.specs.Limits.{kid_words, last_packed}
 use Rattle.basics.specs.Pick.{pick}
 use Rattle.basics.specs.Bits.{field, bit}
@@ -33,6 +33,10 @@ is_leaf raw = eqb (leaf_flag raw) 1
 
 unfoldable pub is_branch : ℕ → Bool
 is_branch raw = eqb (leaf_flag raw) 0
+
+-- EMPTY or a leaf
+unfoldable pub is_end : ℕ → Bool
+is_end raw = pick (eqb raw 0) true (leb (2 ^ 63) raw)
 
 -- Where the Rust asserts (types, mask or has_child of an id with bit 63 set, a child number above 7) the port answers 0 or no.
 unfoldable pub types_of : ℕ → ℕ

@@ -1,21 +1,42 @@
 // The text of an id.
 #![tactic(auto)]
 
-ghost use Rattle.std.specs.Prelude.{◌≡◌, ◌+◌, ◌<◌, ◌≤◌};
+ghost use Rattle.std.specs.Prelude.{◌≡◌, ◌+◌, ◌<◌, ◌≤◌, take};
 ghost use Rattle.basics.specs.Codes.{codes};
 ghost use Rattle.basics.specs.Puts.{puts_from};
 ghost use Rattle.ids_text.specs.Text.{digit as digit_of, hex, leaf_text, branch_text, padded, id_text_of};
 
 use ids::BlockId;
+use std::fmt;
 
 // A text of at most 41 bytes; those from `len` on are 0.
-#[derive(Clone, Copy)]
+// Kept: `len` stands in no invariant, since the definition `padded` is such a value for every list, however long.
+#[derive(Clone, Copy, Debug, PartialEq, Eq)]
 pub struct IdText {
     pub bytes: [u8; 41],
     pub len: usize,
 }
 
+impl IdText {
+    // The bytes of the text alone.
+    pub fn as_bytes(&self) -> &[u8]
+        ensures { result.now ≡ take self.now.len self.now.bytes }
+    {
+        self.bytes.get(..self.len).unwrap_or(&self.bytes)
+    }
+}
+
+impl fmt::Display for IdText {
+    fn fmt<W: fmt::Write>(&self, f: &mut fmt::Formatter<W>) -> fmt::Result {
+        for byte in self.as_bytes() {
+            write!(f, "{}", char::from(*byte))?;
+        }
+        Ok(())
+    }
+}
+
 // The text form. Any 64-bit number has one.
+#[tactic(auto, using(crate::proofs::Texts::text_invalid, crate::proofs::Texts::text_empty, crate::proofs::Texts::text_leaf, crate::proofs::Texts::text_branch))]
 pub fn text(id: BlockId) -> IdText
     ensures { result ≡ id_text_of id.0 }
 {
@@ -31,6 +52,7 @@ pub fn text(id: BlockId) -> IdText
     branch_text(id.index(), id.generation(), id.mask(), id.types())
 }
 
+#[tactic(auto, unfolding(crate::specs::Text::padded))]
 fn invalid_text() -> IdText
     ensures { result ≡ padded (codes "Id(INVALID)") }
 {
@@ -40,6 +62,7 @@ fn invalid_text() -> IdText
     }
 }
 
+#[tactic(auto, unfolding(crate::specs::Text::padded))]
 fn empty_text() -> IdText
     ensures { result ≡ padded (codes "Id(EMPTY)") }
 {
@@ -49,6 +72,7 @@ fn empty_text() -> IdText
     }
 }
 
+#[tactic(auto, using(crate::proofs::Texts::leaf_written))]
 fn leaf_text(index: u32, generation: u16) -> IdText
     ensures { result ≡ padded (leaf_text index generation) }
 {
@@ -60,6 +84,7 @@ fn leaf_text(index: u32, generation: u16) -> IdText
     }
 }
 
+#[tactic(auto, using(crate::proofs::Texts::branch_written))]
 fn branch_text(index: u32, generation: u16, mask: u8, types: u8) -> IdText
     ensures { result ≡ padded (branch_text index generation mask types) }
 {
@@ -74,28 +99,27 @@ fn branch_text(index: u32, generation: u16, mask: u8, types: u8) -> IdText
 }
 
 // A capital hex digit.
+#[tactic(auto, using(crate::proofs::Texts::low_digit, crate::proofs::Texts::high_digit))]
 fn digit(d: u32) -> u8
     requires { d < 16 }
     ensures { result ≡ digit_of d }
 {
     if d < 10 {
-        return (48 + d) as u8;
+        b'0' + d as u8
+    } else {
+        b'A' + (d - 10) as u8
     }
-    (55 + d) as u8
 }
 
 // The last n hex digits of v, written from `at` on.
-fn put_hex(bytes: [u8; 41], at: usize, n: usize, v: u32) -> [u8; 41]
+fn put_hex(mut bytes: [u8; 41], at: usize, n: usize, v: u32) -> [u8; 41]
     requires { at + n ≤ 41 }
     ensures { result ≡ puts_from bytes at (hex n v) }
 {
-    let mut out = bytes;
     let mut rest = v;
-    let mut place = at + n;
-    while at < place {
-        place -= 1;
-        out[place] = digit(rest % 16);
-        rest = rest / 16;
+    for place in (at..at + n).rev() {
+        bytes[place] = digit(rest % 16);
+        rest /= 16;
     }
-    out
+    bytes
 }

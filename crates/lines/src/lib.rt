@@ -9,10 +9,8 @@ ghost use Rattle.lines.specs.Lines.{digits_of, decimal};
 fn put(out: &mut [u8], at: usize, i: usize, byte: u8)
     ensures { out.new ≡ set out.old (at + i) byte }
 {
-    if at < out.len() {
-        if i < out.len() - at {
-            out[at + i] = byte;
-        }
+    if at < out.len() && i < out.len() - at {
+        out[at + i] = byte;
     }
 }
 
@@ -20,12 +18,10 @@ fn put(out: &mut [u8], at: usize, i: usize, byte: u8)
 pub fn put_text(out: &mut [u8], at: usize, text: &[u8]) -> usize
     ensures { (out.new ≡ puts_from out.old at text.now) × (result ≡ length text.now) }
 {
-    let mut i: usize = 0;
-    while i < text.len() {
-        put(out, at, i, text[i]);
-        i += 1;
+    for (i, byte) in text.iter().enumerate() {
+        put(out, at, i, *byte);
     }
-    i
+    text.len()
 }
 
 // Writes a number in at most `left` decimal digits, and answers how many it took.

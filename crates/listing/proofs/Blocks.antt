@@ -1,16 +1,37 @@
 -- The records of a block, one after the other.
-use Rattle.std.proofs.Common.{◌≡◌, ℕ, suc, ◌+◌, ◌-◌, ◌*◌, ◌/◌, ◌<◌, ◌≤◌, List, [], ◌∷◌, ◌++◌, length, take, drop, set, sym, refl, ap, ◌∙◌, ap₂, append-nil, suc-add, zero-add, add-one, arith, length-append, length-drop, take-append-drop, drop_of_length-le, length-take-le}
+use Rattle.std.proofs.Common.{◌≡◌, ℕ, suc, ◌+◌, ◌-◌, ◌*◌, ◌/◌, ◌<◌, ◌≤◌, ◌^◌, min, take_all, List, [], ◌∷◌, ◌++◌, length, take, drop, set, sym, refl, ap, ◌∙◌, ap₂, append-nil, suc-add, zero-add, add-one, arith, length-append, length-drop, take-append-drop, drop_of_length-le, length-take-le}
+use native.Mathlib.Decide.{dec_lt}
 use borrow.Author.Rules.{part_to_end}
 use borrow.Rule.Slice.PartMut.{mid_of, put_mid, same_len_mid}
 use Rattle.basics.specs.Limits.{deepest, cube_kids}
 use Rattle.basics.specs.Puts.{puts_from}
 use Rattle.basics.proofs.Puts.{puts_append}
+use Rattle.nodes.proofs.Sums.{cases}
 use Rattle.arena.specs.Tables.{tables, state_of as arena_of}
 use Rattle.arena.specs.Calls.{Fair}
 use Rattle.listing.specs.Listing.{State, Progress, Records, state_of, widest, record_in, lined_of, state_at, line_at, lines_at, taken_of, Told, told_of}
 use Rattle.listing.specs.Models.{one_of, kept_at}
 use Rattle.listing.specs.declared.Run.{Run}
 use Rattle.listing.specs.declared.Lined.{Lined}
+
+-- ---- a record's bytes
+
+take_min : (w n : ℕ) (l : List ℕ) → n ≡ min w (length l) → take n l ≡ take w l
+take_min w n l e = cases (dec_lt w (length l))
+    (λ h. let z : n ≡ w = omega arith in ap (λ (j : ℕ). take j l) z)
+    (λ h. take_all n l (omega arith) ∙ sym (take_all w l (omega arith)))
+
+drop_min : (m from sat : ℕ) (b : List ℕ) → length b < 2 ^ 64 → sat ≡ min m 18446744073709551615 → from ≡ min sat (length b) → drop from b ≡ drop m b
+drop_min m from sat b short es e = cases (dec_lt m (length b))
+    (λ h. let z : from ≡ m = omega arith in ap (λ (j : ℕ). drop j b) z)
+    (λ h. drop_of_length-le b {i = from} (omega arith) ∙ sym (drop_of_length-le b {i = m} (omega arith)))
+
+pub record_is : (w i from sat n : ℕ) (b : List ℕ) → length b < 2 ^ 64 → sat ≡ min (w * i) 18446744073709551615 → from ≡ min sat (length b)
+    → n ≡ min w (length (take (length b - from) (drop from b))) → take n (take (length b - from) (drop from b)) ≡ record_in w b i
+unfolding record_in
+record_is w i from sat n b short es ef en =
+    let d = part_to_end b from ∙ drop_min (w * i) from sat b short es ef in
+    take_min w n (take (length b - from) (drop from b)) en ∙ ap (take w) d
 
 -- ---- a line written into the rest of the bytes
 
@@ -58,17 +79,9 @@ module _ (k : Records) (s : State) (b o₀ : List ℕ) (i : ℕ) where
 
 -- ---- how many
 
-pub taken_all : (n room m : ℕ) → m ≡ room / widest → n < m → n ≡ taken_of n room
+pub taken_is : (n room m : ℕ) → m ≡ min n (room / widest) → m ≡ taken_of n room
 unfolding taken_of
-taken_all n room m e h = omega arith
-
-pub taken_lines : (n room m : ℕ) → m ≡ room / widest → m ≤ n → m ≡ taken_of n room
-unfolding taken_of
-taken_lines n room m e h = omega arith
-
-taken_most : (n room : ℕ) → taken_of n room ≤ n
-unfolding taken_of
-taken_most n room = omega arith
+taken_is n room m e = e
 
 taken_room : (n room : ℕ) → widest * taken_of n room ≤ room
 unfolding taken_of
@@ -92,12 +105,12 @@ kept_none : (k : Records) (s : State) (b o : List ℕ) → ◌≡◌ {A = Progre
 unfolding kept_at state_at lines_at puts_from
 kept_none k s b o = refl
 
-pub loop_begun : (k : Records) (n : ℕ) (run : Run) (k₀ f₀ e₀ b o₀ : List ℕ) (most x : ℕ) → x ≡ n → most ≡ taken_of x (length o₀)
+pub loop_begun : (k : Records) (n : ℕ) (run : Run) (k₀ f₀ e₀ b o₀ : List ℕ) (most : ℕ) → most ≡ taken_of n (length o₀)
     → Loop k n run k₀ f₀ e₀ b o₀ most run k₀ f₀ e₀ o₀ 0 0
-loop_begun k n run k₀ f₀ e₀ b o₀ most x ex e = record {
+loop_begun k n run k₀ f₀ e₀ b o₀ most e = record {
   within = omega arith;
   short = omega arith;
-  many = e ∙ ap (λ (j : ℕ). taken_of j (length o₀)) ex;
+  many = e;
   kids = refl;
   facts = refl;
   find = refl;
@@ -107,10 +120,7 @@ loop_begun k n run k₀ f₀ e₀ b o₀ most x ex e = record {
 
 module _ {k : Records} {n : ℕ} {run : Run} {k₀ f₀ e₀ b o₀ : List ℕ} {most : ℕ} {now : Run} {k₁ f₁ e₁ o : List ℕ} {i len : ℕ}
     (at : Loop k n run k₀ f₀ e₀ b o₀ most now k₁ f₁ e₁ o i len) where
-  -- a record that is still to be taken is there, and there is room for its line
-  pub next_there : i < most → i < n
-  next_there h = omega (arith, taken_most n (length o₀), at.many)
-
+  -- there is room for the line of a record that is still to be taken
   pub next_room : i < most → len + widest ≤ length o
   next_room h = omega (arith, taken_room n (length o₀), at.many, at.short, at.out)
 
@@ -145,10 +155,11 @@ module _ {k : Records} {n : ℕ} {run : Run} {k₀ f₀ e₀ b o₀ : List ℕ} 
       }
 
   pub loop_told : most ≤ i
-      → (i ≡ taken_of n (length o₀))
-      × (Fair cube_kids deepest (tables (arena_of run.arena) k₀ f₀ e₀) → ◌≡◌ {A = Told} (record { state = state_of now k₁ f₁ e₁; records = i; len = len; out = o }) (told_of k (state_of run k₀ f₀ e₀) b o₀ i))
+      → (most ≡ taken_of n (length o₀))
+      × (Fair cube_kids deepest (tables (arena_of run.arena) k₀ f₀ e₀) → ◌≡◌ {A = Told} (record { state = state_of now k₁ f₁ e₁; records = most; len = len; out = o }) (told_of k (state_of run k₀ f₀ e₀) b o₀ most))
   unfolding told_of kept_at
-  loop_told h = (
-    omega (arith, at.within, at.many),
-    (λ fair. ap (λ (x : Progress). record { state = x.state; records = i; len = x.len; out = x.out }) (at.kept fair).1),
-  )
+  loop_told h =
+      let e : most ≡ i = omega (arith, at.within) in (
+        at.many,
+        (λ fair. rw e (ap (λ (x : Progress). record { state = x.state; records = i; len = x.len; out = x.out }) (at.kept fair).1)),
+      )

@@ -92,9 +92,17 @@ lined_state : (line : ℕ → ℕ → ℕ → List ℕ) (root count : ℕ) (a : 
 unfolding lined_of
 lined_state line root count a o = refl
 
--- entered, and then the run gone on: fair tables stay fair
-pub one_is : {k : Records} → Enters k → (run : Run) (kids f e rec o : List ℕ) → Bytes rec → (m : Made) (k₁ f₁ e₁ : List ℕ)
-    → (Fair cube_kids deepest (tables (arena_of run.arena) kids f e) → made_of run.arena.capacity m k₁ f₁ e₁ ≡ k.enter (tables (arena_of run.arena) kids f e) run.root.0 rec)
+-- entered: fair tables stay fair
+pub entered_is : {k : Records} → Enters k → (t : Tables) (root : ℕ) (r : List ℕ) → Bytes r → (o : Out) → (Fair cube_kids deepest t → o ≡ k.enter t root r)
+    → Fair cube_kids deepest t → Fair cube_kids deepest o.after × (o ≡ k.enter t root r)
+entered_is enters t root r bytes o entered fair =
+    let e = entered fair in
+    (subst (λ (x : Out). Fair cube_kids deepest x.after) (sym e) (enters_fair enters t root r bytes fair), e)
+
+-- and then the run gone on
+pub one_is : (k : Records) (run : Run) (kids f e rec o : List ℕ) (m : Made) (k₁ f₁ e₁ : List ℕ)
+    → (Fair cube_kids deepest (tables (arena_of run.arena) kids f e)
+    → Fair cube_kids deepest (made_of run.arena.capacity m k₁ f₁ e₁).after × (made_of run.arena.capacity m k₁ f₁ e₁ ≡ k.enter (tables (arena_of run.arena) kids f e) run.root.0 rec))
     → (r : Lined) (k₂ f₂ e₂ o₁ : List ℕ)
     → (Fair cube_kids deepest (tables (state_in run.arena.capacity m.slots) k₁ f₁ e₁)
     → ◌≡◌ {A = Progress} (record { state = state_of r.run k₂ f₂ e₂; len = r.len; out = o₁ }) (lined_of k.line run.root.0 run.count (made_of run.arena.capacity m k₁ f₁ e₁) o))
@@ -102,9 +110,8 @@ pub one_is : {k : Records} → Enters k → (run : Run) (kids f e rec o : List �
     → Fair cube_kids deepest (tables (arena_of r.run.arena) k₂ f₂ e₂)
     × (◌≡◌ {A = Progress} (record { state = state_of r.run k₂ f₂ e₂; len = r.len; out = o₁ }) (one_of k (state_of run kids f e) rec o))
 unfolding one_of answer_to
-one_is {k} enters run kids f e rec o bytes m k₁ f₁ e₁ entered r k₂ f₂ e₂ o₁ gone fair =
-    let q = entered fair in
-    let mid = subst (λ (x : Out). Fair cube_kids deepest x.after) (sym q) (enters_fair enters (tables (arena_of run.arena) kids f e) run.root.0 rec bytes fair) in
+one_is k run kids f e rec o m k₁ f₁ e₁ entered r k₂ f₂ e₂ o₁ gone fair =
+    let (mid, q) = entered fair in
     let h = gone mid in
     let state = ap (λ (x : Progress). x.state) h ∙ lined_state k.line run.root.0 run.count (made_of run.arena.capacity m k₁ f₁ e₁) o in (
       subst (λ (s : State). Fair cube_kids deepest s.tables) (sym state) (step_fair run.root.0 run.count (made_of run.arena.capacity m k₁ f₁ e₁) mid),

@@ -7,16 +7,17 @@ ghost use Rattle.basics.specs.Limits.{deepest, cube_kids};
 ghost use Rattle.basics.specs.Puts.{puts_from};
 ghost use Rattle.ids_text.specs.Text.{text_of};
 ghost use Rattle.arena.specs.Calls.{Fair};
+ghost use Rattle.arena.specs.Lent.{before as tables_before, made};
 ghost use Rattle.arena.specs.Tables.{live_in, state_of};
-ghost use Rattle.listing.specs.Lent.{handed, stepped, lined};
+ghost use Rattle.listing.specs.Lent.{before, after, handed, stepped, lined, told};
 ghost use Rattle.lines.specs.Lines.{newline};
-ghost use Rattle.listing.specs.Listing.{line_of, widest, short_of, ending_of, stepped_of, lined_of, start_of, taken_of};
+ghost use Rattle.listing.specs.Listing.{Records, line_of, widest, record_in, short_of, ending_of, stepped_of, start_of, taken_of, told_of};
+ghost use Rattle.listing.specs.Models.{one_of};
 
 use arena::{Arena, Made};
 use ids::BlockId;
 use ids_text::IdText;
 use lines::{put_number, put_text};
-use std::num::wrapping_add_u64;
 
 // A line has at most so many bytes.
 const WIDEST: usize = 84;
@@ -51,6 +52,34 @@ pub struct Lined {
     pub len: usize,
 }
 
+// Records of a kind: what a record comes to, and the line that says so.
+pub trait Kind {
+    // Their definition.
+    ghost records: { Self → Records };
+
+    // How many bytes a record has.
+    fn width(&self) -> usize
+        ensures { result ≡ (records self.now).width };
+
+    // What a record comes to, given its bytes. Fair tables stay fair.
+    fn enter(
+        &self,
+        arena: Arena,
+        kids: &mut [u64],
+        facts: &mut [u32],
+        find: &mut [u16],
+        root: BlockId,
+        bytes: &[u8],
+    ) -> Made
+        ensures { Fair cube_kids deepest (tables_before arena kids.old facts.old find.old)
+            → Fair cube_kids deepest (made arena result kids.new facts.new find.new).after
+            × (made arena result kids.new facts.new find.new ≡ (records self.now).enter (tables_before arena kids.old facts.old find.old) root.0 bytes.now) };
+
+    // Writes the line of a record, of its number, the refusal and the root, at the start of `out`; answers how many bytes it has.
+    fn put(&self, out: &mut [u8], number: u64, no: u32, root: BlockId) -> usize
+        ensures { (out.new ≡ puts_from out.old 0 ((records self.now).line number no root.0)) × (result ≡ length ((records self.now).line number no root.0)) × (result ≤ widest) };
+}
+
 // ---- writing
 
 // The text of an id, in the first bytes of an array.
@@ -66,15 +95,13 @@ fn put_id(out: &mut [u8], at: usize, id: BlockId) -> usize
     ensures { (out.new ≡ puts_from out.old at (text_of id.0 ++ (newline ∷ []))) × (result ≡ length (text_of id.0 ++ (newline ∷ []))) × (result ≤ 42) }
 {
     let text = text_of(id);
-    let bytes = text.bytes;
-    let len = text.len;
-    let a = put_text(out, at, &bytes[..len]);
+    let a = put_text(out, at, &text.bytes[..text.len]);
     let b = put_text(out, at + a, b"\n");
     a + b
 }
 
 // Writes the line of a record; answers how many bytes it has.
-fn put_line(out: &mut [u8], number: u64, no: u32, root: BlockId) -> usize
+pub fn put_line(out: &mut [u8], number: u64, no: u32, root: BlockId) -> usize
     ensures { (out.new ≡ puts_from out.old 0 (line_of number no root.0)) × (result ≡ length (line_of number no root.0)) × (result ≤ widest) }
 {
     let a = put_number(out, 0, number, b' ');
@@ -115,7 +142,7 @@ pub fn start(capacity: usize, kids: &mut [u64], facts: &mut [u32], find: &mut [u
     Step {
         run: Run {
             arena: Arena {
-                capacity: capacity,
+                capacity,
                 slots: fresh.slots,
             },
             root: BlockId::EMPTY,
@@ -129,8 +156,7 @@ pub fn start(capacity: usize, kids: &mut [u64], facts: &mut [u32], find: &mut [u
 pub fn taken(records: usize, room: usize) -> usize
     ensures { result ≡ taken_of records room }
 {
-    let lines = room / WIDEST;
-    if records < lines { records } else { lines }
+    records.min(room / WIDEST)
 }
 
 // From a run, after the answer to a record: accepted, its id is the root and the old root is released; refused, the old root stays.
@@ -138,56 +164,88 @@ pub fn step_to(run: Run, made: Made, kids: &mut [u64], facts: &mut [u32], find: 
     ensures { Fair cube_kids deepest (handed run made kids.old facts.old find.old).after
         → stepped result kids.new facts.new find.new ≡ stepped_of run.root.0 run.count (handed run made kids.old facts.old find.old) }
 {
-    let number = wrapping_add_u64(run.count, 1);
-    let capacity = run.arena.capacity;
-    let root = run.root;
-    let answered = Arena {
-        capacity: capacity,
+    let count = run.count.wrapping_add(1);
+    let arena = Arena {
+        capacity: run.arena.capacity,
         slots: made.slots,
     };
     if made.no != 0 {
         return Step {
             run: Run {
-                arena: answered,
-                root: root,
-                count: number,
+                arena,
+                root: run.root,
+                count,
             },
             no: made.no,
         };
     }
-    let released = arena_release::release(answered, kids, facts, find, root);
-    let next = made.id;
+    let released = arena_release::release(arena, kids, facts, find, run.root);
     Step {
         run: Run {
             arena: Arena {
-                capacity: capacity,
+                capacity: run.arena.capacity,
                 slots: released.slots,
             },
-            root: next,
-            count: number,
+            root: made.id,
+            count,
         },
         no: 0,
     }
 }
 
-// From a run, after the answer to a record, as above; and the record's line at the start of `out`.
-pub fn after_record(
+// Record i of records of so many bytes: as many of them as are left.
+pub fn record_in(bytes: &[u8], width: usize, i: usize) -> &[u8]
+    ensures { result.now ≡ record_in width bytes.now i }
+{
+    let from = width.saturating_mul(i).min(bytes.len());
+    let rest = &bytes[from..];
+    &rest[..width.min(rest.len())]
+}
+
+// One record, its line at the start of `out`.
+fn one<K: Kind>(
+    kind: &K,
     run: Run,
-    made: Made,
     kids: &mut [u64],
     facts: &mut [u32],
     find: &mut [u16],
+    bytes: &[u8],
     out: &mut [u8],
 ) -> Lined
     ensures { (result.len ≤ widest)
-        × (Fair cube_kids deepest (handed run made kids.old facts.old find.old).after
-        → lined result kids.new facts.new find.new out.new ≡ lined_of line_of run.root.0 run.count (handed run made kids.old facts.old find.old) out.old) }
+        × (Fair cube_kids deepest (before run kids.old facts.old find.old).tables
+        → Fair cube_kids deepest (after result.run kids.new facts.new find.new).tables
+        × (lined result kids.new facts.new find.new out.new ≡ one_of (K.records kind.now) (before run kids.old facts.old find.old) bytes.now out.old)) }
 {
+    let made = kind.enter(run.arena, kids, facts, find, run.root, bytes);
     let step = step_to(run, made, kids, facts, find);
-    let next = step.run;
-    let line = put_line(out, next.count, step.no, next.root);
-    Lined {
-        run: next,
-        len: line,
+    let len = kind.put(out, step.run.count, step.no, step.run.root);
+    Lined { run: step.run, len }
+}
+
+// Enters `count` records of `bytes`, as far as `out` has room for their lines, and writes the lines at the start of `out`.
+pub fn list_records<K: Kind>(
+    kind: &K,
+    count: usize,
+    run: Run,
+    kids: &mut [u64],
+    facts: &mut [u32],
+    find: &mut [u16],
+    bytes: &[u8],
+    out: &mut [u8],
+) -> Ran
+    ensures { (result.records ≡ taken_of count (length out.old))
+        × (Fair cube_kids deepest (before run kids.old facts.old find.old).tables
+        → told result kids.new facts.new find.new out.new ≡ told_of (K.records kind.now) (before run kids.old facts.old find.old) bytes.now out.old result.records) }
+{
+    let records = taken(count, out.len());
+    let mut run = run;
+    let mut len: usize = 0;
+    for i in 0..records {
+        let record = record_in(bytes, kind.width(), i);
+        let lined = one(kind, run, kids, facts, find, record, &mut out[len..]);
+        run = lined.run;
+        len += lined.len;
     }
+    Ran { run, records, len }
 }

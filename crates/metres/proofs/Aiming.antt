@@ -1,5 +1,5 @@
 -- What the functions that find cells cite, over what their callees answered.
-use mathlib.Core.Path.{◌≡◌, refl, sym, ap, ◌∙◌, subst}
+use mathlib.Core.Path.{◌≡◌, refl, ap, ◌∙◌, subst}
 use mathlib.Core.Bool.{Bool, true, false, not, ◌&&◌, ◌||◌}
 use mathlib.Core.List.{List}
 use Prim.Native.Nat.{ℕ, ◌+◌, ◌^◌, ◌≤◌, ◌<◌}
@@ -15,60 +15,20 @@ use Rattle.basics.specs.Limits.{deepest, finest_edge}
 use Rattle.basics.specs.Pick.{pick}
 use Rattle.metres.specs.Bits.{finite, placed, missed, cell_number, cell_of}
 use Rattle.basics.specs.Bytes.{Bytes, word64}
-use Rattle.metres.specs.Record.{kind_in, value_in, x_in, y_in, z_in, second_in, last_in, malformed, all_finite, unending, outside, point_at, said, reading_of, aim_of}
-use Rattle.metres.specs.Models.{spot_in, cells_in, cells_of, aim_at}
-use Rattle.metres.specs.declared.Coordinate.{Coordinate}
-use Rattle.metres.specs.declared.Coordinate.TheVariants.{At, Outside}
-use Rattle.metres.specs.declared.Spot.{Spot}
-use Rattle.metres.specs.declared.Spot.TheVariants.{In, Out}
-use Rattle.metres.specs.declared.Aim.{Aim}
-use Rattle.metres.specs.declared.Aim.TheVariants.{Nothing, Cells, No}
+use Rattle.metres.specs.Record.{kind_in, value_in, x_in, y_in, z_in, second_in, last_in, malformed, all_finite, unending, outside, point_at, said, reading_of, cells_at, aim_of}
+use Rattle.metres.specs.Models.{cells_in, cells_of, wanted, aim_at}
+use Rattle.std.specs.declared.option.Option.{Option}
+use Rattle.std.specs.declared.option.Option.TheVariants.{Some, None}
+use Rattle.std.specs.declared.result.Result.{Result}
+use Rattle.std.specs.declared.result.Result.TheVariants.{Ok, Err}
+use Rattle.basics.specs.declared.Refusal.{Refusal}
+use Rattle.basics.specs.declared.Refusal.TheVariants.{Depth, Position, Record, NotFinite}
+use Rattle.metres.specs.declared.Cells.{Cells}
 use Rattle.metres.specs.declared.Metres.{Metres}
 use Rattle.metres.specs.declared.Reading.{Reading}
-use Rattle.metres.specs.declared.Reading.TheVariants.{Point, Bar, Pause, Refused}
+use Rattle.metres.specs.declared.Reading.TheVariants.{Point, Bar, Pause}
 use Rattle.metres.proofs.Order.{finite_no_nan}
 use Rattle.metres.proofs.Parsing.{finite_point, finite_second, Right, pause, shot, bar, well_formed, all_finite_lem}
-
--- ---- the cell of a point, from the answers r, s and t for its coordinates
-
-module _ (a b c r : Coordinate) (e : r ≡ a) where
-  pub no_x : r ≡ Outside → Out ≡ spot_in a b c
-  unfolding spot_in
-  no_x f = rw (sym e ∙ f)
-
-  module _ (s : Coordinate) (x : ℕ) (f : r ≡ At x) (g : s ≡ b) where
-    pub no_y : s ≡ Outside → Out ≡ spot_in a b c
-    unfolding spot_in
-    no_y h = rw (sym e ∙ f, sym g ∙ h)
-
-    module _ (t : Coordinate) (y : ℕ) (h : s ≡ At y) (i : t ≡ c) where
-      pub no_z : t ≡ Outside → Out ≡ spot_in a b c
-      unfolding spot_in
-      no_z j = rw (sym e ∙ f, sym g ∙ h, sym i ∙ j)
-
-      pub in_all : (z : ℕ) → t ≡ At z → In x y z ≡ spot_in a b c
-      unfolding spot_in
-      in_all z j = rw (sym e ∙ f, sym g ∙ h, sym i ∙ j)
-
-pub ruleset spots = (no_x, no_y, no_z, in_all)
-
--- ---- the cells of a bar, from the answers r for its point and s for its second x
-
-module _ (a r : Spot) (b : Coordinate) (v : ℕ) where
-  pub no_point : r ≡ a → r ≡ Out → No 3 ≡ cells_in a b v
-  unfolding cells_in
-  no_point e f = rw (sym e ∙ f)
-
-  module _ (s : Coordinate) (x y z : ℕ) (e : r ≡ a) (f : r ≡ In x y z) where
-    pub no_second : s ≡ b → s ≡ Outside → No 3 ≡ cells_in a b v
-    unfolding cells_in
-    no_second g h = rw (sym e ∙ f, sym g ∙ h)
-
-    pub cells_all : (last : ℕ) → s ≡ b → s ≡ At last → Cells x last y z v ≡ cells_in a b v
-    unfolding cells_in
-    cells_all last g h = rw (sym e ∙ f, sym g ∙ h)
-
-pub ruleset bars = (no_point, no_second, cells_all)
 
 -- ---- what a reading asks for is what its record's bits ask for
 
@@ -81,35 +41,33 @@ pub word64_lt : (l : List ℕ) (i : ℕ) → Bytes l → word64 l i < 2 ^ 64
 word64_lt l i h = omega (arith, h i, h (i + 1), h (i + 2), h (i + 2 + 1), h (i + 4), h (i + 4 + 1), h (i + 4 + 2), h (i + 4 + 2 + 1))
 
 -- the cells of a bar, over the bits of its numbers
-abbrev cells_at : ℕ → ℕ → ℕ → ℕ → ℕ → ℕ → ℕ → Aim
-cells_at x y z w v k d = cells_in (spot_in (cell_of x k d) (cell_of y k d) (cell_of z k d)) (cell_of w k d) v
+abbrev cells_by : ℕ → ℕ → ℕ → ℕ → ℕ → ℕ → ℕ → Option Cells
+cells_by x y z w v k d = cells_in (cell_of x k d) (cell_of w k d) (cell_of y k d) (cell_of z k d) v
 
 all_or_3 : (x y z w v k d : ℕ)
-    → cells_at x y z w v k d ≡ pick (missed x k d || missed w k d || missed y k d || missed z k d) (No 3) (Cells (cell_number x k) (cell_number w k) (cell_number y k) (cell_number z k) v)
-unfolding cells_in spot_in placed
+    → wanted (cells_by x y z w v k d) ≡ pick (missed x k d || missed w k d || missed y k d || missed z k d) (Err Position) (Ok (Some (cells_at (cell_number x k) (cell_number w k) (cell_number y k) (cell_number z k) v)))
+unfolding cells_in placed
 all_or_3 x y z w v k d = go (missed x k d) (missed w k d) (missed y k d) (missed z k d)
   where
     go : (a e b c : Bool)
-        → cells_in (spot_in (pick a Outside (At (cell_number x k))) (pick b Outside (At (cell_number y k))) (pick c Outside (At (cell_number z k)))) (pick e Outside (At (cell_number w k))) v
-        ≡ pick (a || e || b || c) (No 3) (Cells (cell_number x k) (cell_number w k) (cell_number y k) (cell_number z k) v)
+        → wanted (cells_in (pick a None (Some (cell_number x k))) (pick e None (Some (cell_number w k))) (pick b None (Some (cell_number y k))) (pick c None (Some (cell_number z k))) v)
+        ≡ pick (a || e || b || c) (Err Position) (Ok (Some (cells_at (cell_number x k) (cell_number w k) (cell_number y k) (cell_number z k) v)))
     go true e b c = refl
-    go false true true c = refl
-    go false true false true = refl
-    go false true false false = refl
+    go false true b c = refl
     go false false true c = refl
     go false false false true = refl
     go false false false false = refl
 
 module _ (v x y z w k d : ℕ) (X : x < 2 ^ 64) (Y : y < 2 ^ 64) (Z : z < 2 ^ 64) (W : w < 2 ^ 64) (f : T (all_finite x y z w)) where
-  point_asks : (u : Float) (b : ℕ) → to_bits binary64 u ≡ b → cells_of (point_at x y z) u v k d ≡ cells_at x y z b v k d
+  point_asks : (u : Float) (b : ℕ) → to_bits binary64 u ≡ b → wanted (cells_of (point_at x y z) u v k d) ≡ wanted (cells_by x y z b v k d)
   point_asks u b e =
       let g = finite_point x y z w f in
       rw (bits_back x X g.0, bits_back y Y g.1, bits_back z Z g.2, e)
 
   said_asks : (kind : ℕ) → Right kind v x y z w
-      → aim_at (said kind v x y z w) k d
-      ≡ pick (not (eqb kind 0) && (missed x k d || missed (pick (eqb kind 2) w x) k d || missed y k d || missed z k d)) (No 3)
-      (pick (eqb kind 0) Nothing (Cells (cell_number x k) (cell_number (pick (eqb kind 2) w x) k) (cell_number y k) (cell_number z k) v))
+      → aim_at (Ok (said kind v x y z w)) k d
+      ≡ pick (not (eqb kind 0) && (missed x k d || missed (pick (eqb kind 2) w x) k d || missed y k d || missed z k d)) (Err Position)
+      (pick (eqb kind 0) (Ok None) (Ok (Some (cells_at (cell_number x k) (cell_number (pick (eqb kind 2) w x) k) (cell_number y k) (cell_number z k) v))))
   unfolding said aim_at
   said_asks kind (pause e a b c g h) = rw e
   said_asks kind (shot e a) = rw e (point_asks (of_bits binary64 x) x (bits_back x X (finite_point x y z w f).0) ∙ all_or_3 x y z x v k d)
@@ -117,21 +75,21 @@ module _ (v x y z w k d : ℕ) (X : x < 2 ^ 64) (Y : y < 2 ^ 64) (Z : z < 2 ^ 64
 
 module _ (l : List ℕ) (k d : ℕ) (h : Bytes l) where
   reading_asks : aim_at (reading_of l) k d
-      ≡ pick (malformed l) (No 13)
-      (pick (unending l) (No 14)
-      (pick (outside l k d) (No 3)
-      (pick (eqb (kind_in l) 0) Nothing
-      (Cells (cell_number (x_in l) k) (cell_number (last_in l) k) (cell_number (y_in l) k) (cell_number (z_in l) k) (value_in l)))))
+      ≡ pick (malformed l) (Err Record)
+      (pick (unending l) (Err NotFinite)
+      (pick (outside l k d) (Err Position)
+      (pick (eqb (kind_in l) 0) (Ok None)
+      (Ok (Some (cells_at (cell_number (x_in l) k) (cell_number (last_in l) k) (cell_number (y_in l) k) (cell_number (z_in l) k) (value_in l)))))))
   unfolding reading_of outside
   reading_asks = go (malformed l) (unending l) refl refl
     where
       go : (a b : Bool) → malformed l ≡ a → unending l ≡ b
-          → aim_at (pick a (Refused 13) (pick b (Refused 14) (said (kind_in l) (value_in l) (x_in l) (y_in l) (z_in l) (second_in l)))) k d
-          ≡ pick a (No 13)
-          (pick b (No 14)
-          (pick (outside l k d) (No 3)
-          (pick (eqb (kind_in l) 0) Nothing
-          (Cells (cell_number (x_in l) k) (cell_number (last_in l) k) (cell_number (y_in l) k) (cell_number (z_in l) k) (value_in l)))))
+          → aim_at (pick a (Err Record) (pick b (Err NotFinite) (Ok (said (kind_in l) (value_in l) (x_in l) (y_in l) (z_in l) (second_in l))))) k d
+          ≡ pick a (Err Record)
+          (pick b (Err NotFinite)
+          (pick (outside l k d) (Err Position)
+          (pick (eqb (kind_in l) 0) (Ok None)
+          (Ok (Some (cells_at (cell_number (x_in l) k) (cell_number (last_in l) k) (cell_number (y_in l) k) (cell_number (z_in l) k) (value_in l)))))))
       go true b e f = unfold aim_at in refl
       go false true e f = unfold aim_at in refl
       go false false e f =
@@ -141,30 +99,39 @@ module _ (l : List ℕ) (k d : ℕ) (h : Bytes l) where
 -- ---- `aim_of`, by its tests and by the reading
 
 module _ (l : List ℕ) (k d : ℕ) where
-  pub aim_deep : deepest < d → No 2 ≡ aim_of l k d
+  pub aim_deep : deepest < d → Err Depth ≡ aim_of l k d
   unfolding aim_of
   aim_deep h = rw (lt-ltb deepest d h)
 
-  pub aim_fine : d ≤ deepest → finest_edge < k → No 2 ≡ aim_of l k d
+  pub aim_fine : d ≤ deepest → finest_edge < k → Err Depth ≡ aim_of l k d
   unfolding aim_of
   aim_fine h g = rw (le-ltb deepest d h, lt-ltb finest_edge k g)
 
-  module _ (r : Reading) (deep : d ≤ deepest) (fine : k ≤ finest_edge) (bytes : (i : ℕ) → Fits w8 (get_or l i 0)) (e : r ≡ reading_of l) where
-    aim_by : (a : Aim) (s : Reading) → r ≡ s → a ≡ aim_at s k d → a ≡ aim_of l k d
-    unfolding aim_of
-    aim_by a s f g =
-        g ∙ ap (λ (t : Reading). aim_at t k d) (sym f ∙ e) ∙ rw (le-ltb deepest d deep, le-ltb finest_edge k fine) (reading_asks l k d (λ i. (bytes i).fits))
+  aim_by : (r : Result Reading Refusal) → d ≤ deepest → k ≤ finest_edge → ((i : ℕ) → Fits w8 (get_or l i 0)) → r ≡ reading_of l → aim_at r k d ≡ aim_of l k d
+  unfolding aim_of
+  aim_by r deep fine bytes e =
+      ap (λ (t : Result Reading Refusal). aim_at t k d) e ∙ rw (le-ltb deepest d deep, le-ltb finest_edge k fine) (reading_asks l k d (λ i. (bytes i).fits))
 
-    pub aim_point : (a : Aim) (p : Metres) (v : ℕ) → r ≡ Point p v → a ≡ cells_of p p.x v k d → a ≡ aim_of l k d
-    aim_point a p v f g = aim_by a (Point p v) f (unfold aim_at in g)
+  -- what the code made of the reading r
+  module _ (r : Result Reading Refusal) (deep : d ≤ deepest) (fine : k ≤ finest_edge) (bytes : (i : ℕ) → Fits w8 (get_or l i 0)) (e : r ≡ reading_of l) where
+    abbrev Asks : Result Reading Refusal → Type 0
+    Asks s = aim_at s k d ≡ aim_of l k d
 
-    pub aim_bar : (a : Aim) (p : Metres) (u : Float) (v : ℕ) → r ≡ Bar p u v → a ≡ cells_of p u v k d → a ≡ aim_of l k d
-    aim_bar a p u v f g = aim_by a (Bar p u v) f (unfold aim_at in g)
+    asks : (s : Result Reading Refusal) → r ≡ s → Asks s
+    asks s f = subst Asks f (aim_by r deep fine bytes e)
 
-    pub aim_pause : r ≡ Pause → Nothing ≡ aim_of l k d
-    aim_pause f = aim_by Nothing Pause f (unfold aim_at in refl)
+    pub aim_refused : (refusal : Refusal) → r ≡ Err refusal → Err refusal ≡ aim_of l k d
+    unfolding aim_at
+    aim_refused refusal f = asks (Err refusal) f
 
-    pub aim_refused : (n : ℕ) → r ≡ Refused n → No n ≡ aim_of l k d
-    aim_refused n f = aim_by (No n) (Refused n) f (unfold aim_at in refl)
+    pub aim_pause : r ≡ Ok Pause → Ok None ≡ aim_of l k d
+    unfolding aim_at
+    aim_pause f = asks (Ok Pause) f
 
-pub ruleset aims = (aim_point, aim_bar, aim_pause, aim_refused)
+    pub aim_point : (p : Metres) (v : ℕ) (m : Option Cells) → r ≡ Ok (Point p v) → m ≡ cells_of p p.x v k d → wanted m ≡ aim_of l k d
+    unfolding aim_at
+    aim_point p v m f g = ap wanted g ∙ asks (Ok (Point p v)) f
+
+    pub aim_bar : (p : Metres) (u : Float) (v : ℕ) (m : Option Cells) → r ≡ Ok (Bar p u v) → m ≡ cells_of p u v k d → wanted m ≡ aim_of l k d
+    unfolding aim_at
+    aim_bar p u v m f g = ap wanted g ∙ asks (Ok (Bar p u v)) f

@@ -7,7 +7,7 @@ use native.Mathlib.Omega.{arith}
 use lib.Pow.{pow-add, pow_pos, pow_mono, shl_lt, shl-shr, shr-shr}
 use borrow.Author.Tests.{le-leb, lt-leb, ne_eqb}
 use Rattle.metres.specs.Bits.{negative, exponent, fraction, size, units, placed}
-use Rattle.metres.specs.declared.Coordinate.TheVariants.{At, Outside}
+use Rattle.std.specs.declared.option.Option.TheVariants.{Some, None}
 
 -- ---- how large the size is that two fields say
 
@@ -41,35 +41,35 @@ side d = pow-add 2 1074 d ∙ mul_comm (2 ^ 1074) (2 ^ d)
 under : (n d : ℕ) → n < 2 ^ (1074 + d) → n / 2 ^ 1074 < 2 ^ d
 under n d h = (div-lt_iff_lt-mul (pow_pos 1074)).1 (subst (λ (k : ℕ). n < k) (side d) h)
 
-low_cell : (n d : ℕ) → n < 2 ^ 1074 → At 0 ≡ placed false n d
+low_cell : (n d : ℕ) → n < 2 ^ 1074 → Some 0 ≡ placed false n d
 unfolding placed
 low_cell n d h = rw (div-eq_of_lt h, lt-leb (2 ^ d) 0 (pow_pos d))
 
-near : (n d : ℕ) → n < 2 ^ (1074 + d) → At (n / 2 ^ 1074) ≡ placed false n d
+near : (n d : ℕ) → n < 2 ^ (1074 + d) → Some (n / 2 ^ 1074) ≡ placed false n d
 unfolding placed
 near n d h = rw (lt-leb (2 ^ d) (n / 2 ^ 1074) (under n d h))
 
-pub below_zero_lem : (n d : ℕ) → 0 < n → Outside ≡ placed true n d
+pub below_zero_lem : (n d : ℕ) → 0 < n → None ≡ placed true n d
 unfolding placed
 below_zero_lem n d h = rw (ne_eqb n 0 (go n h))
   where
     go : (n : ℕ) → 0 < n → n ≡ 0 → ⊥
     go n h e = omega arith
 
-pub far : (s : Bool) (n d : ℕ) → 2 ^ (1074 + d) ≤ n → Outside ≡ placed s n d
+pub far : (s : Bool) (n d : ℕ) → 2 ^ (1074 + d) ≤ n → None ≡ placed s n d
 unfolding placed
 far true n d h = below_zero_lem n d (lt_of_lt_of_le (pow_pos (1074 + d)) h)
 far false n d h = rw (le-leb (2 ^ d) (n / 2 ^ 1074) ((le-div_iff_mul-le (pow_pos 1074)).1 (le_trans (le_of_eq (sym (side d))) h)))
 
 -- ---- `whole`, by its tests of the bits
 
-pub zero_cell : (d : ℕ) → At 0 ≡ placed true 0 d
+pub zero_cell : (d : ℕ) → Some 0 ≡ placed true 0 d
 unfolding placed
 zero_cell d = rw (lt-leb (2 ^ d) 0 (pow_pos d))
 
-pub whole_minus_zero : (b d : ℕ) → b ≤ 2 ^ 63 → 2 ^ 63 ≤ b → At 0 ≡ placed (negative b) (units b) d
+pub whole_minus_zero : (b d : ℕ) → b ≤ 2 ^ 63 → 2 ^ 63 ≤ b → Some 0 ≡ placed (negative b) (units b) d
 unfolding size
-whole_minus_zero b d h g = let e : 2 ^ 63 ≡ b = omega arith in subst (λ (k : ℕ). At 0 ≡ placed (negative k) (units k) d) e (zero_cell d)
+whole_minus_zero b d h g = let e : 2 ^ 63 ≡ b = omega arith in subst (λ (k : ℕ). Some 0 ≡ placed (negative k) (units k) d) e (zero_cell d)
 
 -- only where both fields are 0 the number is zero
 some : (x t : ℕ) → 0 < x + t → 0 < size x t
@@ -83,7 +83,7 @@ some (suc j) t h = mul-pos (go t) (pow_pos j)
     go : (t : ℕ) → 0 < 2 ^ 52 + t
     go t = omega arith
 
-pub whole_negative : (b d : ℕ) → 2 ^ 63 < b → b < 2 ^ 64 → Outside ≡ placed (negative b) (units b) d
+pub whole_negative : (b d : ℕ) → 2 ^ 63 < b → b < 2 ^ 64 → None ≡ placed (negative b) (units b) d
 whole_negative b d h l = rw (le-leb (2 ^ 63) b (le_of_lt h)) (below_zero_lem (units b) d (some (exponent b) (fraction b) (go b h l)))
   where
     go : (b : ℕ) → 2 ^ 63 < b → b < 2 ^ 64 → 0 < b % 2 ^ 63 / 2 ^ 52 + b % 2 ^ 52
@@ -92,13 +92,13 @@ whole_negative b d h l = rw (le-leb (2 ^ 63) b (le_of_lt h)) (below_zero_lem (un
 plain : (b d : ℕ) → b < 2 ^ 63 → placed (negative b) (units b) d ≡ placed false (size (b / 2 ^ 52) (b % 2 ^ 52)) d
 plain b d h = ap (λ (s : Bool). placed s (units b) d) (lt-leb (2 ^ 63) b h) ∙ ap (λ (x : ℕ). placed false (size (x / 2 ^ 52) (b % 2 ^ 52)) d) (mod-eq_of_lt h)
 
-pub whole_low : (b d : ℕ) → b < 2 ^ 63 → b / 2 ^ 52 < 1023 → At 0 ≡ placed (negative b) (units b) d
+pub whole_low : (b d : ℕ) → b < 2 ^ 63 → b / 2 ^ 52 < 1023 → Some 0 ≡ placed (negative b) (units b) d
 whole_low b d h l = low_cell (size (b / 2 ^ 52) (b % 2 ^ 52)) d (lt_of_lt_of_le (size_lt (b / 2 ^ 52) (b % 2 ^ 52) (mod-lt b (pow_pos 52))) (pow_mono (go (b / 2 ^ 52) l))) ∙ sym (plain b d h)
   where
     go : (e : ℕ) → e < 1023 → 52 + e ≤ 1074
     go e h = omega arith
 
-pub whole_far : (b d : ℕ) → b < 2 ^ 63 → 1023 + d ≤ b / 2 ^ 52 → Outside ≡ placed (negative b) (units b) d
+pub whole_far : (b d : ℕ) → b < 2 ^ 63 → 1023 + d ≤ b / 2 ^ 52 → None ≡ placed (negative b) (units b) d
 whole_far b d h l =
     far false (size (b / 2 ^ 52) (b % 2 ^ 52)) d (le_trans (pow_mono (go (b / 2 ^ 52) d l)) (size_ge (b / 2 ^ 52) (b % 2 ^ 52) (up (b / 2 ^ 52) d l)))
     ∙ sym (plain b d h)
@@ -144,5 +144,5 @@ module _ (b d : ℕ) (h : b < 2 ^ 63) (l : 1023 ≤ b / 2 ^ 52) (u : b / 2 ^ 52 
       go : (d : ℕ) → d ≤ 10 → d ≤ 16
       go d h = omega arith
 
-  pub whole_near : At ((2 ^ 52 + b % 2 ^ 52) / 2 ^ (1075 - b / 2 ^ 52)) ≡ placed (negative b) (units b) d
-  whole_near = ap At is ∙ near (size (b / 2 ^ 52) (b % 2 ^ 52)) d within ∙ sym (plain b d h)
+  pub whole_near : Some ((2 ^ 52 + b % 2 ^ 52) / 2 ^ (1075 - b / 2 ^ 52)) ≡ placed (negative b) (units b) d
+  whole_near = ap Some is ∙ near (size (b / 2 ^ 52) (b % 2 ^ 52)) d within ∙ sym (plain b d h)

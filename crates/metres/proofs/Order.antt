@@ -1,12 +1,13 @@
 -- `<` of two f64 is `below_bits` of their bits.
 use mathlib.Core.Path.{◌≡◌, refl, sym, ap, ◌∙◌}
-use mathlib.Core.Bool.{Bool, true, false, not, ◌&&◌, cond}
+use mathlib.Core.Bool.{Bool, true, false, not, ◌&&◌, cond, true≢false}
 use Prim.Native.Nat.{ℕ, zero, suc, ◌+◌, ◌*◌, ◌/◌, ◌%◌, ◌^◌, ◌≤◌, ◌<◌}
 use native.Mathlib.Nat.{le_trans, le_of_eq, lt_of_lt_of_le, mod-lt, mul-pos, mul_comm, mul_assoc, mul_right_comm, mul-le-mul_right, le_of_mul-le-mul_right, add-mul, zero-mul}
 use native.Mathlib.Omega.{arith}
 use lib.Dec.{T, ltb, eqb}
 use lib.Pow.{pow_pos, pow_mono}
-use lib.Ieee.{Float, nan as nan_float, inf, fin, binary64, up, down, odd, lt, nan_bits, of_fields, of_bits}
+use lib.Ieee.{Float, nan as nan_float, inf, fin, binary64, up, down, odd, lt, is_nan, nan_bits, of_fields, of_bits}
+use lib.Ieee.Bits.{nan_bits_is}
 use lib.Ieee.Fits.{down_pos}
 use lib.Ieee.Scale.{finite as finite_float}
 use borrow.Author.Tests.{lt-ltb, le-ltb, ltb-true, ltb-false, eqb-true, eqb-false}
@@ -20,9 +21,6 @@ pub nan_bits_lem : (b : ℕ) → nan b ≡ nan_bits binary64 b
 unfolding nan_bits
 nan_bits_lem b = refl
 
-pub no_nan : (t : Bool) (b : ℕ) → t ≡ nan b → t ≡ false → T (not (nan_bits binary64 b))
-no_nan t b e f = rw (sym (nan_bits_lem b), sym e, f) tt
-
 pub finite_no_nan : (b : ℕ) → T (finite b) → T (not (nan_bits binary64 b))
 unfolding nan_bits
 finite_no_nan b h = go (eqb (exponent b) 2047) (not (eqb (fraction b) 0)) h
@@ -30,18 +28,6 @@ finite_no_nan b h = go (eqb (exponent b) 2047) (not (eqb (fraction b) 0)) h
     go : (a c : Bool) → T (not a) → T (not (a && c))
     go true c h = absurd h
     go false c h = tt
-
-pub nan_first : (t : Bool) (w x : ℕ) → t ≡ nan w → t ≡ true → false ≡ below_bits w x
-unfolding below_bits
-nan_first t w x e h = rw (sym e, h)
-
-pub nan_second : (t : Bool) (w x : ℕ) → t ≡ nan x → t ≡ true → false ≡ below_bits w x
-unfolding below_bits
-nan_second t w x e h = rw (sym e, h) (go (nan w))
-  where
-    go : (a : Bool) → false ≡ (not a && false && less (negative w) (units w) (negative x) (units x))
-    go true = refl
-    go false = refl
 
 -- ---- what the bits say of the value: a number of so many units, or an infinity, with more units than any number
 
@@ -178,10 +164,36 @@ sorted X Y s t n m (infinite a i) (number b j) = rw (a, i) (inf_number all m j Y
 sorted X Y s t n m (infinite a i) (infinite b j) = rw (a, b, i, j) (inf_inf all (pow_pos 2098) s t)
 
 -- Of bits that are no NaN's, `below_bits` is `<` of the numbers.
-pub below_is : (w x : ℕ) → nan w ≡ false → nan x ≡ false → lt (of_bits binary64 w) (of_bits binary64 x) ≡ below_bits w x
+below_is : (w x : ℕ) → nan w ≡ false → nan x ≡ false → lt (of_bits binary64 w) (of_bits binary64 x) ≡ below_bits w x
 unfolding below_bits
 below_is w x f g = rw (f, g) (sorted (of_bits binary64 w) (of_bits binary64 x) (negative w) (negative x) (units w) (units x) (sort w f) (sort x g))
 
--- the same, of tests that a callee made
-pub below_via : (s t : Bool) (w x : ℕ) → s ≡ nan w → s ≡ false → t ≡ nan x → t ≡ false → lt (of_bits binary64 w) (of_bits binary64 x) ≡ below_bits w x
-below_via s t w x d e f g = below_is w x (sym d ∙ e) (sym f ∙ g)
+-- a NaN is neither below nor above anything
+nan_lt : (X Y : Float) → is_nan X ≡ true → lt X Y ≡ false
+unfolding lt is_nan
+nan_lt nan_float Y h = refl
+nan_lt (inf s) Y h = absurd (true≢false (sym h))
+nan_lt (fin s m e) Y h = absurd (true≢false (sym h))
+
+lt_nan : (X Y : Float) → is_nan Y ≡ true → lt X Y ≡ false
+unfolding lt is_nan
+lt_nan nan_float nan_float h = refl
+lt_nan (inf true) nan_float h = refl
+lt_nan (inf false) nan_float h = refl
+lt_nan (fin s m e) nan_float h = refl
+lt_nan X (inf s) h = absurd (true≢false (sym h))
+lt_nan X (fin s m e) h = absurd (true≢false (sym h))
+
+is_a_nan : (b : ℕ) → nan b ≡ true → is_nan (of_bits binary64 b) ≡ true
+is_a_nan b h = sym (nan_bits_is binary64 b) ∙ sym (nan_bits_lem b) ∙ h
+
+-- `below_bits` is `<` of the numbers.
+pub below_lem : (w x : ℕ) → lt (of_bits binary64 w) (of_bits binary64 x) ≡ below_bits w x
+unfolding below_bits
+below_lem w x = go (nan w) (nan x) refl refl
+  where
+    go : (a b : Bool) → nan w ≡ a → nan x ≡ b
+        → lt (of_bits binary64 w) (of_bits binary64 x) ≡ (not (nan w) && not (nan x) && less (negative w) (units w) (negative x) (units x))
+    go true b e f = rw e (nan_lt (of_bits binary64 w) (of_bits binary64 x) (is_a_nan w e))
+    go false true e f = rw (e, f) (lt_nan (of_bits binary64 w) (of_bits binary64 x) (is_a_nan x f))
+    go false false e f = below_is w x e f

@@ -1,27 +1,23 @@
 -- What the functions that take a record apart cite, over what their callees answered.
-use mathlib.Core.Path.{◌≡◌, refl, sym, ◌∙◌}
+use mathlib.Core.Path.{◌≡◌, refl, sym}
 use mathlib.Core.Bool.{Bool, true, false, not, ◌&&◌, ◌||◌, true≢false}
 use mathlib.Core.List.{List}
-use Prim.Native.Nat.{ℕ, ◌≤◌}
+use Prim.Native.Nat.{ℕ, ◌≤◌, ◌<◌}
 use native.Mathlib.Omega.{arith}
 use lib.ListN.{length}
 use lib.Dec.{T, eqb}
-use lib.Ieee.{binary64, nan_bits, of_bits}
+use lib.Ieee.{binary64, nan_bits}
 use lib.Ieee.Fits.{and_l, and_r}
 use borrow.Author.Tests.{eq-eqb, ne_eqb, eqb-true, not-false}
 use Rattle.basics.specs.Pick.{pick}
 use Rattle.metres.specs.Bits.{finite, below_bits}
-use Rattle.metres.specs.Record.{record_bytes, kind_in, value_in, spare_in, x_in, y_in, z_in, second_in, wrong, malformed, all_finite, unending, point_at, said, reading_of}
+use Rattle.metres.specs.Record.{record_bytes, kind_in, value_in, spare_in, x_in, y_in, z_in, second_in, wrong, malformed, all_finite, unending, said, reading_of}
 use Rattle.metres.specs.Models.{judged}
-use Rattle.metres.specs.declared.Reading.{Reading}
-use Rattle.metres.specs.declared.Reading.TheVariants.{Point, Bar, Pause, Refused}
-use Rattle.metres.specs.declared.Metres.{Metres}
+use Rattle.std.specs.declared.result.Result.TheVariants.{Ok, Err}
+use Rattle.basics.specs.declared.Refusal.TheVariants.{Record, NotFinite}
 use Rattle.metres.proofs.Order.{finite_no_nan}
 
 -- ---- the four numbers are finite
-
-pub finite_four : (x y z w : ℕ) (a b c e : Bool) → a ≡ finite x → b ≡ finite y → c ≡ finite z → e ≡ finite w → a && b && c && e ≡ all_finite x y z w
-finite_four x y z w a b c e i j k l = rw (i, j, k, l)
 
 module _ (x y z w : ℕ) (f : T (all_finite x y z w)) where
   three : T (finite x && finite y && finite z)
@@ -39,52 +35,26 @@ module _ (x y z w : ℕ) (f : T (all_finite x y z w)) where
   pub second_no_nan : T (not (nan_bits binary64 w))
   second_no_nan = finite_no_nan w finite_second
 
--- ---- what the words say
-
-module _ (kind v x y z w : ℕ) where
-  pub said_pause : kind ≡ 0 → Pause ≡ said kind v x y z w
-  unfolding said
-  said_pause e = rw (eq-eqb kind 0 e)
-
-  module _ (p : Metres) (n : kind ≡ 0 → ⊥) (h : p ≡ point_at x y z) where
-    pub said_point : kind ≡ 1 → Point p v ≡ said kind v x y z w
-    unfolding said
-    said_point e = rw (ne_eqb kind 0 n, eq-eqb kind 1 e, h)
-
-    pub said_bar : (kind ≡ 1 → ⊥) → Bar p (of_bits binary64 w) v ≡ said kind v x y z w
-    unfolding said
-    said_bar e = rw (ne_eqb kind 0 n, ne_eqb kind 1 e, h)
-
 -- ---- refusals 13 and 14
 
-module _ (kind v spare x y z w : ℕ) (t f : Bool) (et : t ≡ wrong kind v x y z w) (ef : f ≡ all_finite x y z w) where
-  pub judged_13 : not (eqb spare 0) || t ≡ true → Refused 13 ≡ judged kind v spare x y z w
-  unfolding judged
-  judged_13 e = rw (sym et, e)
-
-  pub judged_14 : not (eqb spare 0) || t ≡ false → f ≡ false → Refused 14 ≡ judged kind v spare x y z w
-  unfolding judged
-  judged_14 e g = rw (sym et, e, sym ef, g)
-
-  pub judged_said : (r : Reading) → not (eqb spare 0) || t ≡ false → f ≡ true → r ≡ said kind v x y z w → r ≡ judged kind v spare x y z w
-  unfolding judged
-  judged_said r e g h = rw (sym et, e, sym ef, g) h
-
-  pub judged_finite : f ≡ true → T (all_finite x y z w)
-  judged_finite g = rw (sym ef, g) tt
+-- a number that no kind has
+pub judged_unknown : (kind v spare x y z w : ℕ) → 2 < kind → Err Record ≡ judged kind v spare x y z w
+unfolding judged wrong
+judged_unknown kind v spare x y z w h =
+    rw (ne_eqb kind 0 (λ e. omega arith), ne_eqb kind 1 (λ e. omega arith), ne_eqb kind 2 (λ e. omega arith)) (go (not (eqb spare 0)))
+  where
+    go : (b : Bool) → Err Record ≡ pick (b || true) (Err Record) (pick (not (all_finite x y z w)) (Err NotFinite) (Ok (said kind v x y z w)))
+    go true = refl
+    go false = refl
 
 module _ (l : List ℕ) where
-  pub wrong_length_lem : (length l ≡ record_bytes → ⊥) → Refused 13 ≡ reading_of l
+  pub wrong_length_lem : (length l ≡ record_bytes → ⊥) → Err Record ≡ reading_of l
   unfolding reading_of malformed
   wrong_length_lem h = rw (ne_eqb (length l) record_bytes h)
 
-  whole_record : length l ≡ record_bytes → judged (kind_in l) (value_in l) (spare_in l) (x_in l) (y_in l) (z_in l) (second_in l) ≡ reading_of l
+  pub whole_record : length l ≡ record_bytes → judged (kind_in l) (value_in l) (spare_in l) (x_in l) (y_in l) (z_in l) (second_in l) ≡ reading_of l
   unfolding judged reading_of malformed unending
   whole_record h = rw (eq-eqb (length l) record_bytes h)
-
-  pub by_words : (r : Reading) (kind v spare x y z w : ℕ) → length l ≡ record_bytes → kind ≡ kind_in l → v ≡ value_in l → spare ≡ spare_in l → x ≡ x_in l → y ≡ y_in l
-      → z ≡ z_in l → w ≡ second_in l → r ≡ judged kind v spare x y z w → r ≡ reading_of l
-  by_words r kind v spare x y z w h a b c d e f g i = i ∙ rw (a, b, c, d, e, f, g) (whole_record h)
 
 -- ---- what is left of a record that 13 and 14 do not refuse
 

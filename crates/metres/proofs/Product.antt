@@ -10,17 +10,16 @@ use lib.IntN.{ℤ, pos}
 use lib.Dec.{T, ltb, eqb, lit≤, ltb→lt, nltb→le}
 use lib.Arith.{le→nltb}
 use lib.Pow.{pow-add, pow_pos, pow_mono, shl_lt}
-use lib.Ieee.{units as grains, size as span, Float, nan, inf, fin, binary64, up, down, nearest, odd, round, mul, ne, fits, is_nan, nan_bits, of_fields, of_bits, to_bits}
+use lib.Ieee.{units as grains, size as span, Float, nan, inf, fin, binary64, up, down, nearest, odd, round, mul, fits, is_nan, nan_bits, of_fields, of_bits, to_bits}
 use lib.Ieee.Digits.{size-le, back}
 use lib.Ieee.Fits.{core, round_is, down_pos, mul-fits}
 use lib.Ieee.Exact.{HasValue, odd_sign, units_val}
 use lib.Ieee.Bits.{of_bits-to_bits, nan_bits_is, cond_no}
-use lib.Ieee.Compare.{nan_differs, differs_from_itself}
 use lib.Ieee.Scale.{finite}
 use Rattle.basics.specs.Limits.{finest_edge}
 use Rattle.metres.specs.Bits.{negative, exponent, fraction, size, units, placed, cell_of}
-use Rattle.metres.specs.declared.Coordinate.{Coordinate}
-use Rattle.metres.specs.declared.Coordinate.TheVariants.{Outside}
+use Rattle.std.specs.declared.option.Option.{Option}
+use Rattle.std.specs.declared.option.Option.TheVariants.{None}
 use Rattle.metres.proofs.Laws.{far, with_lead}
 
 -- ---- the float 2 ^ k, for the seven k
@@ -159,7 +158,7 @@ unfolding to_bits size
 at_inf true = refl
 at_inf false = refl
 
-beyond : (s : Bool) (n d : ℕ) → d ≤ 10 → 2 ^ 2098 ≤ n → Outside ≡ placed s n d
+beyond : (s : Bool) (n d : ℕ) → d ≤ 10 → 2 ^ 2098 ≤ n → None ≡ placed s n d
 beyond s n d D h = far s n d (le_trans (pow_mono (go d D)) h)
   where
     go : (d : ℕ) → d ≤ 10 → 1074 + d ≤ 2098
@@ -168,7 +167,7 @@ beyond s n d D h = far s n d (le_trans (pow_mono (go d D)) h)
 grow : (n k : ℕ) → n ≤ n * 2 ^ k
 grow n k = le_trans (le_of_eq (sym (mul-one n))) (mul-le-mul_left n (pow_pos k))
 
-nan_cell : (k d : ℕ) → d ≤ 10 → Outside ≡ cell_of (to_bits binary64 nan) k d
+nan_cell : (k d : ℕ) → d ≤ 10 → None ≡ cell_of (to_bits binary64 nan) k d
 unfolding to_bits size
 nan_cell k d D = beyond false ((2 ^ 52 + 2 ^ 51) * 2 ^ 2046 * 2 ^ k) d D (le_trans (lit≤ tt) (grow ((2 ^ 52 + 2 ^ 51) * 2 ^ 2046) k))
 
@@ -233,23 +232,22 @@ product_no_nan nan k N = absurd N
 product_no_nan (inf s) k N = subst (λ (y : Float). T (not (is_nan y))) (sym (inf_times s k)) tt
 product_no_nan (fin s m e) k N = subst (λ (y : Float). T (not (is_nan y))) (sym (mul_is s m e k)) (round_no_nan s (m * up e * (1 * 2 ^ k)) (down e * 1))
 
--- what equals itself is no NaN
-equals_itself : (x : Float) → ne x x ≡ false → T (not (is_nan x))
-unfolding is_nan
-equals_itself nan h = absurd (true≢false (sym nan_differs ∙ h))
-equals_itself (inf s) h = tt
-equals_itself (fin s m e) h = tt
-
 -- ---- `cell_of`, by its test and by what its callees answered
 
 module _ (x : Float) (k d : ℕ) where
-  pub nan_outside : d ≤ 10 → ne x x ≡ true → Outside ≡ cell_of (to_bits binary64 x) k d
-  nan_outside D h = rw (differs_from_itself x (rw h tt)) (nan_cell k d D)
+  pub nan_outside : d ≤ 10 → is_nan x ≡ true → None ≡ cell_of (to_bits binary64 x) k d
+  unfolding is_nan
+  nan_outside D h = go x h
+    where
+      go : (y : Float) → is_nan y ≡ true → None ≡ cell_of (to_bits binary64 y) k d
+      go nan h = nan_cell k d D
+      go (inf s) h = absurd (true≢false (sym h))
+      go (fin s m e) h = absurd (true≢false (sym h))
 
-  module _ (p : Float) (e : p ≡ fin false 1 (pos k)) (h : ne x x ≡ false) where
+  module _ (p : Float) (e : p ≡ fin false 1 (pos k)) (h : is_nan x ≡ false) where
     pub product_number : T (not (is_nan (mul binary64 x p)))
-    product_number = rw e (product_no_nan x k (equals_itself x h))
+    product_number = rw e (product_no_nan x k (rw h tt))
 
-    pub product_placed : (r : Coordinate) → d ≤ 10 → fits binary64 x ≡ true → r ≡ placed (negative (to_bits binary64 (mul binary64 x p))) (units (to_bits binary64 (mul binary64 x p))) d
+    pub product_placed : (r : Option ℕ) → d ≤ 10 → fits binary64 x ≡ true → r ≡ placed (negative (to_bits binary64 (mul binary64 x p))) (units (to_bits binary64 (mul binary64 x p))) d
         → r ≡ cell_of (to_bits binary64 x) k d
-    product_placed r D f g = (rw e at g) ∙ product_cell x k d D (rw f tt) (equals_itself x h)
+    product_placed r D f g = (rw e at g) ∙ product_cell x k d D (rw f tt) (rw h tt)

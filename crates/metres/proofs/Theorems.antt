@@ -18,11 +18,14 @@ use Rattle.basics.proofs.Ladder.{off, out, tells, via, ladder_given}
 use Rattle.basics.proofs.Rungs.{past_no}
 use Rattle.metres.specs.Bits.{negative, exponent, fraction, nan, finite, size, units, less, below_bits, floor_of, placed, missed, cell_number, cell_of}
 use Rattle.basics.specs.Bytes.{Bytes}
-use Rattle.metres.specs.Record.{record_bytes, kind_in, value_in, spare_in, x_in, y_in, z_in, second_in, last_in, wrong, malformed, all_finite, unending, outside, said, reading_of, fields_at, fields_in, fields_of, fields_by, struct_of, aim_of}
-use Rattle.metres.specs.Why.{Malformed, wrong_length, unknown_kind, spare_bytes, pause_value, pause_x, pause_y, pause_z, pause_second, shot_second, bar_falls, Endless, Unending, endless_x, endless_y, endless_z, endless_second, Off, below_zero, too_far, Beyond, beyond_x, beyond_y, beyond_z, beyond_second, RecordWhy, deep_record, fine_record, malformed_record, unending_record, beyond_record, aim_no, record_rungs, Floor, Aimed}
-use Rattle.metres.specs.declared.Coordinate.TheVariants.{At, Outside}
-use Rattle.metres.specs.declared.Aim.TheVariants.{Nothing, Cells, No}
-use Rattle.metres.specs.declared.Reading.TheVariants.{Refused}
+use Rattle.metres.specs.Record.{record_bytes, kind_in, value_in, spare_in, x_in, y_in, z_in, second_in, last_in, wrong, malformed, all_finite, unending, outside, said, reading_of, fields_at, fields_in, fields_of, fields_by, struct_of, cells_at, aim_of}
+use Rattle.metres.specs.declared.Cells.{Cells}
+use Rattle.metres.specs.Why.{Malformed, wrong_length, unknown_kind, spare_bytes, pause_value, pause_x, pause_y, pause_z, pause_second, shot_second, bar_falls, Endless, Unending, endless_x, endless_y, endless_z, endless_second, Off, below_zero, too_far, Beyond, beyond_x, beyond_y, beyond_z, beyond_second, RecordWhy, deep_record, fine_record, malformed_record, unending_record, beyond_record, record_rungs, Floor, Aimed}
+use Rattle.std.specs.declared.option.Option.TheVariants.{Some, None}
+use Rattle.std.specs.declared.result.Result.TheVariants.{Ok, Err}
+use Rattle.basics.specs.Refusals.{no_of}
+use Rattle.basics.specs.declared.Refusal.{Refusal}
+use Rattle.basics.specs.declared.Refusal.TheVariants.{Depth, Position, Record, NotFinite}
 use Rattle.metres.proofs.Laws.{zero_cell}
 use Rattle.metres.proofs.Numbers.{struct_fields}
 use Rattle.metres.proofs.Parsing.{both, neither, Right, pause, shot, bar, right_known, right_pause, right_second, right_bar, Formed, well_formed, all_finite_lem, finite_point, finite_second}
@@ -30,17 +33,17 @@ use Rattle.metres.proofs.Aiming.{bits_back, word64_lt}
 
 -- ---- examples: zero, minus zero, the smallest numbers of either sign, and the last cell against the next
 
-pub worked : (cell_of 0 6 6 ≡ At 0)
-    × (cell_of 0x8000_0000_0000_0000 6 6 ≡ At 0)
-    × (cell_of 1 6 6 ≡ At 0)
-    × (cell_of 0x8000_0000_0000_0001 0 6 ≡ Outside)
-    × (cell_of 0x3ff8_0000_0000_0000 1 6 ≡ At 3)
-    × (cell_of 0x404f_ffff_ffff_ffff 0 6 ≡ At 63)
-    × (cell_of 0x4050_0000_0000_0000 0 6 ≡ Outside)
-    × (cell_of 0x3fef_ffff_ffff_ffff 6 6 ≡ At 63)
-    × (cell_of 0x3ff0_0000_0000_0000 6 6 ≡ Outside)
-    × (cell_of 0x7fef_ffff_ffff_ffff 6 10 ≡ Outside)
-    × (cell_of 0xbff8_0000_0000_0000 0 6 ≡ Outside)
+pub worked : (cell_of 0 6 6 ≡ Some 0)
+    × (cell_of 0x8000_0000_0000_0000 6 6 ≡ Some 0)
+    × (cell_of 1 6 6 ≡ Some 0)
+    × (cell_of 0x8000_0000_0000_0001 0 6 ≡ None)
+    × (cell_of 0x3ff8_0000_0000_0000 1 6 ≡ Some 3)
+    × (cell_of 0x404f_ffff_ffff_ffff 0 6 ≡ Some 63)
+    × (cell_of 0x4050_0000_0000_0000 0 6 ≡ None)
+    × (cell_of 0x3fef_ffff_ffff_ffff 6 6 ≡ Some 63)
+    × (cell_of 0x3ff0_0000_0000_0000 6 6 ≡ None)
+    × (cell_of 0x7fef_ffff_ffff_ffff 6 10 ≡ None)
+    × (cell_of 0xbff8_0000_0000_0000 0 6 ≡ None)
 unfolding placed size
 worked = (refl, refl, refl, refl, refl, refl, refl, refl, refl, refl, refl)
 
@@ -116,29 +119,29 @@ module _ (b k d : ℕ) where
       lt_irrefl c (lt_of_lt_of_le f.inside (le_trans ((le-div_iff_mul-le (pow_pos 1074)).1 h) (le_of_eq e)))
 
   -- The cell of a coordinate is c exactly if c is 2 ^ k times it, rounded down, and one of the 2 ^ d cells.
-  pub cell_floor : (c : ℕ) → (cell_of b k d ≡ At c) ↔ Floor b k d c
+  pub cell_floor : (c : ℕ) → (cell_of b k d ≡ Some c) ↔ Floor b k d c
   unfolding placed
   cell_floor c = (to, from)
     where
-      to : pick (missed b k d) Outside (At (cell_number b k)) ≡ At c → Floor b k d c
+      to : pick (missed b k d) None (Some (cell_number b k)) ≡ Some c → Floor b k d c
       to e =
-          let p = past_no (missed b k d) Outside (At (cell_number b k)) (At c) (λ i. let z : ◌≡◌ {A = ℕ} 0 1 = cc in clash z) e in
+          let p = past_no (missed b k d) None (Some (cell_number b k)) (Some c) (λ i. let z : ◌≡◌ {A = ℕ} 0 1 = cc in clash z) e in
           let q : cell_number b k ≡ c = cc p.1 in
           subst (Floor b k d) q (floor_of_lem p.0)
 
-      from : Floor b k d c → pick (missed b k d) Outside (At (cell_number b k)) ≡ At c
-      from f = rw (off (missed b k d) off_decides (floor_not_off c f)) (ap At (unfloored scaled c (2 ^ 1074) (pow_pos 1074) f.reached f.passed))
+      from : Floor b k d c → pick (missed b k d) None (Some (cell_number b k)) ≡ Some c
+      from f = rw (off (missed b k d) off_decides (floor_not_off c f)) (ap Some (unfloored scaled c (2 ^ 1074) (pow_pos 1074) f.reached f.passed))
 
   -- There is none exactly if the coordinate is below zero, or 2 ^ k times it is 2 ^ d or more.
-  pub cell_outside : (cell_of b k d ≡ Outside) ↔ Off b k d
+  pub cell_outside : (cell_of b k d ≡ None) ↔ Off b k d
   unfolding placed
   cell_outside = ((λ e. off_decides.0 (go (missed b k d) e)), (λ o. rw (off_decides.1 o)))
     where
-      go : (a : Bool) → pick a Outside (At (cell_number b k)) ≡ Outside → a ≡ true
+      go : (a : Bool) → pick a None (Some (cell_number b k)) ≡ None → a ≡ true
       go true e = refl
       go false e = let z : ◌≡◌ {A = ℕ} 0 1 = cc in clash z
 
-pub minus_zero : (k d : ℕ) → cell_of 0x8000_0000_0000_0000 k d ≡ At 0
+pub minus_zero : (k d : ℕ) → cell_of 0x8000_0000_0000_0000 k d ≡ Some 0
 unfolding size
 minus_zero k d = ap (λ (n : ℕ). placed true n d) (zero-mul (2 ^ k)) ∙ sym (zero_cell d)
 
@@ -339,12 +342,12 @@ module _ (l : List ℕ) where
     record_listed j (unending_record h) = Memᴰ.tail (Memᴰ.tail (Memᴰ.head refl))
     record_listed j (beyond_record h) = Memᴰ.tail (Memᴰ.tail (Memᴰ.tail (Memᴰ.head refl)))
 
-    pub aim_ladder : aim_no (aim_of l k d) ≡ ladder (record_rungs l k d)
-    unfolding aim_of aim_no ladder
+    pub aim_ladder : no_of (aim_of l k d) ≡ ladder (record_rungs l k d)
+    unfolding aim_of ladder
     aim_ladder = go (ltb deepest d || ltb finest_edge k) (malformed l) (unending l) (outside l k d) (eqb kind 0)
       where
         go : (a b c e f : Bool)
-            → aim_no (pick a (No 2) (pick b (No 13) (pick c (No 14) (pick e (No 3) (pick f Nothing (Cells (cell_number (x_in l) k) (cell_number (last_in l) k) (cell_number (y_in l) k) (cell_number (z_in l) k) (value_in l)))))))
+            → no_of (pick a (Err Depth) (pick b (Err Record) (pick c (Err NotFinite) (pick e (Err Position) (pick f (Ok None) (Ok (Some (cells_at (cell_number (x_in l) k) (cell_number (last_in l) k) (cell_number (y_in l) k) (cell_number (z_in l) k) (value_in l)))))))))
             ≡ pick a 2 (pick b 13 (pick c 14 (pick e 3 0)))
         go true b c e f = refl
         go false true c e f = refl
@@ -354,7 +357,7 @@ module _ (l : List ℕ) where
         go false false false false false = refl
 
     -- What a record asks for is refused by 2, 13, 14 and 3, each exactly if it is the first of these that applies.
-    pub record_refusals : Given (RecordWhy l k d) (order (record_rungs l k d)) (aim_no (aim_of l k d))
+    pub record_refusals : Given (RecordWhy l k d) (order (record_rungs l k d)) (no_of (aim_of l k d))
     record_refusals = rw aim_ladder
         (ladder_given (RecordWhy l k d) (record_rungs l k d) (omega arith) record_listed (
           two,
@@ -401,9 +404,9 @@ module _ (l : List ℕ) (k d : ℕ) where
   value_lt : Bytes l → value_in l ≤ largest_value
   value_lt h = omega (arith, h 4, h 5)
 
-  module _ (first last y z v : ℕ) (e : aim_of l k d ≡ Cells first last y z v) where
-    refusal : (n : ℕ) → No n ≡ Cells first last y z v → ⊥
-    refusal n i = let q : ◌≡◌ {A = ℕ} 0 1 = cc in clash q
+  module _ (first last y z v : ℕ) (e : aim_of l k d ≡ Ok (Some (cells_at first last y z v))) where
+    refusal : (r : Refusal) → Err r ≡ Ok (Some (cells_at first last y z v)) → ⊥
+    refusal r i = let q : ◌≡◌ {A = ℕ} 0 1 = cc in clash q
 
     -- what the tests of an accepted record say
     record Accepted : Type 0 where
@@ -412,17 +415,17 @@ module _ (l : List ℕ) (k d : ℕ) where
       ends : unending l ≡ false
       placed_all : outside l k d ≡ false
       no_pause : kind_in l ≢ 0
-      same : Cells (cell_number (x_in l) k) (cell_number (last_in l) k) (cell_number (y_in l) k) (cell_number (z_in l) k) (value_in l) ≡ Cells first last y z v
+      same : cells_at (cell_number (x_in l) k) (cell_number (last_in l) k) (cell_number (y_in l) k) (cell_number (z_in l) k) (value_in l) ≡ cells_at first last y z v
 
     accepted : Accepted
     unfolding aim_of
     accepted =
-        let a = past_no (ltb deepest d || ltb finest_edge k) (No 2) _ (Cells first last y z v) (refusal 2) e in
-        let b = past_no (malformed l) (No 13) _ (Cells first last y z v) (refusal 13) a.1 in
-        let c = past_no (unending l) (No 14) _ (Cells first last y z v) (refusal 14) b.1 in
-        let f = past_no (outside l k d) (No 3) _ (Cells first last y z v) (refusal 3) c.1 in
-        let g = past_no (eqb (kind_in l) 0) Nothing _ (Cells first last y z v) (λ i. let q : ◌≡◌ {A = ℕ} 0 1 = cc in clash q) f.1 in
-        record { low = a.0; formed = b.0; ends = c.0; placed_all = f.0; no_pause = eqb-false (kind_in l) 0 g.0; same = g.1 }
+        let a = past_no (ltb deepest d || ltb finest_edge k) (Err Depth) _ (Ok (Some (cells_at first last y z v))) (refusal Depth) e in
+        let b = past_no (malformed l) (Err Record) _ (Ok (Some (cells_at first last y z v))) (refusal Record) a.1 in
+        let c = past_no (unending l) (Err NotFinite) _ (Ok (Some (cells_at first last y z v))) (refusal NotFinite) b.1 in
+        let f = past_no (outside l k d) (Err Position) _ (Ok (Some (cells_at first last y z v))) (refusal Position) c.1 in
+        let g = past_no (eqb (kind_in l) 0) (Ok None) _ (Ok (Some (cells_at first last y z v))) (λ i. let q : ◌≡◌ {A = ℕ} 0 1 = cc in clash q) f.1 in
+        record { low = a.0; formed = b.0; ends = c.0; placed_all = f.0; no_pause = eqb-false (kind_in l) 0 g.0; same = cc g.1 }
 
     -- The cells that a record asks for are the exact floors of its coordinates, inside the cube; the last x is not below the first.
     pub aim_cells : Bytes l → Aimed l k d first last y z v
@@ -430,11 +433,11 @@ module _ (l : List ℕ) (k d : ℕ) where
         let a = accepted in
         let m = all_placed l k d a.placed_all a.no_pause in
         let s = a.same in
-        let p : cell_number (x_in l) k ≡ first = cc in
-        let q : cell_number (last_in l) k ≡ last = cc in
-        let r : cell_number (y_in l) k ≡ y = cc in
-        let t : cell_number (z_in l) k ≡ z = cc in
-        let u : value_in l ≡ v = cc in
+        let p : cell_number (x_in l) k ≡ first = ap (λ (c : Cells). c.first) s in
+        let q : cell_number (last_in l) k ≡ last = ap (λ (c : Cells). c.last) s in
+        let r : cell_number (y_in l) k ≡ y = ap (λ (c : Cells). c.y) s in
+        let t : cell_number (z_in l) k ≡ z = ap (λ (c : Cells). c.z) s in
+        let u : value_in l ≡ v = ap (λ (c : Cells). c.value) s in
         record {
           first_floor = subst (Floor (x_in l) k d) p (floor_of_lem (x_in l) k d m.0);
           last_floor = subst (Floor (last_in l) k d) q (floor_of_lem (last_in l) k d m.1);
@@ -446,7 +449,7 @@ module _ (l : List ℕ) (k d : ℕ) where
         }
 
   -- A pause that 2 and 13 do not refuse asks for nothing: neither 14 nor 3 applies to it.
-  pub pause_aim : d ≤ deepest → k ≤ finest_edge → malformed l ≡ false → kind_in l ≡ 0 → aim_of l k d ≡ Nothing
+  pub pause_aim : d ≤ deepest → k ≤ finest_edge → malformed l ≡ false → kind_in l ≡ 0 → aim_of l k d ≡ Ok None
   unfolding aim_of
   pause_aim deep fine m p =
       rw (le-ltb deepest d deep, le-ltb finest_edge k fine, m, off (unending l) (fourteen l m) ends, off (outside l k d) (three l k d) stays, eq-eqb (kind_in l) 0 p)
@@ -466,7 +469,7 @@ module _ (l : List ℕ) (k d : ℕ) where
 -- ---- the numbers of a reading are those of its record
 
 module _ (v x y z w : ℕ) (X : x < 2 ^ 64) (Y : y < 2 ^ 64) (Z : z < 2 ^ 64) (W : w < 2 ^ 64) (f : T (all_finite x y z w)) where
-  said_fields : (kind : ℕ) → Right kind v x y z w → fields_of (said kind v x y z w) ≡ fields_at 0 kind v x y z w
+  said_fields : (kind : ℕ) → Right kind v x y z w → fields_of (Ok (said kind v x y z w)) ≡ fields_at 0 kind v x y z w
   unfolding said fields_of
   said_fields kind (pause e a b c g h) = rw (e, a, b, c, g, h)
   said_fields kind (shot e a) =
@@ -482,7 +485,7 @@ unfolding reading_of fields_in
 reading_fields l h = go (malformed l) (unending l) refl refl
   where
     go : (a b : Bool) → malformed l ≡ a → unending l ≡ b
-        → fields_of (pick a (Refused 13) (pick b (Refused 14) (said (kind_in l) (value_in l) (x_in l) (y_in l) (z_in l) (second_in l))))
+        → fields_of (pick a (Err Record) (pick b (Err NotFinite) (Ok (said (kind_in l) (value_in l) (x_in l) (y_in l) (z_in l) (second_in l)))))
         ≡ pick a (fields_at 13 0 0 0 0 0 0) (pick b (fields_at 14 0 0 0 0 0 0) (fields_at 0 (kind_in l) (value_in l) (x_in l) (y_in l) (z_in l) (second_in l)))
     go true b e f = unfold fields_of in refl
     go false true e f = unfold fields_of in refl

@@ -1,8 +1,7 @@
 -- An f64 by its 64 bits, and the cell that a coordinate lies in: plain arithmetic on the bits.
-use Rattle.std.specs.Prelude.{ℕ, zero, suc, ◌+◌, ◌*◌, ◌/◌, ◌%◌, ◌^◌, Bool, true, false, not, ◌&&◌, ◌||◌, leb, ltb, eqb}
+use Rattle.std.specs.Prelude.{Option, ℕ, zero, suc, ◌+◌, ◌*◌, ◌/◌, ◌%◌, ◌^◌, Bool, true, false, not, ◌&&◌, ◌||◌, leb, ltb, eqb}
+use Rattle.std.specs.declared.option.Option.TheVariants.{Some, None}
 use Rattle.basics.specs.Pick.{pick}
-use Rattle.metres.specs.declared.Coordinate.{Coordinate}
-use Rattle.metres.specs.declared.Coordinate.TheVariants.{At, Outside}
 
 -- ## The number
 
@@ -54,8 +53,8 @@ floor_of n = n / 2 ^ 1074
 abbrev pub no_cell : Bool → ℕ → ℕ → Bool
 no_cell s n d = s && not (eqb n 0) || leb (2 ^ d) (floor_of n)
 
-unfoldable pub placed : Bool → ℕ → ℕ → Coordinate
-placed s n d = pick (no_cell s n d) Outside (At (floor_of n))
+unfoldable pub placed : Bool → ℕ → ℕ → Option ℕ
+placed s n d = pick (no_cell s n d) None (Some (floor_of n))
 
 -- With an edge of 2 ^ -k metres: the coordinate with the bits b has no cell, the number of its cell, and both in one.
 abbrev pub missed : ℕ → ℕ → ℕ → Bool
@@ -64,5 +63,5 @@ missed b k d = no_cell (negative b) (units b * 2 ^ k) d
 abbrev pub cell_number : ℕ → ℕ → ℕ
 cell_number b k = floor_of (units b * 2 ^ k)
 
-abbrev pub cell_of : ℕ → ℕ → ℕ → Coordinate
+abbrev pub cell_of : ℕ → ℕ → ℕ → Option ℕ
 cell_of b k d = placed (negative b) (units b * 2 ^ k) d

@@ -1,16 +1,20 @@
 -- What a record in metres says, and the cells that it asks for, over its bytes alone.
-use Rattle.std.specs.Prelude.{Bool, true, not, ◌&&◌, ◌||◌, List, ℕ, length, ltb, eqb, Float}
+use Rattle.std.specs.Prelude.{Bool, true, not, ◌&&◌, ◌||◌, List, Option, Result, ℕ, length, ltb, eqb, Float}
 use Rattle.std.specs.Float.{binary64}
 use Rattle.std.specs.Float.Ieee.{of_bits, to_bits}
+use Rattle.std.specs.declared.option.Option.TheVariants.{Some, None}
+use Rattle.std.specs.declared.result.Result.TheVariants.{Ok, Err}
 use Rattle.basics.specs.Bytes.{word16, word32, word64}
 use Rattle.basics.specs.Limits.{deepest, finest_edge}
 use Rattle.basics.specs.Pick.{pick}
+use Rattle.basics.specs.Refusals.{number}
+use Rattle.basics.specs.declared.Refusal.{Refusal}
+use Rattle.basics.specs.declared.Refusal.TheVariants.{Depth, Position, Record, NotFinite}
 use Rattle.metres.specs.Bits.{finite, below_bits, missed, cell_number}
-use Rattle.metres.specs.declared.Aim.{Aim}
-use Rattle.metres.specs.declared.Aim.TheVariants.{Nothing, Cells, No}
+use Rattle.metres.specs.declared.Cells.{Cells}
 use Rattle.metres.specs.declared.Metres.{Metres}
 use Rattle.metres.specs.declared.Reading.{Reading}
-use Rattle.metres.specs.declared.Reading.TheVariants.{Point, Bar, Pause, Refused}
+use Rattle.metres.specs.declared.Reading.TheVariants.{Point, Bar, Pause}
 use Rattle.metres.specs.declared.ReadingFields.{ReadingFields}
 
 -- ## The record
@@ -70,11 +74,11 @@ point_at x y z = record { x = of_bits binary64 x; y = of_bits binary64 y; z = of
 unfoldable pub said : ℕ → ℕ → ℕ → ℕ → ℕ → ℕ → Reading
 said kind v x y z second = pick (eqb kind 0) Pause (pick (eqb kind 1) (Point (point_at x y z) v) (Bar (point_at x y z) (of_bits binary64 second) v))
 
-unfoldable pub reading_of : List ℕ → Reading
+unfoldable pub reading_of : List ℕ → Result Reading Refusal
 reading_of l =
-    pick (malformed l) (Refused 13)
-    (pick (unending l) (Refused 14)
-    (said (kind_in l) (value_in l) (x_in l) (y_in l) (z_in l) (second_in l)))
+    pick (malformed l) (Err Record)
+    (pick (unending l) (Err NotFinite)
+    (Ok (said (kind_in l) (value_in l) (x_in l) (y_in l) (z_in l) (second_in l))))
 
 -- ## The same in numbers: the refusal, or 0 and the record's own words
 
@@ -97,11 +101,11 @@ fields_in l =
     (fields_at 0 (kind_in l) (value_in l) (x_in l) (y_in l) (z_in l) (second_in l)))
 
 -- those of a reading: each f64 by its bits, and zeros for what it has not
-unfoldable pub fields_of : Reading → Fields
-fields_of (Point p v) = fields_at 0 1 v (to_bits binary64 p.x) (to_bits binary64 p.y) (to_bits binary64 p.z) 0
-fields_of (Bar p second v) = fields_at 0 2 v (to_bits binary64 p.x) (to_bits binary64 p.y) (to_bits binary64 p.z) (to_bits binary64 second)
-fields_of Pause = fields_at 0 0 0 0 0 0 0
-fields_of (Refused n) = fields_at n 0 0 0 0 0 0
+unfoldable pub fields_of : Result Reading Refusal → Fields
+fields_of (Ok (Point p v)) = fields_at 0 1 v (to_bits binary64 p.x) (to_bits binary64 p.y) (to_bits binary64 p.z) 0
+fields_of (Ok (Bar p second v)) = fields_at 0 2 v (to_bits binary64 p.x) (to_bits binary64 p.y) (to_bits binary64 p.z) (to_bits binary64 second)
+fields_of (Ok Pause) = fields_at 0 0 0 0 0 0 0
+fields_of (Err refusal) = fields_at (number refusal) 0 0 0 0 0 0
 
 -- the struct that has each f64 as itself, and its fields
 abbrev pub struct_at : ℕ → ℕ → ℕ → Float → Float → Float → Float → ReadingFields
@@ -114,11 +118,11 @@ fields_by r = fields_at r.no r.kind r.value (to_bits binary64 r.x) (to_bits bina
 abbrev pub zero64 : Float
 zero64 = of_bits binary64 0
 
-unfoldable pub struct_of : Reading → ReadingFields
-struct_of (Point p v) = struct_at 0 1 v p.x p.y p.z zero64
-struct_of (Bar p second v) = struct_at 0 2 v p.x p.y p.z second
-struct_of Pause = struct_at 0 0 0 zero64 zero64 zero64 zero64
-struct_of (Refused n) = struct_at n 0 0 zero64 zero64 zero64 zero64
+unfoldable pub struct_of : Result Reading Refusal → ReadingFields
+struct_of (Ok (Point p v)) = struct_at 0 1 v p.x p.y p.z zero64
+struct_of (Ok (Bar p second v)) = struct_at 0 2 v p.x p.y p.z second
+struct_of (Ok Pause) = struct_at 0 0 0 zero64 zero64 zero64 zero64
+struct_of (Err refusal) = struct_at (number refusal) 0 0 zero64 zero64 zero64 zero64
 
 -- ## What a record asks for, in a cube of side 2 ^ d with an edge of 2 ^ -k metres
 
@@ -130,12 +134,16 @@ last_in l = pick (eqb (kind_in l) 2) (second_in l) (x_in l)
 unfoldable pub outside : List ℕ → ℕ → ℕ → Bool
 outside l k d = not (eqb (kind_in l) 0) && (missed (x_in l) k d || missed (last_in l) k d || missed (y_in l) k d || missed (z_in l) k d)
 
+-- the cells from the first x to the last at y and z, with their value
+abbrev pub cells_at : ℕ → ℕ → ℕ → ℕ → ℕ → Cells
+cells_at first last y z v = record { first = first; last = last; y = y; z = z; value = v }
+
 -- refusals 2, 13, 14 and 3, in this order; then a pause asks for nothing, a shot or a bar for the cells from its first x to its last, at y and z
-unfoldable pub aim_of : List ℕ → ℕ → ℕ → Aim
+unfoldable pub aim_of : List ℕ → ℕ → ℕ → Result (Option Cells) Refusal
 aim_of l k d =
-    pick (ltb deepest d || ltb finest_edge k) (No 2)
-    (pick (malformed l) (No 13)
-    (pick (unending l) (No 14)
-    (pick (outside l k d) (No 3)
-    (pick (eqb (kind_in l) 0) Nothing
-    (Cells (cell_number (x_in l) k) (cell_number (last_in l) k) (cell_number (y_in l) k) (cell_number (z_in l) k) (value_in l))))))
+    pick (ltb deepest d || ltb finest_edge k) (Err Depth)
+    (pick (malformed l) (Err Record)
+    (pick (unending l) (Err NotFinite)
+    (pick (outside l k d) (Err Position)
+    (pick (eqb (kind_in l) 0) (Ok None)
+    (Ok (Some (cells_at (cell_number (x_in l) k) (cell_number (last_in l) k) (cell_number (y_in l) k) (cell_number (z_in l) k) (value_in l))))))))

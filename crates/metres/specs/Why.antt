@@ -3,8 +3,6 @@ use Rattle.std.specs.Prelude.{◌≡◌, ◌≢◌, Bool, true, ◌||◌, List, 
 use Rattle.basics.specs.Limits.{deepest, finest_edge, largest_value}
 use Rattle.metres.specs.Bits.{exponent, units, below_bits}
 use Rattle.metres.specs.Record.{record_bytes, kind_in, value_in, spare_in, x_in, y_in, z_in, second_in, last_in, malformed, unending, outside}
-use Rattle.metres.specs.declared.Aim.{Aim}
-use Rattle.metres.specs.declared.Aim.TheVariants.{Nothing, Cells, No}
 
 -- 13: a record not 40 bytes long, unknown kind, spare bits or bytes or a pause's value not zero, second x below first
 pub data Malformed (l : List ℕ) : Type 0 where
@@ -50,13 +48,7 @@ pub data RecordWhy (l : List ℕ) (k d : ℕ) : ℕ → Type 0 where
   unending_record : Unending l → RecordWhy l k d 14
   beyond_record : Beyond l k d → RecordWhy l k d 3
 
--- the number of what a record asks for: 0 where it is accepted
-unfoldable pub aim_no : Aim → ℕ
-aim_no Nothing = 0
-aim_no (Cells first last y z v) = 0
-aim_no (No n) = n
-
--- it as a ladder: each test with its number, in the order of the tests
+-- the number of what a record asks for as a ladder: each test with its number, in the order of the tests
 abbrev pub record_rungs : List ℕ → ℕ → ℕ → List (Bool × ℕ)
 record_rungs l k d = (ltb deepest d || ltb finest_edge k, 2) ∷ (malformed l, 13) ∷ (unending l, 14) ∷ (outside l k d, 3) ∷ []
 

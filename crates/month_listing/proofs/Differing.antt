@@ -1,7 +1,7 @@
 -- The lines of the differing cells, one after the other.
 use mathlib.Core.Path.{◌≡◌, refl, sym, ap, ◌∙◌}
 use mathlib.Core.List.{List, [], ◌∷◌, ◌++◌}
-use Prim.Native.Nat.{ℕ, zero, suc, ◌+◌, ◌-◌, ◌*◌, ◌/◌, ◌≤◌, ◌<◌}
+use Prim.Native.Nat.{ℕ, zero, suc, ◌+◌, ◌-◌, ◌*◌, ◌/◌, ◌≤◌, ◌<◌, min}
 use native.Mathlib.Numerals.{add-one}
 use native.Mathlib.Omega.{arith}
 use lib.ListN.{length, get_or, take, length-append}
@@ -65,17 +65,9 @@ cell_is {at} {a} {b} {c} {d} {e} {f} code left right cell q u v w x y z =
 
 -- ---- how many
 
-pub taken_none : (from count room : ℕ) → count < from → 0 ≡ cells_taken (count - from) room
+pub taken_is : (n s room m : ℕ) → s ≡ n → m ≡ min s (room / widest_cell) → m ≡ cells_taken n room
 unfolding cells_taken
-taken_none from count room h = omega arith
-
-pub taken_all : (from count room m : ℕ) → m ≡ room / widest_cell → count - from < m → count - from ≡ cells_taken (count - from) room
-unfolding cells_taken
-taken_all from count room m e h = omega arith
-
-pub taken_lines : (from count room m : ℕ) → m ≡ room / widest_cell → m ≤ count - from → m ≡ cells_taken (count - from) room
-unfolding cells_taken
-taken_lines from count room m e h = omega arith
+taken_is n s room m es e = omega arith
 
 taken_most : (n room : ℕ) → cells_taken n room ≤ n
 unfolding cells_taken
@@ -127,8 +119,8 @@ module _ {cs ls rs : List ℕ} {from count : ℕ} {o₀ : List ℕ} {most : ℕ}
       }
 
   pub loop_done : most ≤ i
-      → (i ≡ cells_taken (count - from) (length o₀)) × (o ≡ puts_from o₀ 0 (cell_lines cs ls rs from i)) × (len ≡ length (cell_lines cs ls rs from i))
-  loop_done h = (omega (arith, at.within, at.many), at.wrote.puts, at.wrote.long)
+      → (most ≡ cells_taken (count - from) (length o₀)) × (o ≡ puts_from o₀ 0 (cell_lines cs ls rs from most)) × (len ≡ length (cell_lines cs ls rs from most))
+  loop_done h = let e : most ≡ i = omega (arith, at.within) in (at.many, rw e at.wrote.puts, rw e at.wrote.long)
 
 -- ---- there is room: the bytes that a call writes are the lines
 

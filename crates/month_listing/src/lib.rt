@@ -2,24 +2,24 @@
 // the end. What each call answers and leaves: specs/Months.antt.
 #![tactic(auto)]
 
-ghost use Rattle.std.specs.Prelude.{◌≡◌, ℕ, ◌+◌, ◌-◌, ◌<◌, ◌≤◌, ◌^◌, List, [], ◌∷◌, ◌++◌, length, get_or};
+ghost use Rattle.std.specs.Prelude.{◌≡◌, ℕ, ◌+◌, ◌-◌, ◌<◌, ◌≤◌, ◌^◌, List, [], ◌∷◌, ◌++◌, length};
 ghost use Rattle.basics.specs.Limits.{deepest, cube_kids};
 ghost use Rattle.basics.specs.Puts.{puts_from};
 ghost use Rattle.lines.specs.Lines.{decimal, newline};
 ghost use Rattle.arena.specs.Calls.{Fair};
 ghost use Rattle.arena.specs.Tables.{live_in, state_of as arena_of};
-ghost use Rattle.listing.specs.Lent.{before, after, lined, told};
+ghost use Rattle.listing.specs.Lent.{before, told};
 ghost use Rattle.listing.specs.Listing.{widest, state_of, taken_of, told_of};
-ghost use Rattle.listing.specs.Models.{one_of};
 ghost use Rattle.edit_listing.specs.Listing.{whole_in};
 ghost use Rattle.month_listing.specs.Months.{side_word, refused_line, sided, short_line, second_side, cell_line, cell_lines, widest_cell, cells_taken, refusal_line, closing_of};
 
+use arena::{Arena, Made};
 use compare::Compared;
-use edit_listing::{DEPTH, RECORD, edit_record, record_in};
+use edit_listing::{DEPTH, RECORD, edit_record};
 use ids::BlockId;
 use lines::{put_number, put_text};
-use listing::{Lined, Ran, Run};
-use paths::{decode_child_index_path, to_cell};
+use listing::{Kind, Ran, Run};
+use paths::{IVec3, decode_child_index_path, to_cell};
 
 // The line of a cell has at most so many bytes.
 const WIDEST_CELL: usize = 126;
@@ -63,29 +63,27 @@ fn put_refused(out: &mut [u8], side: Side, number: u64, no: u32) -> usize
     a + b + c
 }
 
-// One record, its line at the start of `out`.
-fn one(
-    side: Side,
-    run: Run,
-    kids: &mut [u64],
-    facts: &mut [u32],
-    find: &mut [u16],
-    bytes: &[u8],
-    out: &mut [u8],
-) -> Lined
-    ensures { (result.len ≤ widest)
-        × (Fair cube_kids deepest (before run kids.old facts.old find.old).tables
-        → Fair cube_kids deepest (after result.run kids.new facts.new find.new).tables
-        × (lined result kids.new facts.new find.new out.new ≡ one_of (sided side) (before run kids.old facts.old find.old) bytes.now out.old)) }
-{
-    let root = run.root;
-    let made = edit_record(run.arena, kids, facts, find, root, bytes);
-    let step = listing::step_to(run, made, kids, facts, find);
-    let next = step.run;
-    let len = put_refused(out, side, next.count, step.no);
-    Lined {
-        run: next,
-        len: len,
+impl Kind for Side {
+    ghost records = { λ side. sided side };
+
+    fn width(&self) -> usize {
+        RECORD
+    }
+
+    fn enter(
+        &self,
+        arena: Arena,
+        kids: &mut [u64],
+        facts: &mut [u32],
+        find: &mut [u16],
+        root: BlockId,
+        bytes: &[u8],
+    ) -> Made {
+        edit_record(arena, kids, facts, find, root, bytes)
+    }
+
+    fn put(&self, out: &mut [u8], number: u64, no: u32, _root: BlockId) -> usize {
+        put_refused(out, *self, number, no)
     }
 }
 
@@ -103,30 +101,8 @@ pub fn side_records(
         × (Fair cube_kids deepest (before run kids.old facts.old find.old).tables
         → told result kids.new facts.new find.new out.new ≡ told_of (sided side) (before run kids.old facts.old find.old) bytes.now out.old result.records) }
 {
-    let most = listing::taken(bytes.len() / RECORD, out.len());
-    let mut now = run;
-    let mut i: usize = 0;
-    let mut len: usize = 0;
-    while i < most {
-        let lined = one(
-            side,
-            now,
-            kids,
-            facts,
-            find,
-            record_in(bytes, i),
-            &mut out[len..],
-        );
-        let next = lined.run;
-        now = next;
-        len += lined.len;
-        i += 1;
-    }
-    Ran {
-        run: now,
-        records: i,
-        len: len,
-    }
+    let whole = bytes.len() / RECORD;
+    listing::list_records(&side, whole, run, kids, facts, find, bytes, out)
 }
 
 // Writes the line of a side's cut last record of `cut` bytes, if there is one; answers how many bytes it has.
@@ -146,9 +122,8 @@ pub fn side_short(side: Side, cut: usize, out: &mut [u8]) -> usize
 pub fn second_side(first: Run) -> Run
     ensures { (k f e : List ℕ) → state_of result k f e ≡ second_side (state_of first k f e) }
 {
-    let arena = first.arena;
     Run {
-        arena: arena,
+        arena: first.arena,
         root: BlockId::EMPTY,
         count: 0,
     }
@@ -156,32 +131,12 @@ pub fn second_side(first: Run) -> Run
 
 // ---- the lines of the comparison
 
-// A number of a list; 0 past the end.
-fn code_at(codes: &[u32], i: usize) -> u32
-    ensures { result ≡ get_or codes.now i 0 }
-{
-    if i < codes.len() {
-        return codes[i];
-    }
-    0
-}
-
-fn value_at(values: &[u16], i: usize) -> u16
-    ensures { result ≡ get_or values.now i 0 }
-{
-    if i < values.len() {
-        return values[i];
-    }
-    0
-}
-
 // Writes the line of a differing cell; answers how many bytes it has.
 fn put_cell(out: &mut [u8], at: usize, code: u32, left: u16, right: u16) -> usize
     requires { at + widest_cell < 2 ^ 64 }
     ensures { (out.new ≡ puts_from out.old at (cell_line code left right)) × (result ≡ length (cell_line code left right)) × (result ≤ widest_cell) }
 {
-    let decoded = decode_child_index_path(code);
-    let position = decoded.position;
+    let position = decode_child_index_path(code).unwrap_or(IVec3 { x: 0, y: 0, z: 0 });
     let cell = to_cell(position, DEPTH);
     let a = at + put_number(out, at, code as u64, b' ');
     let b = a + put_number(out, a, cell.x as u64, b' ');
@@ -196,15 +151,7 @@ fn put_cell(out: &mut [u8], at: usize, code: u32, left: u16, right: u16) -> usiz
 fn cells_taken(from: usize, count: usize, room: usize) -> usize
     ensures { result ≡ cells_taken (count - from) room }
 {
-    if count < from {
-        return 0;
-    }
-    let lines = room / WIDEST_CELL;
-    if count - from < lines {
-        count - from
-    } else {
-        lines
-    }
+    count.saturating_sub(from).min(room / WIDEST_CELL)
 }
 
 // Writes the lines of the cells of a list from place `from` up to `count`, as far as `out` has room, at the start of `out`. Past the end of a part there are zeros.
@@ -220,22 +167,16 @@ pub fn cell_lines(
         × (out.new ≡ puts_from out.old 0 (cell_lines codes.now lefts.now rights.now from result.cells))
         × (result.len ≡ length (cell_lines codes.now lefts.now rights.now from result.cells)) }
 {
-    let most = cells_taken(from, count, out.len());
-    let mut i: usize = 0;
+    let cells = cells_taken(from, count, out.len());
     let mut len: usize = 0;
-    while i < most {
+    for i in 0..cells {
         let at = from + i;
-        let line = put_cell(
-            out,
-            len,
-            code_at(codes, at),
-            value_at(lefts, at),
-            value_at(rights, at),
-        );
-        len += line;
-        i += 1;
+        let code = codes.get(at).copied().unwrap_or(0);
+        let left = lefts.get(at).copied().unwrap_or(0);
+        let right = rights.get(at).copied().unwrap_or(0);
+        len += put_cell(out, len, code, left, right);
     }
-    Cells { cells: i, len: len }
+    Cells { cells, len }
 }
 
 // Writes a word, a number and the end of the line; answers how many bytes that is.

@@ -9,26 +9,17 @@
 // and then it writes no `live` line.
 #![tactic(auto)]
 
-ghost use Rattle.std.specs.Prelude.{◌+◌, ◌≤◌, length};
+ghost use Rattle.std.specs.Prelude.{◌≤◌};
 
 use compare::compare;
 use edit_listing::{DEPTH, RECORD};
 use ids::BlockId;
 use listing::Run;
-use month_listing::Side;
-use std::env::FillError;
+use month_listing::{Side, cell_lines, closing, second_side, side_records, side_short};
 use std::io::Read;
-use std::rt::{Env, Files};
-use std::{fs, io, str};
+use streams::{CELLS, FACTS, KIDS, SLOTS, Streams};
 
-// The slots of the arena. Its tables have 8 and 11 words and 5 cells a slot, 60,416 bytes.
-const SLOTS: usize = 512;
-
-const KIDS: usize = 4096;
-
-const FACTS: usize = 5632;
-
-const CELLS: usize = 2560;
+const NAME: &str = "months";
 
 // The cells that the list of differing cells holds: a path code and two values each, 8,192 bytes beside the tables.
 const LISTED: usize = 1024;
@@ -38,268 +29,106 @@ const BLOCK: usize = 64;
 
 const LINES: usize = 1008;
 
-// A file's name has at most so many bytes.
-const NAME: usize = 4096;
-
-// How many bytes were read, and whether reading failed.
-#[derive(Clone, Copy)]
-struct Got {
-    len: usize,
-    failed: bool,
-}
-
-// What a block came to: the run so far, the bytes of a cut record, and whether it was the last block and whether something failed.
-#[derive(Clone, Copy)]
-struct Turn {
-    run: Run,
-    cut: usize,
-    last: bool,
-    failed: bool,
-}
-
-// What a file came to, and whether something failed.
-#[derive(Clone, Copy)]
-struct Entered {
-    run: Run,
-    failed: bool,
-}
-
-// The reason of an error in the system's words, without the number that std writes after them.
-fn reason(text: &str) -> &str {
-    match text.split_once(" (os error ") {
-        Some((words, _)) => words,
-        None => text,
-    }
-}
-
-// Says on standard error what failed, and for what reason.
-fn fail(rt: &(impl Eprint + Alloc), what: &str, error: io::Error) {
-    let _ = match format!(in rt.alloc(); "{error}") {
-        Ok(text) => {
-            let words = reason(text.as_str());
-            eprintln!(rt; "{what}: {words}")
-        }
-        Err(_) => eprintln!(rt; "{what}: {error}"),
-    };
-}
-
-// Writes the first bytes of a text, and answers whether that went well; if not, it says so.
-fn say_start(rt: &(impl Print + Eprint + Alloc), text: &[u8], count: usize) -> bool {
-    if text.len() < count {
-        return false;
-    }
-    match rt.write_all(&text[..count]) {
-        Ok(()) => true,
-        Err(error) => {
-            fail(rt, "months: can't write", error);
-            false
-        }
-    }
-}
-
-// One read; if it fails, it says so.
-fn read_some(rt: &(impl Eprint + Alloc), input: &mut impl Read, part: &mut [u8]) -> Got {
-    match input.read(part) {
-        Ok(len) => Got {
-            len: len,
-            failed: false,
-        },
-        Err(error) => {
-            fail(rt, "months: can't read", error);
-            Got {
-                len: 0,
-                failed: true,
-            }
-        }
-    }
-}
-
-fn least(x: usize, y: usize) -> usize
-    ensures { result ≤ y }
-{
-    if x < y { x } else { y }
-}
-
-// One read into the block from `len` on.
-fn read_on(rt: &(impl Eprint + Alloc), input: &mut impl Read, block: &mut [u8], len: usize) -> Got
-    requires { len ≤ length block.old }
-    ensures { len + result.len ≤ length block.old }
-{
-    let room = block.len() - len;
-    let got = read_some(rt, input, &mut block[len..]);
-    Got {
-        len: least(got.len, room),
-        failed: got.failed,
-    }
-}
-
-// Reads until the block is full, the input ends or a read fails: a record may come in two reads.
-fn fill(rt: &(impl Eprint + Alloc), input: &mut impl Read, block: &mut [u8]) -> Got
-    ensures { result.len ≤ length block.old }
-{
-    let mut len: usize = 0;
-    while len < block.len() {
-        let got = read_on(rt, input, block, len);
-        if got.len == 0 {
-            return Got {
-                len: len,
-                failed: got.failed,
-            };
-        }
-        len += got.len;
-    }
-    Got {
-        len: len,
-        failed: false,
-    }
-}
-
-// Reads a block, edits by its whole records and writes the lines of the refused ones.
-fn one_block(
-    rt: &(impl Print + Eprint + Alloc),
-    side: Side,
-    input: &mut impl Read,
-    run: Run,
-    kids: &mut [u64],
-    facts: &mut [u32],
-    find: &mut [u16],
-) -> Turn {
-    let mut block = [0u8; BLOCK];
-    let mut lines = [0u8; LINES];
-    let got = fill(rt, input, &mut block);
-    let len = got.len;
-    let ran = month_listing::side_records(side, run, kids, facts, find, &block[..len], &mut lines);
-    let written = say_start(rt, &lines, ran.len);
-    Turn {
-        run: ran.run,
-        cut: len % RECORD,
-        last: len < BLOCK,
-        failed: got.failed || !written,
-    }
-}
-
-// Writes the line of a cut last record, and answers whether that went well.
-fn say_short(rt: &(impl Print + Eprint + Alloc), side: Side, cut: usize) -> bool {
-    let mut lines = [0u8; LINES];
-    let len = month_listing::side_short(side, cut, &mut lines);
-    say_start(rt, &lines, len)
-}
-
-// The blocks of a file, to its end. A proved loop has to end, and nothing says that the input does: so the blocks are counted, up to a number that no input
-// uses up.
+// Edits by the records of a file, from a run on, and writes the lines of the refused ones; answers the run at its end, or None where something failed.
 fn enter_file(
-    rt: &(impl Print + Eprint + Alloc),
+    rt: &impl Streams,
     side: Side,
     input: &mut impl Read,
     first: Run,
     kids: &mut [u64],
     facts: &mut [u32],
     find: &mut [u16],
-) -> Entered {
+) -> Option<Run> {
     let mut run = first;
-    for _ in 0..u64::MAX {
-        let turn = one_block(rt, side, input, run, kids, facts, find);
-        let next = turn.run;
-        if turn.failed {
-            return Entered {
-                run: next,
-                failed: true,
-            };
-        }
-        if turn.last {
-            let written = say_short(rt, side, turn.cut);
-            return Entered {
-                run: next,
-                failed: !written,
-            };
-        }
-        run = next;
-    }
-    Entered {
-        run: run,
-        failed: true,
-    }
+    let mut block = [0u8; BLOCK];
+    let mut lines = [0u8; LINES];
+    let last = rt.each_block(
+        NAME,
+        input,
+        RECORD,
+        &mut block,
+        &mut lines,
+        |records, out| {
+            let ran = side_records(side, run, kids, facts, find, records, out);
+            run = ran.run;
+            ran.len
+        },
+    )?;
+    let len = side_short(side, last % RECORD, &mut lines);
+    rt.say(NAME, &lines, len)?;
+    Some(run)
 }
 
-// Writes the lines of the first cells of the list, and answers whether that went well.
+// Writes the lines of the first cells of the list; None where that failed.
 fn say_cells(
-    rt: &(impl Print + Eprint + Alloc),
+    rt: &impl Streams,
     codes: &[u32],
     lefts: &[u16],
     rights: &[u16],
     count: usize,
-) -> bool {
+) -> Option<()> {
     let mut from: usize = 0;
+    // Kept: a turn goes on by as many cells as were written, which no `for` counts.
     while from < count {
         let mut lines = [0u8; LINES];
-        let block = month_listing::cell_lines(codes, lefts, rights, from, count, &mut lines);
-        let written = say_start(rt, &lines, block.len);
-        if !written {
-            return false;
-        }
+        let block = cell_lines(codes, lefts, rights, from, count, &mut lines);
+        rt.say(NAME, &lines, block.len)?;
         from += block.cells;
     }
-    true
+    Some(())
 }
 
 // Compares the two roots and writes what came of it.
 fn say_outcome(
-    rt: &(impl Print + Eprint + Alloc),
+    rt: &impl Streams,
     run: Run,
     kids: &[u64],
     facts: &[u32],
     find: &[u16],
     left: BlockId,
-) {
+) -> Option<()> {
     let mut codes = [0u32; LISTED];
     let mut lefts = [0u16; LISTED];
     let mut rights = [0u16; LISTED];
-    let right = run.root;
     let compared = compare(
         run.arena,
         kids,
         facts,
         find,
         left,
-        right,
+        run.root,
         DEPTH,
         &mut codes,
         &mut lefts,
         &mut rights,
     );
-    if say_cells(rt, &codes, &lefts, &rights, compared.count as usize) {
-        let mut lines = [0u8; LINES];
-        let len = month_listing::closing(compared, run, &mut lines);
-        say_start(rt, &lines, len);
-    }
+    say_cells(rt, &codes, &lefts, &rights, compared.count as usize)?;
+    let mut lines = [0u8; LINES];
+    let len = closing(compared, run, &mut lines);
+    rt.say(NAME, &lines, len)
 }
 
-fn list(rt: &(impl Print + Eprint + Alloc), left: &mut impl Read, right: &mut impl Read) {
+// Enters both files and compares them; None where something failed.
+fn list(rt: &impl Streams, left: &mut impl Read, right: &mut impl Read) -> Option<()> {
     let mut kids = [0u64; KIDS];
     let mut facts = [0u32; FACTS];
     let mut find = [0u16; CELLS];
     let start = listing::start(SLOTS, &mut kids, &mut facts, &mut find);
     if start.no != 0 {
-        let _ = eprintln!(rt; "months: the tables do not fit");
-        return;
+        let _ = eprintln!(rt; "{NAME}: the tables do not fit");
+        return None;
     }
-    let begin = start.run;
     let first = enter_file(
         rt,
         Side::Left,
         left,
-        begin,
+        start.run,
         &mut kids,
         &mut facts,
         &mut find,
-    );
-    if first.failed {
-        return;
-    }
-    let between = first.run;
-    let root = between.root;
-    let next = month_listing::second_side(between);
-    let second = enter_file(
+    )?;
+    let next = second_side(first);
+    let end = enter_file(
         rt,
         Side::Right,
         right,
@@ -307,58 +136,21 @@ fn list(rt: &(impl Print + Eprint + Alloc), left: &mut impl Read, right: &mut im
         &mut kids,
         &mut facts,
         &mut find,
-    );
-    if second.failed {
-        return;
-    }
-    let end = second.run;
-    say_outcome(rt, end, &kids, &facts, &find, root);
-}
-
-// Whether an argument of this number was given; the program's name is number 0.
-fn is_given(env: &impl Env, number: usize) -> bool {
-    match env.arg(number, &mut []) {
-        Err(FillError::NotPresent) => false,
-        _ => true,
-    }
-}
-
-// Opens the file of a name; where that fails, it says so.
-fn open<R: Files + Eprint + Alloc>(rt: &R, path: &str) -> Option<R::File> {
-    match fs::open(rt, path) {
-        Ok(file) => Some(file),
-        Err(error) => {
-            fail(rt, path, error);
-            None
-        }
-    }
-}
-
-// Opens the file that an argument names, by a name in UTF-8; where that fails, it says so.
-fn open_argument<R: Env + Files + Eprint + Alloc>(rt: &R, number: usize) -> Option<R::File> {
-    let mut name = [0u8; NAME];
-    let Ok(length) = rt.arg(number, &mut name) else {
-        let _ = eprintln!(rt; "months: the file's name: File name too long");
-        return None;
-    };
-    let Ok(path) = str::from_utf8(&name[..length]) else {
-        let _ = eprintln!(rt; "months: the file's name: not UTF-8");
-        return None;
-    };
-    open(rt, path)
+    )?;
+    say_outcome(rt, end, &kids, &facts, &find, first.root)
 }
 
 fn main(rt: HostRuntime) {
-    if !is_given(&rt, 2) || is_given(&rt, 3) {
+    if !rt.is_given(2) || rt.is_given(3) {
         let _ = eprintln!(rt;
             "usage: months A B, two files of edit records: their differing cells"
         );
         return;
     }
-    let Some(mut left) = open_argument(&rt, 1) else {
+    let Some(mut left) = rt.open(NAME, 1) else {
         return;
     };
-    let Some(mut right) = open_argument(&rt, 2) else {
+    let Some(mut right) = rt.open(NAME, 2) else {
         return;
     };
     list(&rt, &mut left, &mut right);

@@ -1,54 +1,40 @@
 // The mask and the types of eight children, and the id of a branch that has them. Intern branch and the edit name their new branches with it.
 #![tactic(auto)]
 
-ghost use Rattle.std.specs.Prelude.{◌≡◌, not, ◌%◌, ◌^◌, ◌≤◌, eqb};
-ghost use Rattle.ids.specs.Ids.{generation_of, is_leaf, new_branch};
-ghost use Rattle.nodes.specs.Tally.{one_if};
-ghost use Rattle.arena.specs.Node.{kid_mask, kid_types};
+ghost use Rattle.std.specs.Prelude.{◌≡◌, Bool, ℕ, ◌%◌, ◌^◌, ◌<◌};
+ghost use Rattle.ids.specs.Ids.{generation_of, new_branch};
+ghost use Rattle.arena.specs.Node.{bits_of, kid_mask, kid_types};
 
 use basics::Kids;
 use ids::BlockId;
 
-// 1 if the child isn't EMPTY.
-fn kid_bit(k: u64) -> u8
-    ensures { (result ≡ one_if (not (eqb k 0))) × (result ≤ 1) }
+// The byte whose bit i is 1 exactly if the test is true of child i.
+fn byte_of<F: Fn(u64) -> bool>(ks: Kids, test: F) -> u8
+    requires { F.IsAlwaysCallable test }
+    ensures { (p : ℕ → Bool) → ((k : ℕ) (r : Bool) → k < 2 ^ 64 → F.post test k r → r ≡ p k) → result ≡ bits_of p ks }
 {
-    if k == 0 { 0 } else { 1 }
-}
-
-// 1 if the child is a leaf.
-fn leaf_bit(k: u64) -> u8
-    ensures { (result ≡ one_if (is_leaf k)) × (result ≤ 1) }
-{
-    if BlockId(k).is_leaf() { 1 } else { 0 }
+    u8::from(test(ks[0]))
+        + 2 * u8::from(test(ks[1]))
+        + 4 * u8::from(test(ks[2]))
+        + 8 * u8::from(test(ks[3]))
+        + 16 * u8::from(test(ks[4]))
+        + 32 * u8::from(test(ks[5]))
+        + 64 * u8::from(test(ks[6]))
+        + 128 * u8::from(test(ks[7]))
 }
 
 // Mask bit i is 1 exactly if child i isn't EMPTY.
 pub fn mask_of(ks: Kids) -> u8
     ensures { result ≡ kid_mask ks }
 {
-    kid_bit(ks[0])
-        + 2 * kid_bit(ks[1])
-        + 4 * kid_bit(ks[2])
-        + 8 * kid_bit(ks[3])
-        + 16 * kid_bit(ks[4])
-        + 32 * kid_bit(ks[5])
-        + 64 * kid_bit(ks[6])
-        + 128 * kid_bit(ks[7])
+    byte_of(ks, |k| k != 0)
 }
 
 // Types bit i exactly if child i is a leaf.
 pub fn types_of(ks: Kids) -> u8
     ensures { result ≡ kid_types ks }
 {
-    leaf_bit(ks[0])
-        + 2 * leaf_bit(ks[1])
-        + 4 * leaf_bit(ks[2])
-        + 8 * leaf_bit(ks[3])
-        + 16 * leaf_bit(ks[4])
-        + 32 * leaf_bit(ks[5])
-        + 64 * leaf_bit(ks[6])
-        + 128 * leaf_bit(ks[7])
+    byte_of(ks, |k| BlockId(k).is_leaf())
 }
 
 // The id of a branch in slot s, whose own word is `o`, with these two bytes.

@@ -21,15 +21,12 @@ use nodes_write::{put_children, put_facts};
 pub fn free_slots(a: Arena) -> u64
     ensures { result ≡ free_slots (state_of a) }
 {
-    let live = live(a);
     let capacity = a.capacity as u64;
-    if capacity <= live {
-        return 0;
-    }
-    capacity - live - 1
+    capacity.saturating_sub(1).saturating_sub(live(a))
 }
 
 // Fresh slot: the last one freed, else the lowest never used.
+#[tactic(auto, unfolding(arena::specs::Calls::fresh_slot))]
 pub fn fresh_slot(a: Arena, facts: &[u32]) -> usize
     ensures { result ≡ fresh_slot (state_of a) (fact_of facts.now) }
 {
@@ -77,11 +74,7 @@ pub fn fresh_leaf(
     let id = leaf_id(s, own(facts, s));
     put_facts(facts, s, id, v, 0, 0, k, h, q, 0);
     put_cell(find, at, s);
-    Made {
-        no: 0,
-        id: BlockId(id),
-        slots: give(a.slots),
-    }
+    Made::done(BlockId(id), give(a.slots))
 }
 
 // A fresh branch of the children ks, with the two bytes of these, the stored value v and the height up, the sum and the hash k.
@@ -108,9 +101,5 @@ pub fn fresh_branch(
     put_children(kids, s, ks);
     put_facts(facts, s, id, v, up, sum, k, h, q, 0);
     put_cell(find, at, s);
-    Made {
-        no: 0,
-        id: BlockId(id),
-        slots: give(a.slots),
-    }
+    Made::done(BlockId(id), give(a.slots))
 }

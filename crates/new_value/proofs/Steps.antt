@@ -73,3 +73,6 @@ module _ (U : Words) (ks : List ℕ) (i : ℕ) where
   pub top_node : (top x m s v : ℕ) → top ≡ top_for U ks i → (get_or ks i 0 ≡ 0 → ⊥) → s ≡ slot (get_or ks i 0) → v ≡ U s height → m ≡ max top v
       → x ≡ m → x ≡ top_for U ks (i + 1)
   top_node top x m s v e d es ev em ex = ex ∙ em ∙ top_step U ks top i v e (height_node U (get_or ks i 0) s v d es ev)
+
+-- what `sums_of` needs
+pub ruleset steps = (sum_start, top_start, sum_none, top_none, sum_node, top_node, sum_last, value_last, top_last)

@@ -2,9 +2,10 @@
 // work out their new branches with these.
 #![tactic(auto)]
 
-ghost use Rattle.std.specs.Prelude.{◌≡◌, max};
+ghost use Rattle.std.specs.Prelude.{◌≡◌, eqb, ltb};
+ghost use Rattle.basics.specs.Pick.{pick};
 ghost use Rattle.basics.specs.Limits.{cube_kids};
-ghost use Rattle.nodes.specs.Words.{fact_of};
+ghost use Rattle.nodes.specs.Words.{fact_of, own, slot};
 ghost use Rattle.nodes.specs.Values.{value_at, height_at};
 ghost use Rattle.arena.specs.Models.{top_for};
 ghost use Rattle.arena.specs.Node.{sum_for, value_for};
@@ -21,52 +22,49 @@ pub struct Sums {
     pub top: u32,
 }
 
+// A fact of the node of an id; 0 of EMPTY.
+fn fact_at(facts: &[u32], id: u64, f: usize) -> u32
+    ensures { result ≡ pick (eqb id 0) 0 (pick (ltb own f) (fact_of facts.now (slot id) f) 0) }
+{
+    if id == 0 {
+        return 0;
+    }
+    fact(facts, slot_of(id), f)
+}
+
 // The stored value of an id; 0 of EMPTY.
+#[tactic(auto, unfolding(nodes::specs::Values::value_at))]
 pub fn value_at(facts: &[u32], id: u64) -> u32
     ensures { result ≡ value_at (fact_of facts.now) id }
 {
-    if id == 0 {
-        return 0;
-    }
-    fact(facts, slot_of(id), VALUE)
+    fact_at(facts, id, VALUE)
 }
 
 // The height of an id; 0 of EMPTY.
+#[tactic(auto, unfolding(nodes::specs::Values::height_at))]
 pub fn height_at(facts: &[u32], id: u64) -> u32
     ensures { result ≡ height_at (fact_of facts.now) id }
 {
-    if id == 0 {
-        return 0;
-    }
-    fact(facts, slot_of(id), HEIGHT)
-}
-
-// The larger of two.
-fn larger(x: u32, y: u32) -> u32
-    ensures { result ≡ max x y }
-{
-    if x < y { y } else { x }
+    fact_at(facts, id, HEIGHT)
 }
 
 // What these children come to, in one pass. EMPTY adds nothing.
+#[tactic(auto, using(crate::proofs::Steps::steps))]
 pub fn sums_of(facts: &[u32], ks: Kids) -> Sums
     ensures { (result.sum ≡ sum_for cube_kids (fact_of facts.now) ks) × (result.value ≡ value_for cube_kids (fact_of facts.now) ks) × (result.top ≡ top_for (fact_of facts.now) ks cube_kids) }
 {
     let mut sum: u64 = 0;
     let mut top: u32 = 0;
-    let mut i: usize = 0;
-    while i < CUBE_KIDS {
-        let k = ks[i];
+    for k in ks {
         if k != 0 {
             let s = slot_of(k);
             sum += fact(facts, s, VALUE) as u64;
-            top = larger(top, fact(facts, s, HEIGHT));
+            top = top.max(fact(facts, s, HEIGHT));
         }
-        i += 1;
     }
     Sums {
-        sum: sum,
+        sum,
         value: (sum / (CUBE_KIDS as u64)) as u32,
-        top: top,
+        top,
     }
 }

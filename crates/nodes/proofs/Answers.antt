@@ -1,5 +1,5 @@
 -- What the accessors answer, as the definitions have it.
-use mathlib.Core.Path.{◌≡◌, sym, ap, ◌∙◌}
+use mathlib.Core.Path.{◌≡◌, sym, ap, ◌∙◌, subst}
 use mathlib.Core.Logic.{◌≢◌}
 use mathlib.Core.Bool.{false}
 use mathlib.Core.List.{List, [], ◌∷◌}
@@ -7,13 +7,14 @@ use Prim.Native.Nat.{ℕ, ◌+◌, ◌-◌, ◌*◌, ◌/◌, ◌^◌, ◌≤◌
 use native.Mathlib.Decide.{dec_lt}
 use native.Mathlib.Omega.{arith}
 use lib.Dec.{ltb}
-use lib.ListN.{length, get_or}
+use lib.ListN.{length, get_or, take, drop}
+use Rattle.std.proofs.lemmas.List.{get_or-take, get_or-drop, length-drop, length-take-le}
 use borrow.Author.Tests.{lt-ltb, le-ltb}
 use Rattle.basics.specs.Pick.{pick}
 use Rattle.nodes.specs.Tally.{kids_of, tab_from}
 use Rattle.nodes.specs.Words.{own, value, hash, entry, row_in, row_at, in_rows, in_facts, kid_of, fact_of}
 use Rattle.nodes.proofs.Access.{fact_own, fact_row, fact_out}
-use Rattle.nodes.proofs.Sums.{cases}
+use Rattle.nodes.proofs.Sums.{cases, tab_list}
 use Rattle.nodes.proofs.Rows.{In, in_small, in_short, at_before, at_after, cell_in_lem, cell_out, cell_past}
 
 module _ (l : List ℕ) (s : ℕ) where
@@ -86,23 +87,15 @@ module _ (l : List ℕ) (s : ℕ) where
   unfolding kid_of
   kid_none i h = sym (cell_out 8 (in_rows 8) l s i h)
 
-  pub kids_read : s < 2 ^ 32 → 8 * s + 7 < length l
-      → ◌≡◌ {A = List ℕ} (get_or l (8 * s) 0 ∷ get_or l (8 * s + 1) 0 ∷ get_or l (8 * s + 2) 0 ∷ get_or l (8 * s + 3) 0 ∷ get_or l (8 * s + 4) 0 ∷ get_or l (8 * s + 5) 0 ∷ get_or l (8 * s + 6) 0 ∷ get_or l (8 * s + 7) 0 ∷ []) (kids_of 8 (kid_of l) s)
-  unfolding kids_of tab_from kid_of
+  pub kids_read : s < 2 ^ 32 → 8 * s + 7 < length l → take 8 (drop (8 * s) l) ≡ kids_of 8 (kid_of l) s
+  unfolding kids_of kid_of
   kids_read a b =
-      let w : In 8 l s = record { small = a; room = b } in
-      let e : 8 * s + 0 ≡ 8 * s = omega arith in
-      rw (
-        cell_in_lem 8 (in_rows 8) l s 0 w (omega arith),
-        cell_in_lem 8 (in_rows 8) l s 1 w (omega arith),
-        cell_in_lem 8 (in_rows 8) l s 2 w (omega arith),
-        cell_in_lem 8 (in_rows 8) l s 3 w (omega arith),
-        cell_in_lem 8 (in_rows 8) l s 4 w (omega arith),
-        cell_in_lem 8 (in_rows 8) l s 5 w (omega arith),
-        cell_in_lem 8 (in_rows 8) l s 6 w (omega arith),
-        cell_in_lem 8 (in_rows 8) l s 7 w (omega arith),
-        e,
-      )
+      let row = take 8 (drop (8 * s) l) in
+      let e : length row ≡ 8 = length-take-le 8 (drop (8 * s) l) (omega (arith, length-drop (8 * s) l)) in
+      sym (subst (λ (n : ℕ). tab_from n 0 (row_at 8 (in_rows 8) l s) ≡ row) e
+      (tab_list row 0 (row_at 8 (in_rows 8) l s) (λ j m.
+      let z : 0 + j ≡ j = omega arith in
+      rw z (cell_in_lem 8 (in_rows 8) l s j (record { small = a; room = b }) (omega arith) ∙ sym (get_or-take 8 (drop (8 * s) l) j 0 (omega arith) ∙ get_or-drop (8 * s) l j 0)))))
 
   pub kids_none : row_in 8 l s ≡ false → ◌≡◌ {A = List ℕ} (0 ∷ 0 ∷ 0 ∷ 0 ∷ 0 ∷ 0 ∷ 0 ∷ 0 ∷ []) (kids_of 8 (kid_of l) s)
   unfolding kids_of tab_from kid_of

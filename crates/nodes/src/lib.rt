@@ -11,6 +11,7 @@ ghost use Rattle.nodes.specs.Tally.{kids_of};
 use basics::{FACT_WORDS, KID_WORDS, Kids, NO_KIDS, ROW_WORDS};
 
 // The words of a slot in the table `facts`. (The children are the words 0 to 7, the own word is word 8.)
+// Kept: they are places in a table (docs/TABLES.md), and `fact` and `put_fact` of crate `nodes_write` promise an answer for any number.
 pub const VALUE: usize = 9;
 
 pub const HEIGHT: usize = 10;
@@ -35,22 +36,12 @@ pub const FLOOR: u64 = 0x8000_0000_0000;
 // Slot numbers are below it, so that the place of a row is a number of 64 bits.
 pub const ROWS: usize = 0x1_0000_0000;
 
-fn wide(x: u32) -> u64
-    ensures { (result ≡ x) × (result < 2 ^ 32) }
-{
-    x as u64
-}
-
 // Child i of slot s; 0 above 7. The test is by how many rows there are, which a walk from slot to slot works out once.
 pub fn kid(kids: &[u64], s: usize, i: usize) -> u64
     ensures { result ≡ kid_of kids.now s i }
 {
-    if i < KID_WORDS {
-        if s < ROWS {
-            if s < kids.len() / KID_WORDS {
-                return kids[KID_WORDS * s + i];
-            }
-        }
+    if i < KID_WORDS && s < ROWS && s < kids.len() / KID_WORDS {
+        return kids[KID_WORDS * s + i];
     }
     0
 }
@@ -59,19 +50,10 @@ pub fn kid(kids: &[u64], s: usize, i: usize) -> u64
 pub fn children(kids: &[u64], s: usize) -> Kids
     ensures { result ≡ kids_of kid_words (kid_of kids.now) s }
 {
-    if s < ROWS {
+    if s < ROWS && KID_WORDS * s + 7 < kids.len() {
         let at = KID_WORDS * s;
-        if at + 7 < kids.len() {
-            return [
-                kids[at],
-                kids[at + 1],
-                kids[at + 2],
-                kids[at + 3],
-                kids[at + 4],
-                kids[at + 5],
-                kids[at + 6],
-                kids[at + 7],
-            ];
+        if let Some(row) = kids[at..at + KID_WORDS].as_array() {
+            return *row;
         }
     }
     NO_KIDS
@@ -81,11 +63,9 @@ pub fn children(kids: &[u64], s: usize) -> Kids
 pub fn own(facts: &[u32], s: usize) -> u64
     ensures { result ≡ fact_of facts.now s own_word }
 {
-    if s < ROWS {
-        if FACT_WORDS * s + 10 < facts.len() {
-            let at = ROW_WORDS * s;
-            return wide(facts[at]) + 0x1_0000_0000 * wide(facts[at + 1]);
-        }
+    if s < ROWS && FACT_WORDS * s + 10 < facts.len() {
+        let at = ROW_WORDS * s;
+        return u64::from(facts[at]) + 0x1_0000_0000 * u64::from(facts[at + 1]);
     }
     0
 }
@@ -95,33 +75,25 @@ pub fn own(facts: &[u32], s: usize) -> u64
 pub fn fact(facts: &[u32], s: usize, f: usize) -> u32
     ensures { result ≡ pick (ltb own_word f) (fact_of facts.now s f) 0 }
 {
-    if VALUE <= f {
-        if f <= ENTRY {
-            if s < ROWS {
-                if FACT_WORDS * s + 10 < facts.len() {
-                    if f == HASH {
-                        return facts[facts.len() - 1 - s];
-                    }
-                    let at = ROW_WORDS * s;
-                    if f < HASH {
-                        return facts[at + (f - 7)];
-                    }
-                    return facts[at + (f - 8)];
-                }
-            }
-        }
+    if f < VALUE || f > ENTRY || s >= ROWS || facts.len() <= FACT_WORDS * s + 10 {
+        return 0;
     }
-    0
+    if f == HASH {
+        return facts[facts.len() - 1 - s];
+    }
+    let at = ROW_WORDS * s;
+    if f < HASH {
+        return facts[at + (f - 7)];
+    }
+    facts[at + (f - 8)]
 }
 
 // The stored value of slot s: the fact VALUE, with a test by how many rows there are, which a reader of many values works out once.
 pub fn stored(facts: &[u32], s: usize) -> u32
     ensures { result ≡ fact_of facts.now s value_word }
 {
-    if s < ROWS {
-        if s < facts.len() / FACT_WORDS {
-            return facts[ROW_WORDS * s + 2];
-        }
+    if s < ROWS && s < facts.len() / FACT_WORDS {
+        return facts[ROW_WORDS * s + 2];
     }
     0
 }

@@ -18,7 +18,7 @@ use Rattle.nodes.proofs.Sums.{tab_list}
 -- ---- words one by one
 
 module _ (l : List ℕ) (at a b : ℕ) where
-  pub four : (c d : ℕ) → set (set (set (set l at a) (at + 1) b) (at + 2) c) (at + 3) d ≡ puts_from l at (a ∷ b ∷ c ∷ d ∷ [])
+  four : (c d : ℕ) → set (set (set (set l at a) (at + 1) b) (at + 2) c) (at + 3) d ≡ puts_from l at (a ∷ b ∷ c ∷ d ∷ [])
   unfolding puts_from
   four c d = rw (add-one at, add-two at, add-three at)
 
@@ -72,12 +72,14 @@ puts_sets r s l p (v ∷ vs) = let e : r * s + suc p ≡ suc (r * s + p) = omega
 
 module _ (l : List ℕ) (s : ℕ) where
   pub kids_write : s < 2 ^ 32 → 8 * s + 7 < length l → (m o row : List ℕ) → length row ≡ 8
-      → m ≡ puts_from l (8 * s) (get_or row 0 0 ∷ get_or row 1 0 ∷ get_or row 2 0 ∷ get_or row 3 0 ∷ [])
-      → o ≡ puts_from m (8 * s + 4) (get_or row 4 0 ∷ get_or row 5 0 ∷ get_or row 6 0 ∷ get_or row 7 0 ∷ []) → o ≡ row_put 8 l s row
+      → m ≡ set (set (set (set l (8 * s) (get_or row 0 0)) (8 * s + 1) (get_or row 1 0)) (8 * s + 2) (get_or row 2 0)) (8 * s + 3) (get_or row 3 0)
+      → o ≡ set (set (set (set m (8 * s + 4) (get_or row 4 0)) (8 * s + 4 + 1) (get_or row 5 0)) (8 * s + 4 + 2) (get_or row 6 0)) (8 * s + 4 + 3) (get_or row 7 0)
+      → o ≡ row_put 8 l s row
   unfolding tab_from row_put
   kids_write a b m o row h p q =
       let z : 8 * s + 0 ≡ 8 * s = omega arith in
-      puts_then l m (8 * s) 4 (get_or row 0 0 ∷ get_or row 1 0 ∷ get_or row 2 0 ∷ get_or row 3 0 ∷ []) p refl o (get_or row 4 0 ∷ get_or row 5 0 ∷ get_or row 6 0 ∷ get_or row 7 0 ∷ []) q
+      puts_then l m (8 * s) 4 (get_or row 0 0 ∷ get_or row 1 0 ∷ get_or row 2 0 ∷ get_or row 3 0 ∷ []) (p ∙ four l (8 * s) _ _ _ _) refl o
+      (get_or row 4 0 ∷ get_or row 5 0 ∷ get_or row 6 0 ∷ get_or row 7 0 ∷ []) (q ∙ four m (8 * s + 4) _ _ _ _)
       ∙ ap (puts_from l (8 * s)) (words row 8 h)
       ∙ sym (row_in_lem 8 (in_rows 8) l s 0 row (record { small = a; room = b }) (omega arith) ∙ puts_sets 8 s l 0 row ∙ ap (λ (n : ℕ). puts_from l n row) z)
 
@@ -92,7 +94,8 @@ module _ (l : List ℕ) (s : ℕ) where
   -- ---- the facts: four, four, the mark and the hash
 
   pub facts_write : s < 2 ^ 32 → 11 * s + 10 < length l → (j m : List ℕ) (o b c d e f g h i : ℕ)
-      → j ≡ puts_from l (10 * s) (o % 2 ^ 32 ∷ o / 2 ^ 32 ∷ b ∷ c ∷ []) → m ≡ puts_from j (10 * s + 4) (d ∷ e ∷ g ∷ h ∷ [])
+      → j ≡ set (set (set (set l (10 * s) (o % 2 ^ 32)) (10 * s + 1) (o / 2 ^ 32)) (10 * s + 2) b) (10 * s + 3) c
+      → m ≡ set (set (set (set j (10 * s + 4) d) (10 * s + 4 + 1) e) (10 * s + 4 + 2) g) (10 * s + 4 + 3) h
       → set (set m (10 * s + 8) i) (length l - 1 - s) f ≡ facts_put l s (o ∷ b ∷ c ∷ d ∷ e ∷ f ∷ g ∷ h ∷ i ∷ [])
   unfolding facts_put sets_at
   facts_write a r j m o b c d e f g h i p q =
@@ -100,7 +103,7 @@ module _ (l : List ℕ) (s : ℕ) where
       let x : 10 * s + 4 + 1 ≡ 10 * s + 5 = omega arith in
       let y : 10 * s + 4 + 2 ≡ 10 * s + 6 = omega arith in
       let w : 10 * s + 4 + 3 ≡ 10 * s + 7 = omega arith in
-      rw (q, sym (four j (10 * s + 4) d e g h), p, sym (four l (10 * s) (o % 2 ^ 32) (o / 2 ^ 32) b c), x, y, w)
+      rw (q, p, x, y, w)
       (moved (set (set (set (set (set (set l (10 * s) (o % 2 ^ 32)) (10 * s + 1) (o / 2 ^ 32)) (10 * s + 2) b) (10 * s + 3) c) (10 * s + 4) d) (10 * s + 5) e)
       (10 * s + 6) (10 * s + 7) (10 * s + 8) (length l - 1 - s) g h i f (λ k. omega arith) (λ k. omega arith) (λ k. omega arith) ∙ cc)
       ∙ sym (row_in_lem 11 in_facts l s 0 (o % 2 ^ 32 ∷ o / 2 ^ 32 ∷ b ∷ c ∷ d ∷ e ∷ f ∷ g ∷ h ∷ i ∷ []) (record { small = a; room = r }) (omega arith))

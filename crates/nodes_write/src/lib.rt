@@ -2,9 +2,8 @@
 // Every public function is total: what lies outside a table is not written.
 #![tactic(auto)]
 
-ghost use Rattle.std.specs.Prelude.{◌≡◌, [], ◌∷◌, ◌+◌, ◌<◌, length};
+ghost use Rattle.std.specs.Prelude.{◌≡◌, [], ◌∷◌, ◌+◌, ◌<◌, length, set};
 ghost use Rattle.basics.specs.Limits.{kid_words};
-ghost use Rattle.basics.specs.Puts.{puts_from};
 ghost use Rattle.nodes.specs.Words.{fact_put, facts_put, row_put};
 
 use basics::{FACT_WORDS, KID_WORDS, Kids, ROW_WORDS};
@@ -14,59 +13,40 @@ use nodes::{ENTRY, HASH, ROWS, VALUE};
 pub fn put_fact(facts: &mut [u32], s: usize, f: usize, v: u32)
     ensures { facts.new ≡ fact_put facts.old s f v }
 {
-    if VALUE <= f {
-        if f <= ENTRY {
-            if s < ROWS {
-                let n = facts.len();
-                if FACT_WORDS * s + 10 < n {
-                    if f == HASH {
-                        facts[n - 1 - s] = v;
-                        return;
-                    }
-                    let at = ROW_WORDS * s;
-                    if f < HASH {
-                        facts[at + (f - 7)] = v;
-                        return;
-                    }
-                    facts[at + (f - 8)] = v;
-                }
-            }
-        }
+    let n = facts.len();
+    if f < VALUE || f > ENTRY || s >= ROWS || n <= FACT_WORDS * s + 10 {
+        return;
+    }
+    let at = ROW_WORDS * s;
+    if f == HASH {
+        facts[n - 1 - s] = v;
+    } else if f < HASH {
+        facts[at + (f - 7)] = v;
+    } else {
+        facts[at + (f - 8)] = v;
     }
 }
 
-// Writes four facts that the table has room for.
-fn put_four(facts: &mut [u32], at: usize, a: u32, b: u32, c: u32, d: u32)
-    requires { at + 3 < length facts.old }
-    ensures { facts.new ≡ puts_from facts.old at (a ∷ b ∷ c ∷ d ∷ []) }
+// Writes four words that the table has room for.
+// Kept: `copy_from_slice` of a slot's words, tried, goes through the stack and takes twice the instructions.
+fn put_four<T: Copy>(table: &mut [T], at: usize, a: T, b: T, c: T, d: T)
+    requires { at + 3 < length table.old }
+    ensures { table.new ≡ set (set (set (set table.old at a) (at + 1) b) (at + 2) c) (at + 3) d }
 {
-    facts[at] = a;
-    facts[at + 1] = b;
-    facts[at + 2] = c;
-    facts[at + 3] = d;
-}
-
-// Writes four children that the table has room for.
-fn put_half(kids: &mut [u64], at: usize, a: u64, b: u64, c: u64, d: u64)
-    requires { at + 3 < length kids.old }
-    ensures { kids.new ≡ puts_from kids.old at (a ∷ b ∷ c ∷ d ∷ []) }
-{
-    kids[at] = a;
-    kids[at + 1] = b;
-    kids[at + 2] = c;
-    kids[at + 3] = d;
+    table[at] = a;
+    table[at + 1] = b;
+    table[at + 2] = c;
+    table[at + 3] = d;
 }
 
 // Writes the eight children of slot s.
 pub fn put_children(kids: &mut [u64], s: usize, ks: Kids)
     ensures { kids.new ≡ row_put kid_words kids.old s ks }
 {
-    if s < ROWS {
+    if s < ROWS && KID_WORDS * s + 7 < kids.len() {
         let at = KID_WORDS * s;
-        if at + 7 < kids.len() {
-            put_half(kids, at, ks[0], ks[1], ks[2], ks[3]);
-            put_half(kids, at + 4, ks[4], ks[5], ks[6], ks[7]);
-        }
+        put_four(kids, at, ks[0], ks[1], ks[2], ks[3]);
+        put_four(kids, at + 4, ks[4], ks[5], ks[6], ks[7]);
     }
 }
 
@@ -85,21 +65,14 @@ pub fn put_facts(
 )
     ensures { facts.new ≡ facts_put facts.old s (own ∷ value ∷ height ∷ sum ∷ 0 ∷ hash ∷ holds ∷ places ∷ mark ∷ []) }
 {
-    if s < ROWS {
-        let n = facts.len();
-        if FACT_WORDS * s + 10 < n {
-            let at = ROW_WORDS * s;
-            put_four(
-                facts,
-                at,
-                (own % 0x1_0000_0000) as u32,
-                (own / 0x1_0000_0000) as u32,
-                value,
-                height,
-            );
-            put_four(facts, at + 4, sum, 0, holds, places);
-            facts[at + 8] = mark;
-            facts[n - 1 - s] = hash;
-        }
+    let n = facts.len();
+    if s < ROWS && FACT_WORDS * s + 10 < n {
+        let low = (own % 0x1_0000_0000) as u32;
+        let high = (own / 0x1_0000_0000) as u32;
+        let at = ROW_WORDS * s;
+        put_four(facts, at, low, high, value, height);
+        put_four(facts, at + 4, sum, 0, holds, places);
+        facts[at + 8] = mark;
+        facts[n - 1 - s] = hash;
     }
 }

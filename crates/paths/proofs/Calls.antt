@@ -5,7 +5,7 @@ use mathlib.Core.Bool.{Bool, true, false}
 use native.Mathlib.Nat.{mod-eq_of_lt, mul-le-mul_right, le_of_lt}
 use native.Mathlib.Numerals.{add-one, add-one-le}
 use native.Mathlib.Omega.{arith}
-use borrow.Author.Tests.{le-leb, lt-leb, lt-ltb, le-ltb, eq-eqb, ne_eqb}
+use borrow.Author.Tests.{le-leb, lt-leb, lt-ltb, le-ltb, ne_eqb}
 use lib.Bits.{bit_or}
 use lib.IntN.{ℤ, pos}
 use lib.Pow.{pow_mono}
@@ -13,12 +13,15 @@ use lib.Signed.{mag}
 use mir.Syntax.{w32}
 use mir.Val.{Fits, SFits, to_z}
 use mir.ValLaws.{to_z-of_z}
+use Rattle.std.specs.Prelude.{Result, Ok, Err}
+use Rattle.std.specs.Result.{result_unwrap_or}
 use Rattle.basics.specs.Limits.{deepest}
 use Rattle.basics.specs.Bits.{bit}
+use Rattle.basics.specs.Refusals.{number}
+use Rattle.basics.specs.declared.Refusal.{Refusal}
+use Rattle.basics.proofs.Refusals.{number_some}
 use Rattle.paths.specs.declared.IVec3.{IVec3}
-use Rattle.paths.specs.declared.ChildIndex.{ChildIndex}
-use Rattle.paths.specs.declared.Decoded.{Decoded}
-use Rattle.paths.specs.Paths.{low10, interleave, path_of, gather, place, decoded_of, inside, octant, whole, child_no, child_at, child_index_of}
+use Rattle.paths.specs.Paths.{low10, interleave, path_of, gather, place, Decoded, decoded as answered, decoded_of, inside, octant, whole, child_no, child_at, ChildIndex, child_index_of}
 use Rattle.paths.proofs.Bits.{bit_lt, bit_past}
 use Rattle.paths.proofs.Coords.{back}
 use Rattle.paths.proofs.Laws.{low10_lt, path_joined, gather_lt, child_accepted}
@@ -61,9 +64,6 @@ gather_fits n a c r h e =
     let k : 2 ^ (n + 1) ≤ 2 ^ 10 = pow_mono (add-one-le h) in
     record { fits = omega (arith, gather_one n a c r h e, gather_lt (n + 1) a c) }
 
-pub gather_done : (n a c r : ℕ) → n ≤ 10 → 10 ≤ n → r ≡ gather n a c → r ≡ gather 10 a c
-gather_done n a c r h l e = let q : n ≡ 10 = omega arith in e ∙ ap (λ (i : ℕ). gather i a c) q
-
 -- ## Decoding
 
 -- A gathered number is one that a coordinate can have.
@@ -82,6 +82,11 @@ decoded c x y z h ex ey ez = rw (lt-ltb c (2 ^ 30) h, gathered 0 c x ex, gathere
 pub too_long : (c : ℕ) → 2 ^ 30 ≤ c → ◌≡◌ {A = Decoded} (record { no = 3; position = place 0 0 0 }) (decoded_of c)
 unfolding decoded_of
 too_long c h = rw (le-ltb c (2 ^ 30) h)
+
+-- The position of an answer, where a refusal's is 0, 0, 0.
+pub position_or : {o : Decoded} (r : Result IVec3 Refusal) → answered r ≡ o → result_unwrap_or r (place 0 0 0) ≡ o.position
+position_or (Ok p) e = ap (λ (d : Decoded). d.position) e
+position_or (Err refusal) e = ap (λ (d : Decoded). d.position) e
 
 -- ## The lowest refusal
 
@@ -132,22 +137,22 @@ octant_past b x y z h fx fy fz =
 
 -- ## The child number
 
-module _ (p : IVec3) (k d r : ℕ) (e : r ≡ child_no p k d) where
-  pub refused : (r ≡ 0 → ⊥) → ◌≡◌ {A = ChildIndex} (record { no = r; index = 0 }) (child_index_of p k d)
+module _ (p : IVec3) (k d : ℕ) where
+  pub refused : (refusal : Refusal) → number refusal ≡ child_no p k d → ◌≡◌ {A = ChildIndex} (record { no = number refusal; index = 0 }) (child_index_of p k d)
   unfolding child_index_of
-  refused h = rw (sym e, ne_eqb r 0 h)
+  refused refusal e = rw (sym e, ne_eqb (number refusal) 0 (λ z. omega (arith, number_some refusal)))
 
-  module _ (h : r ≡ 0) where
+  module _ (h : 0 ≡ child_no p k d) where
     -- What the shift asks, where nothing is refused, and the answer then.
     pub above : 1 ≤ d
-    above = omega (arith, child_accepted p k d (sym e ∙ h))
+    above = omega (arith, child_accepted p k d (sym h))
 
     pub level : k ≤ d - 1
-    level = omega (arith, child_accepted p k d (sym e ∙ h))
+    level = omega (arith, child_accepted p k d (sym h))
 
     pub given : (i x y z : ℕ) → mag p.x < 2 ^ 31 → mag p.y < 2 ^ 31 → mag p.z < 2 ^ 31
         → x ≡ whole (back p.x) → y ≡ whole (back p.y) → z ≡ whole (back p.z)
         → i ≡ octant (d - 1 - k) x y z → ◌≡◌ {A = ChildIndex} (record { no = 0; index = i }) (child_index_of p k d)
     unfolding child_index_of child_at
     given i x y z hx hy hz ex ey ez ei =
-        rw (sym e, eq-eqb r 0 h, ei, ex, ey, ez, same p.x hx, same p.y hy, same p.z hz)
+        rw (sym h, ei, ex, ey, ez, same p.x hx, same p.y hy, same p.z hz)

@@ -1,18 +1,22 @@
 -- A signed coordinate, from its 32 bits.
-use Prim.Native.Nat.{ℕ, suc, ◌-◌, ◌*◌, ◌%◌, ◌^◌, ◌≤◌, ◌<◌}
+use Prim.Native.Nat.{ℕ, ◌-◌, ◌*◌, ◌%◌, ◌^◌, ◌≤◌, ◌<◌}
 use mathlib.Core.Path.{◌≡◌, ◌∙◌, refl, sym, ap}
 use mathlib.Core.Bool.{true, false}
 use native.Mathlib.Nat.{mod-eq_of_lt, one-mul, lt_of_le_of_lt}
 use native.Mathlib.Omega.{arith}
-use borrow.Author.Tests.{ltb-true, le-ltb}
+use borrow.Author.Tests.{le-leb}
 use lib.Bits.{bit_and, and_mask}
-use lib.Dec.{T, ltb, lit<}
-use lib.IntN.{ℤ, pos, negsuc, nat_abs, ◌-ℤ◌}
+use lib.Dec.{ltb, lit<}
+use lib.IntN.{ℤ, pos, negsuc, nat_abs}
 use lib.Pow.{pow_mono}
-use lib.Signed.{lt_z, non_neg, mag}
+use lib.Signed.{le_z, mag}
 use mir.Syntax.{w32}
-use mir.Val.{SFits, Fits, to_z, of_z}
+use mir.Val.{SFits, to_z, of_z}
 use mir.ValLaws.{to_z-of_z}
+use Rattle.std.specs.Prelude.{Result, Ok, Err, OkIff}
+use Rattle.std.specs.Int.{FitsUnsignedBits}
+use Rattle.std.specs.Result.{result_unwrap_or}
+use Rattle.std.proofs.lemmas.Result.{Ok-from_Ok_iff, OkIff-at_ok}
 use Rattle.basics.specs.Limits.{deepest}
 use Rattle.paths.specs.declared.IVec3.{IVec3}
 use Rattle.paths.specs.Paths.{low10, inside, whole, coord_of, cell_from, to_cell}
@@ -21,95 +25,69 @@ use Rattle.paths.specs.Paths.{low10, inside, whole, coord_of, cell_from, to_cell
 abbrev pub back : ℤ → ℤ
 back x = to_z w32 (of_z w32 x)
 
--- A coordinate is below 0 and -1 - n, or it is n.
-below : (x : ℤ) → lt_z x (pos 0) ≡ true → x ≡ negsuc (mag x)
-below (pos n) h = let q : n < 0 = ltb-true n 0 h in absurd (omega arith)
-below (negsuc n) h = refl
+-- A number that fits is what a cast of it gives, and one below 0 gives what stands in for it.
+cast_plain : {E : Type 0} (r : Result ℕ E) (n d : ℕ) → n < 2 ^ 31 → OkIff r (n < 2 ^ 32) n → result_unwrap_or r d ≡ n
+cast_plain r n d l h = ap (λ s. result_unwrap_or s d) (Ok-from_Ok_iff r _ _ h (omega arith))
 
-plain : (x : ℤ) → lt_z x (pos 0) ≡ false → x ≡ pos (mag x)
-plain (pos n) h = refl
-plain (negsuc n) h = let q : ◌≡◌ {A = ℕ} 0 1 = cc in absurd (omega arith)
+cast_below : {E : Type 0} (r : Result ℕ E) (n d : ℕ) → OkIff r ⊥ n → result_unwrap_or r d ≡ d
+cast_below {E} (Ok v) n d h = absurd (OkIff-at_ok {E = E} (Ok v) ⊥ n v h refl).0
+cast_below (Err e) n d h = refl
 
--- -1 - (-1 - n) is n.
-turned : (n : ℕ) → negsuc 0 -ℤ negsuc n ≡ pos n
-turned n = rw (le-ltb (suc n) 1 (omega arith)) (ap pos (omega arith))
+module _ {E : Type 0} (r : Result ℕ E) where
+  whole_as : (x : ℤ) → mag x < 2 ^ 31 → OkIff r (FitsUnsignedBits 32 x) (nat_abs x) → result_unwrap_or r 0 ≡ whole x
+  unfolding whole
+  whole_as (pos n) l h = cast_plain r n 0 l h
+  whole_as (negsuc n) l h = cast_below r _ 0 h
 
-cast_fits : (n : ℕ) (z : ℤ) → z ≡ pos n → n < 2 ^ 31 → T (non_neg z) × Fits w32 (nat_abs z)
-cast_fits n z e h = rw e (tt, record { fits = omega arith })
+  coord_as : (x : ℤ) → mag x < 2 ^ 31 → OkIff r (FitsUnsignedBits 32 x) (nat_abs x) → result_unwrap_or r (2 ^ 32 - 1) ≡ coord_of x
+  unfolding coord_of
+  coord_as (pos n) l h = cast_plain r n (2 ^ 32 - 1) l h
+  coord_as (negsuc n) l h = cast_below r _ (2 ^ 32 - 1) h
+
+low_as : (x : ℤ) → mag x < 2 ^ 31 → of_z w32 x % 2 ^ 10 ≡ low10 x
+unfolding low10
+low_as (pos n) l = refl
+low_as (negsuc n) l = omega arith
+
+inside_as : (x : ℤ) (d : ℕ) → le_z (pos 0) x ≡ true → ltb (of_z w32 x) (2 ^ d) ≡ inside d x
+unfolding inside
+inside_as (pos n) d h = refl
+inside_as (negsuc n) d h = absurd (false_true h)
+  where
+    false_true : false ≡ true → ⊥
+    false_true e = cc
+
+outside_as : (x : ℤ) (d : ℕ) → le_z (pos 0) x ≡ false → false ≡ inside d x
+unfolding inside
+outside_as (pos n) d h = absurd (true_false (sym (le-leb 0 n (omega arith)) ∙ h))
+  where
+    true_false : true ≡ false → ⊥
+    true_false e = cc
+outside_as (negsuc n) d h = refl
 
 module _ (x : ℤ) (f : SFits w32 x) where
   back_is : back x ≡ x
   back_is = to_z-of_z w32 x f
 
-  mag_fits : SFits w32 (pos (mag x))
-  mag_fits = record { sfits = f.sfits }
+  -- What the code gives for a coordinate, whose bits are read back.
+  module _ {E : Type 0} (r : Result ℕ E) (h : OkIff r (FitsUnsignedBits 32 (back x)) (nat_abs (back x))) where
+    pub whole_cast : result_unwrap_or r 0 ≡ whole x
+    whole_cast = whole_as r x f.sfits (rw back_is at h)
 
-  -- ## Below 0
-  module _ (h : lt_z (back x) (pos 0) ≡ true) where
-    is_below : x ≡ negsuc (mag x)
-    is_below = below x (rw back_is at h)
+    pub coord_cast : result_unwrap_or r (2 ^ 32 - 1) ≡ coord_of x
+    coord_cast = coord_as r x f.sfits (rw back_is at h)
 
-    back_turned : negsuc 0 -ℤ back x ≡ pos (mag x)
-    back_turned = ap (λ (z : ℤ). negsuc 0 -ℤ z) (back_is ∙ is_below) ∙ turned (mag x)
+  module _ (m : ℕ) (e : m ≡ of_z w32 (back x)) where
+    pub low_cast : bit_and m (2 ^ 10 - 1) ≡ low10 x
+    low_cast = rw (e, back_is, and_mask (of_z w32 x) 10) (low_as x f.sfits)
 
-    turn_back : back (negsuc 0 -ℤ back x) ≡ pos (mag x)
-    turn_back = ap back back_turned ∙ to_z-of_z w32 (pos (mag x)) mag_fits
-
-    -- What the magnitude's code asks, and its answer.
-    pub turn_fits : SFits w32 (negsuc 0 -ℤ back x)
-    turn_fits = rw back_turned mag_fits
-
-    pub turn_cast : T (non_neg (back (negsuc 0 -ℤ back x))) × Fits w32 (nat_abs (back (negsuc 0 -ℤ back x)))
-    turn_cast = cast_fits (mag x) _ turn_back f.sfits
-
-    pub turn_mag : nat_abs (back (negsuc 0 -ℤ back x)) ≡ mag x
-    turn_mag = ap nat_abs turn_back
-
-    -- What the definitions say of it.
-    pub low_below : (m : ℕ) → m ≡ mag (back x) → 2 ^ 10 - 1 - bit_and m (2 ^ 10 - 1) ≡ low10 x
-    unfolding low10
-    low_below m e = rw (e, back_is, and_mask (mag x) 10) (sym (ap low10 is_below))
-
-    pub whole_below : 0 ≡ whole x
-    unfolding whole
-    whole_below = sym (ap whole is_below)
-
-    pub coord_below : 2 ^ 32 - 1 ≡ coord_of x
-    unfolding coord_of
-    coord_below = sym (ap coord_of is_below)
-
-    pub inside_below : (d : ℕ) → false ≡ inside d x
-    unfolding inside
-    inside_below d = sym (ap (inside d) is_below)
-
-  -- ## At least 0
-  module _ (h : lt_z (back x) (pos 0) ≡ false) where
-    is_plain : x ≡ pos (mag x)
-    is_plain = plain x (rw back_is at h)
-
-    pub plain_cast : T (non_neg (back x)) × Fits w32 (nat_abs (back x))
-    plain_cast = cast_fits (mag x) _ (back_is ∙ is_plain) f.sfits
-
-    pub plain_mag : nat_abs (back x) ≡ mag x
-    plain_mag = ap nat_abs (back_is ∙ is_plain)
-
-    pub low_plain : (m : ℕ) → m ≡ mag (back x) → bit_and m (2 ^ 10 - 1) ≡ low10 x
-    unfolding low10
-    low_plain m e = rw (e, back_is, and_mask (mag x) 10) (sym (ap low10 is_plain))
-
-    pub whole_plain : (m : ℕ) → m ≡ mag (back x) → m ≡ whole x
-    unfolding whole
-    whole_plain m e = rw (e, back_is) (sym (ap whole is_plain))
-
-    pub coord_plain : (m : ℕ) → m ≡ mag (back x) → m ≡ coord_of x
-    unfolding coord_of
-    coord_plain m e = rw (e, back_is) (sym (ap coord_of is_plain))
-
-    pub inside_plain : (d m : ℕ) → d ≤ deepest → m ≡ mag (back x) → ltb m (1 * 2 ^ d % 2 ^ 32) ≡ inside d x
-    unfolding inside
-    inside_plain d m l e =
+    pub inside_cast : (d : ℕ) → d ≤ deepest → le_z (pos 0) (back x) ≡ true → ltb m (1 * 2 ^ d % 2 ^ 32) ≡ inside d x
+    inside_cast d l h =
         let q : 2 ^ d < 2 ^ 32 = lt_of_le_of_lt (pow_mono l) (lit< tt) in
-        rw (one-mul (2 ^ d), mod-eq_of_lt q, e, back_is) (sym (ap (inside d) is_plain))
+        rw (one-mul (2 ^ d), mod-eq_of_lt q, e, back_is) (inside_as x d (rw back_is at h))
+
+  pub inside_not : (d : ℕ) → le_z (pos 0) (back x) ≡ false → le_z (pos 0) (back x) ≡ inside d x
+  inside_not d h = h ∙ outside_as x d (rw back_is at h)
 
 -- the cell at a position, its coordinates read from their bits
 pub cell_is : (p : IVec3) (d x y z : ℕ) → mag p.x < 2 ^ 31 → mag p.y < 2 ^ 31 → mag p.z < 2 ^ 31

@@ -1,13 +1,14 @@
 -- Paths and child numbers, as plain bit interleaving.
-use Rattle.std.specs.Prelude.{ℕ, zero, suc, ◌+◌, ◌-◌, ◌*◌, ◌%◌, ◌^◌, Bool, false, ℤ, pos, negsuc}
+use Rattle.std.specs.Prelude.{ℕ, zero, suc, ◌+◌, ◌-◌, ◌*◌, ◌%◌, ◌^◌, Bool, false, ℤ, pos, negsuc, Result}
+use Rattle.std.specs.declared.result.Result.TheVariants.{Ok, Err}
 use lib.Dec.{leb, ltb}
 use Rattle.basics.specs.Limits.{deepest}
 use Rattle.basics.specs.Pick.{pick}
 use Rattle.basics.specs.Bits.{bit}
+use Rattle.basics.specs.Refusals.{number}
+use Rattle.basics.specs.declared.Refusal.{Refusal}
 use Rattle.paths.specs.declared.IVec3.{IVec3}
 use Rattle.paths.specs.declared.Cell.{Cell}
-use Rattle.paths.specs.declared.ChildIndex.{ChildIndex}
-use Rattle.paths.specs.declared.Decoded.{Decoded}
 
 -- ## The path of a cell
 
@@ -34,6 +35,16 @@ gather (suc n) axis code = gather n axis code + bit (3 * n + axis) code * 2 ^ n
 
 abbrev pub place : ℕ → ℕ → ℕ → IVec3
 place x y z = record { x = pos x; y = pos y; z = pos z }
+
+-- The cell of a path and 0, or 0, 0, 0 and the number of the refusal.
+pub record Decoded : Type 0 where
+  pub no : ℕ
+  pub position : IVec3
+
+-- what the code answers, so written
+abbrev pub decoded : Result IVec3 Refusal → Decoded
+decoded (Ok p) = record { no = 0; position = p }
+decoded (Err refusal) = record { no = number refusal; position = place 0 0 0 }
 
 unfoldable pub decoded_of : ℕ → Decoded
 decoded_of code =
@@ -79,6 +90,16 @@ child_no p k d =
 -- Child at level k of depth d: bit d-1-k of x, plus twice that of y, plus four times that of z.
 unfoldable pub child_at : IVec3 → ℕ → ℕ → ℕ
 child_at p k d = octant (d - 1 - k) (whole p.x) (whole p.y) (whole p.z)
+
+-- The number of a child and 0, or 0 and the number of the refusal.
+pub record ChildIndex : Type 0 where
+  pub no : ℕ
+  pub index : ℕ
+
+-- what the code answers, so written
+abbrev pub child_index : Result ℕ Refusal → ChildIndex
+child_index (Ok i) = record { no = 0; index = i }
+child_index (Err refusal) = record { no = number refusal; index = 0 }
 
 unfoldable pub child_index_of : IVec3 → ℕ → ℕ → ChildIndex
 child_index_of p k d =

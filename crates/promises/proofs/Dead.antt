@@ -28,8 +28,13 @@ use Rattle.compare.specs.Compare.{roots_no, compare_no, compare_of}
 use Rattle.compare.proofs.Theorems.{number_is}
 use Rattle.basics.specs.Bytes.{Bytes}
 use Rattle.metres.specs.Record.{aim_of}
-use Rattle.metres.specs.declared.Aim.{Aim}
-use Rattle.metres.specs.declared.Aim.TheVariants.{Nothing, Cells, No}
+use Rattle.std.specs.declared.option.Option.{Option}
+use Rattle.std.specs.declared.option.Option.TheVariants.{Some, None}
+use Rattle.std.specs.declared.result.Result.{Result}
+use Rattle.std.specs.declared.result.Result.TheVariants.{Ok, Err}
+use Rattle.basics.specs.declared.Refusal.{Refusal}
+use Rattle.metres.specs.declared.Cells.{Cells}
+use Rattle.basics.proofs.Refusals.{number_some}
 use Rattle.bars.specs.Bars.{bar_of}
 use Rattle.bars.proofs.Ways.{bar_number}
 use Rattle.readings.specs.Enter.{pause_of, asked_of, enter_of}
@@ -147,11 +152,11 @@ module _ (t : Tables) (y : ℕ) (some : y ≢ 0) (dead : Lives t y → ⊥) wher
         let e = (dead_edit_lem d (place a i j) v).2 (g.deep, lt-ltb a (2 ^ d) in_a, lt-ltb i (2 ^ d) g.in_y, lt-ltb j (2 ^ d) g.in_z) in
         (bar_number t y d i j a v (b - a) (λ z. let q : ◌≡◌ {A = ℕ} 4 0 = sym e ∙ z in omega arith)).0 ∙ e
 
-    dead_asked : (d : ℕ) (m : Aim) → Sound d m → ((asked_of t y d m).no ≢ 0) × (((n : ℕ) → m ≡ No n → ⊥) → (asked_of t y d m).no ≡ 4)
+    dead_asked : (d : ℕ) (m : Result (Option Cells) Refusal) → Sound d m → ((asked_of t y d m).no ≢ 0) × (((refusal : Refusal) → m ≡ Err refusal → ⊥) → (asked_of t y d m).no ≡ 4)
     unfolding asked_of
-    dead_asked d (Nothing) g = let e = dead_pause in ((λ z. omega arith), λ n. e)
-    dead_asked d (Cells a b i j v) g = let e = dead_bar d a b i j v g in ((λ z. omega arith), λ n. e)
-    dead_asked d (No n) g = (g, λ a. absurd (a n refl))
+    dead_asked d (Ok None) g = let e = dead_pause in ((λ z. omega arith), λ n. e)
+    dead_asked d (Ok (Some c)) g = let e = dead_bar d c.first c.last c.y c.z c.value g in ((λ z. omega arith), λ n. e)
+    dead_asked d (Err refusal) g = ((λ z. let h = number_some refusal in omega arith), λ a. absurd (a refusal refl))
 
     dead_reading : (d k : ℕ) (l : List ℕ) → Bytes l → ((enter_of t y d k l).no ≢ 0) × (Asks l k d → (enter_of t y d k l).no ≡ 4)
     dead_reading d k l bytes = subst (λ (o : Out). (o.no ≢ 0) × (Asks l k d → o.no ≡ 4)) (enter_sized t y d k l (sized_fits sized))

@@ -22,8 +22,12 @@ use Rattle.calls.proofs.Follows.{fresh_made}
 use Rattle.edit.proofs.Slots.{edit_draws}
 use Rattle.basics.specs.Bytes.{Bytes}
 use Rattle.metres.specs.Record.{aim_of}
-use Rattle.metres.specs.declared.Aim.{Aim}
-use Rattle.metres.specs.declared.Aim.TheVariants.{Nothing, Cells, No}
+use Rattle.std.specs.declared.option.Option.{Option}
+use Rattle.std.specs.declared.option.Option.TheVariants.{Some, None}
+use Rattle.std.specs.declared.result.Result.{Result}
+use Rattle.std.specs.declared.result.Result.TheVariants.{Ok, Err}
+use Rattle.basics.specs.declared.Refusal.{Refusal}
+use Rattle.metres.specs.declared.Cells.{Cells}
 use Rattle.bars.specs.Bars.{bar_of}
 use Rattle.bars.proofs.Ways.{edit_at, pass_all, bar_by}
 use Rattle.readings.specs.Enter.{pause_of, asked_of, enter_of}
@@ -89,11 +93,11 @@ pause_freeing {t} s root = cases (ℕ_discrete (hold_no t root) 0)
     (λ z. subst (λ (o : Out). Frees o.after) (sym (paused t root z)) (after_call s (hold root) tt))
     (λ z. subst (λ (o : Out). Frees o.after) (sym (unpaused t root z)) s)
 
-asked_freeing : {t : Tables} → Frees t → (root d : ℕ) (m : Aim) → Sound d m → Frees (asked_of t root d m).after
+asked_freeing : {t : Tables} → Frees t → (root d : ℕ) (m : Result (Option Cells) Refusal) → Sound d m → Frees (asked_of t root d m).after
 unfolding asked_of
-asked_freeing s root d (Nothing) g = pause_freeing s root
-asked_freeing s root d (Cells a b y z v) g = bar_freeing s root d y z a (b - a) v g.small
-asked_freeing s root d (No n) g = s
+asked_freeing s root d (Ok None) g = pause_freeing s root
+asked_freeing s root d (Ok (Some c)) g = bar_freeing s root d c.y c.z c.first (c.last - c.first) c.value g.small
+asked_freeing s root d (Err refusal) g = s
 
 entry_freeing : {t : Tables} → Frees t → (root d k : ℕ) (l : List ℕ) → Bytes l → Frees (enter_of t root d k l).after
 entry_freeing {t} s root d k l bytes = split (fits t)

@@ -13,9 +13,13 @@ use Rattle.arena.specs.Tables.{Tables}
 use Rattle.arena.proofs.Fits.{sized_fits}
 use Rattle.calls.proofs.Roots.{kept_there}
 use Rattle.basics.specs.Bytes.{Bytes}
-use Rattle.metres.specs.Record.{aim_of}
-use Rattle.metres.specs.declared.Aim.{Aim}
-use Rattle.metres.specs.declared.Aim.TheVariants.{Nothing, Cells, No}
+use Rattle.metres.specs.Record.{cells_at, aim_of}
+use Rattle.std.specs.declared.option.Option.{Option}
+use Rattle.std.specs.declared.option.Option.TheVariants.{Some, None}
+use Rattle.std.specs.declared.result.Result.{Result}
+use Rattle.std.specs.declared.result.Result.TheVariants.{Ok, Err}
+use Rattle.basics.specs.declared.Refusal.{Refusal}
+use Rattle.metres.specs.declared.Cells.{Cells}
 use Rattle.bars.specs.Bars.{bar_of}
 use Rattle.readings.specs.Enter.{pause_of, asked_of, enter_of}
 use Rattle.readings.proofs.Aims.{SoundCells, Sound, aim_sound}
@@ -35,7 +39,7 @@ module _ {d : ℕ} {t : Tables} {root : ℕ} {F : Cube d} (s : Stands d t root F
   f = sized_fits (stands_well s).sized
 
   -- An accepted shot or bar changes just its cells of the cube.
-  pub reading_stands : {a b y z v : ℕ} → aim_of l k d ≡ Cells a b y z v → (enter_of t root d k l).no ≡ 0
+  pub reading_stands : {a b y z v : ℕ} → aim_of l k d ≡ Ok (Some (cells_at a b y z v)) → (enter_of t root d k l).no ≡ 0
       → Stands d (enter_of t root d k l).after (enter_of t root d k l).id (painted F y z a b v)
   reading_stands {a} {b} {y} {z} {v} e ok =
       let g : SoundCells d a b y z v = subst (Sound d) e (aim_sound l k d bytes) in
@@ -56,11 +60,11 @@ module _ {e : ℕ} {t : Tables} {b : ℕ} {F : Cube e} (s : Stands e t b F) (roo
       (λ z. subst (λ (o : Out). There o.after b → Stands e o.after b F) (sym (paused t root z)) (λ i. other (hold root) tt i s) h)
       (λ z. subst (λ (o : Out). Stands e o.after b F) (sym (unpaused t root z)) s)
 
-  asked_others : (m : Aim) → Sound d m → There (asked_of t root d m).after b → Stands e (asked_of t root d m).after b F
+  asked_others : (m : Result (Option Cells) Refusal) → Sound d m → There (asked_of t root d m).after b → Stands e (asked_of t root d m).after b F
   unfolding asked_of
-  asked_others (Nothing) g h = pause_others h
-  asked_others (Cells a c y z v) g h = bar_others s root d y z a (c - a) v g.small
-  asked_others (No n) g h = s
+  asked_others (Ok None) g h = pause_others h
+  asked_others (Ok (Some c)) g h = bar_others s root d c.y c.z c.first (c.last - c.first) c.value g.small
+  asked_others (Err refusal) g h = s
 
   pub reading_others : Stands e (enter_of t root d k l).after b F
   reading_others =

@@ -23,7 +23,8 @@ use Rattle.lists.specs.Changes as lists
 use Rattle.compare.specs.Compare.{compare_of}
 use Rattle.basics.specs.Bytes.{Bytes}
 use Rattle.metres.specs.Record.{aim_of}
-use Rattle.metres.specs.declared.Aim.TheVariants.{No}
+use Rattle.std.specs.declared.result.Result.TheVariants.{Err}
+use Rattle.basics.specs.declared.Refusal.{Refusal}
 use Rattle.readings.specs.Enter.{enter_of, enter_ends}
 
 -- ## Calls
@@ -191,7 +192,7 @@ ByFour k fit = (1 ≤ k) × (k ≤ 4) × (fit → k ≡ 4)
 
 -- the record is not refused by itself: with 2, 13, 14 or 3
 abbrev pub Asks : List ℕ → ℕ → ℕ → Type 0
-Asks l k d = (n : ℕ) → aim_of l k d ≡ No n → ⊥
+Asks l k d = (refusal : Refusal) → aim_of l k d ≡ Err refusal → ⊥
 
 -- a depth, and the parts of a list equally long: refusal 2 does not apply, nor 1 for the list
 abbrev pub Comparable : ℕ → List ℕ → List ℕ → List ℕ → Type 0

@@ -1,6 +1,5 @@
 -- Coordinates, sides, refusals, and the ends of lookup, in the forms in which the code has them.
-use Prim.Native.Nat.{ℕ, ◌-◌, ◌*◌, ◌%◌, ◌^◌, ◌≤◌, ◌<◌}
-use native.Mathlib.Nat.{mod-eq_of_lt, one-mul}
+use Prim.Native.Nat.{ℕ, ◌-◌, ◌%◌, ◌^◌, ◌≤◌, ◌<◌}
 use native.Mathlib.Decide.{ℕ_discrete, dec_le}
 use native.Mathlib.Omega.{arith}
 use mathlib.Core.Path.{◌≡◌, ◌∙◌, refl, sym, ap}
@@ -35,11 +34,6 @@ use Rattle.read_cell.proofs.Ends.{look_descent, end_kids, val_facts}
 
 side_small : (d : ℕ) → d ≤ deepest → 2 ^ d ≤ 2 ^ deepest
 side_small d h = pow_mono h
-
-pub inside_test : (d x : ℕ) → d ≤ deepest → ltb x (1 * 2 ^ d % 2 ^ 32) ≡ ltb x (2 ^ d)
-inside_test d x h =
-    let k : 2 ^ d < 2 ^ 32 = omega (arith, side_small d h) in
-    rw (one-mul (2 ^ d)) (ap (ltb x) (mod-eq_of_lt k))
 
 -- one test for three coordinates
 module _ (d x y z : ℕ) where

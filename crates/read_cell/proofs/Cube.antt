@@ -1,10 +1,10 @@
 -- The cube's list by its cells.
 use Prim.Native.Nat.{ℕ, zero, suc, ◌+◌, ◌*◌, ◌/◌, ◌%◌, ◌^◌, ◌≤◌, ◌<◌}
-use native.Mathlib.Nat.{mul-le-mul_right, div-add-mod', mod-lt, div-lt_iff_lt-mul, pow-succ', div-div-eq-div-mul}
+use native.Mathlib.Nat.{mul-le-mul_right, div-add-mod', mod-lt, div-lt_iff_lt-mul, pow-suc, pow-succ', div-div-eq-div-mul}
 use native.Mathlib.Omega.{arith}
 use mathlib.Core.Path.{◌≡◌, ◌∙◌, refl, sym, ap, subst}
 use mathlib.Core.List.{List}
-use lib.Pow.{pow_pos}
+use lib.Pow.{pow_pos, pow-add, shl_exact}
 use lib.Arith.{digits_div, digits_mod}
 use lib.ListN.{length, get_or}
 use lib.Seq.{ext_get_or}
@@ -64,6 +64,17 @@ pow_eight (suc d) =
     let e : 8 * 8 ^ d ≡ 8 * (2 ^ d * 2 ^ d * 2 ^ d) = ap (λ (n : ℕ). 8 * n) (pow_eight d) in
     let s : 2 * 2 ^ d * (2 * 2 ^ d) * (2 * 2 ^ d) ≡ 8 * (2 ^ d * 2 ^ d * 2 ^ d) = omega arith in
     rw (pow-succ' 8 d, pow-succ' 2 d) (e ∙ sym s)
+
+-- 8^d by a shift
+eights : (d : ℕ) → 2 ^ (3 * d) ≡ 8 ^ d
+eights zero = refl
+eights (suc d) =
+    let e : 3 * suc d ≡ 3 * d + 3 = omega arith in
+    ap (λ (i : ℕ). 2 ^ i) e ∙ pow-add 2 (3 * d) 3 ∙ ap (λ (i : ℕ). i * 8) (eights d) ∙ sym (pow-suc 8 d)
+
+-- .. in words of w bits
+pub cells_shift : (w d : ℕ) → 3 * d < w → 1 * 2 ^ (3 * d) % 2 ^ w ≡ 8 ^ d
+cells_shift w d h = shl_exact 1 (3 * d) w (omega arith) (omega arith) ∙ omega (arith, eights d)
 
 -- ---- an index of the list is the address of one cell
 

@@ -20,28 +20,29 @@ use Rattle.tree.proofs.CellLaws.{cube_cell}
 use Rattle.tree.proofs.Canon.{look_empty, look_leaf, look_branch, look_end, value_empty}
 use Rattle.read_cell.specs.declared.End.{End}
 use Rattle.read_cell.specs.Reading.{end_at, descent, end_of}
-use Rattle.read_cell.specs.Models.{ends_at, val}
+use Rattle.ids.specs.Ids.{is_end}
+use Rattle.read_cell.specs.Models.{val}
 
-pub ends_empty : (a : ℕ) → a ≡ 0 → ends_at a ≡ true
-unfolding ends_at
+pub ends_empty : (a : ℕ) → a ≡ 0 → is_end a ≡ true
+unfolding is_end
 ends_empty a e = rw (eq-eqb a 0 e)
 
-pub ends_leaf : (a : ℕ) → Leaf a → ends_at a ≡ true
-unfolding ends_at
+pub ends_leaf : (a : ℕ) → Leaf a → is_end a ≡ true
+unfolding is_end
 ends_leaf a h = let e : (a ≡ 0 → ⊥) = omega arith in rw (ne_eqb a 0 e) (le-leb _ _ h)
 
-pub ends_not : (a : ℕ) → Branch a → ends_at a ≡ false
-unfolding ends_at
+pub ends_not : (a : ℕ) → Branch a → is_end a ≡ false
+unfolding is_end
 ends_not a h = rw (ne_eqb a 0 h.0) (lt-leb _ _ h.1)
 
 pub never : true ≡ false → ⊥
 never z = let n : ◌≡◌ {A = ℕ} 0 1 = cc in omega arith
 
-pub ends_low : (a : ℕ) → a < 2 ^ 63 → eqb a 0 ≡ ends_at a
-unfolding ends_at
+pub ends_low : (a : ℕ) → a < 2 ^ 63 → eqb a 0 ≡ is_end a
+unfolding is_end
 ends_low a h = cases (ℕ_discrete a 0) (λ e. rw (eq-eqb a 0 e)) (λ e. rw (ne_eqb a 0 e, lt-leb (2 ^ 63) a h))
 
-pub ends_high : (a : ℕ) → 2 ^ 63 ≤ a → true ≡ ends_at a
+pub ends_high : (a : ℕ) → 2 ^ 63 ≤ a → true ≡ is_end a
 ends_high a h = sym (ends_leaf a h)
 
 -- ---- the clauses of descent
@@ -51,7 +52,7 @@ module _ (W : Words) (k : ℕ) where
   unfolding descent
   descent_end a = refl
 
-  pub descent_stop : (c : ℕ) (p : List ℕ) (a : ℕ) → ends_at a ≡ true → descent W k (c ∷ p) a ≡ end_at a k
+  pub descent_stop : (c : ℕ) (p : List ℕ) (a : ℕ) → is_end a ≡ true → descent W k (c ∷ p) a ≡ end_at a k
   unfolding descent
   descent_stop c p a e = go (kind a)
     where
@@ -60,7 +61,7 @@ module _ (W : Words) (k : ℕ) where
       go (leaf h) = refl
       go (branch h) = let z : true ≡ false = cc (e, ends_not a h) in absurd (never z)
 
-  pub descent_on : (c : ℕ) (p : List ℕ) (a : ℕ) → ends_at a ≡ false → descent W k (c ∷ p) a ≡ descent W (k + 1) p (child_of W a c)
+  pub descent_on : (c : ℕ) (p : List ℕ) (a : ℕ) → is_end a ≡ false → descent W k (c ∷ p) a ≡ descent W (k + 1) p (child_of W a c)
   unfolding descent
   descent_on c p a e = go (kind a)
     where
@@ -100,9 +101,9 @@ module _ (ks fs : List ℕ) where
   kids_step : (k c : ℕ) (p : List ℕ) (a : ℕ) → c < 8
       → ((b : ℕ) → descent (kid_of ks) (k + 1) p b ≡ descent (word_of (nodes ks fs)) (k + 1) p b)
       → descent (kid_of ks) k (c ∷ p) a ≡ descent (word_of (nodes ks fs)) k (c ∷ p) a
-  kids_step k c p a h ih = go (ends_at a) refl
+  kids_step k c p a h ih = go (is_end a) refl
     where
-      go : (t : Bool) → ends_at a ≡ t → descent (kid_of ks) k (c ∷ p) a ≡ descent (word_of (nodes ks fs)) k (c ∷ p) a
+      go : (t : Bool) → is_end a ≡ t → descent (kid_of ks) k (c ∷ p) a ≡ descent (word_of (nodes ks fs)) k (c ∷ p) a
       go true e = descent_stop (kid_of ks) k c p a e ∙ sym (descent_stop (word_of (nodes ks fs)) k c p a e)
       go false e =
           descent_on (kid_of ks) k c p a e ∙ ih (kid_of ks (slot a) c)

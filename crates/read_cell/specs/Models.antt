@@ -1,5 +1,5 @@
 -- What each private function does, step by step. Nobody has to believe these: the laws carry them to Reading and Calls.
-use Rattle.std.specs.Prelude.{ℕ, ◌%◌, ◌^◌, Bool, true, leb, ltb, eqb}
+use Rattle.std.specs.Prelude.{ℕ, ◌%◌, ◌^◌, leb, ltb, eqb}
 use Rattle.basics.specs.Limits.{deepest}
 use Rattle.basics.specs.Pick.{pick}
 use Rattle.nodes.specs.Words.{Words}
@@ -10,10 +10,6 @@ use Rattle.arena.specs.Calls.{fits, live_or_empty}
 use Rattle.read_cell.specs.declared.Looked.{Looked}
 use Rattle.read_cell.specs.Reading.{read_at}
 use Rattle.read_cell.specs.Calls.{looked}
-
--- EMPTY or a leaf
-unfoldable pub ends_at : ℕ → Bool
-ends_at a = pick (eqb a 0) true (leb (2 ^ 63) a)
 
 -- the value of an id, in 16 bits
 unfoldable pub val : Words → ℕ → ℕ

@@ -4,14 +4,15 @@
 ghost use Rattle.std.specs.Prelude.{◌≡◌, ◌%◌, ◌^◌, ◌≤◌, eqb, ltb};
 ghost use Rattle.basics.specs.Limits.{deepest};
 ghost use Rattle.basics.specs.Pick.{pick};
+ghost use Rattle.basics.specs.Refusals.{no_of};
 ghost use Rattle.nodes.specs.Words.{kid_of, fact_of};
 ghost use Rattle.arena.specs.Lent.{before};
 ghost use Rattle.read_cell.specs.Reading.{end_of};
 ghost use Rattle.read_cell.specs.Calls.{look_of};
-ghost use Rattle.read_cell.specs.Models.{ends_at, val, look_no_at, look_at};
+ghost use Rattle.read_cell.specs.Models.{val, look_no_at, look_at};
 
 use arena::{Arena, fit, is_live_or_empty, slot_of};
-use basics::DEEPEST;
+use basics::{DEEPEST, Refusal};
 use ids::{BlockId, LOWEST_LEAF};
 use nodes::{VALUE, fact, kid, stored};
 use paths::{Cell, IVec3, octant, to_cell};
@@ -24,6 +25,7 @@ pub struct End {
 }
 
 // The answer of lookup.
+// Kept: the refusal and the value side by side, as C takes them.
 #[repr(C)]
 #[derive(Clone, Copy)]
 pub struct Looked {
@@ -32,16 +34,6 @@ pub struct Looked {
 }
 
 // ---- ids
-
-// Is the id EMPTY or a leaf?
-fn is_end(id: u64) -> bool
-    ensures { result ≡ ends_at id }
-{
-    if id < LOWEST_LEAF {
-        return id == BlockId::EMPTY.0;
-    }
-    true
-}
 
 // What is stored for the id, in 16 bits; EMPTY has 0.
 fn shown(id: u64, stored: u32) -> u16
@@ -62,6 +54,7 @@ pub fn value(facts: &[u32], id: u64) -> u16
 }
 
 // The same for a reader of one value: nothing is worked out that pays only with more of them.
+// Kept: both, since with one of them in both places lookup or expansion is slower (docs/DECISIONS.md).
 fn value_once(facts: &[u32], id: u64) -> u16
     ensures { result ≡ val (fact_of facts.now) id }
 {
@@ -80,20 +73,16 @@ pub fn descend(kids: &[u64], id: BlockId, cell: Cell) -> End
             level: 0,
         };
     }
-    let mut at = id.0;
-    let mut left = cell.depth;
-    while 0 < left {
-        if is_end(at) {
-            return End {
-                id: BlockId(at),
-                level: cell.depth - left,
-            };
+    let mut at = id;
+    for level in 0..cell.depth {
+        if at.is_end() {
+            return End { id: at, level };
         }
-        left -= 1;
-        at = kid(kids, slot_of(at), octant(left, cell.x, cell.y, cell.z));
+        let left = cell.depth - 1 - level;
+        at = BlockId(kid(kids, slot_of(at.0), octant(left, cell.x, cell.y, cell.z)));
     }
     End {
-        id: BlockId(at),
+        id: at,
         level: cell.depth,
     }
 }
@@ -105,29 +94,35 @@ fn is_inside(d: u32, x: u32) -> bool
     requires { d ≤ deepest }
     ensures { result ≡ ltb x (2 ^ d) }
 {
-    let one: u32 = 1;
-    x < (one << d)
+    x < 1u32 << d
 }
 
 // ---- lookup
 
-// The lowest refusal that applies to a lookup, or 0.
-pub fn look_no(arena: Arena, kids: &[u64], facts: &[u32], find: &[u16], id: u64, cell: Cell) -> u32
-    ensures { result ≡ look_no_at (before arena kids.now facts.now find.now) id cell }
+// Refuses a lookup by the lowest refusal that applies.
+pub fn may_look(
+    arena: Arena,
+    kids: &[u64],
+    facts: &[u32],
+    find: &[u16],
+    id: u64,
+    cell: Cell,
+) -> Result<(), Refusal>
+    ensures { no_of result ≡ look_no_at (before arena kids.now facts.now find.now) id cell }
 {
-    if fit(arena.capacity, kids.len(), facts.len(), find.len()) {
-        if cell.depth <= DEEPEST {
-            if is_inside(cell.depth, cell.x | cell.y | cell.z) {
-                if is_live_or_empty(arena.capacity, facts, id) {
-                    return 0;
-                }
-                return 4;
-            }
-            return 3;
-        }
-        return 2;
+    if !fit(arena.capacity, kids.len(), facts.len(), find.len()) {
+        return Err(Refusal::Size);
     }
-    1
+    if cell.depth > DEEPEST {
+        return Err(Refusal::Depth);
+    }
+    if !is_inside(cell.depth, cell.x | cell.y | cell.z) {
+        return Err(Refusal::Position);
+    }
+    if !is_live_or_empty(arena.capacity, facts, id) {
+        return Err(Refusal::NotLive);
+    }
+    Ok(())
 }
 
 // Lookup of a cell.
@@ -141,14 +136,18 @@ fn look_at(
 ) -> Looked
     ensures { result ≡ look_at (before arena kids.now facts.now find.now) id.0 cell }
 {
-    let no = look_no(arena, kids, facts, find, id.0, cell);
-    if no != 0 {
-        return Looked { no: no, value: 0 };
-    }
-    let end = descend(kids, id, cell);
-    Looked {
-        no: 0,
-        value: value_once(facts, end.id.0),
+    match may_look(arena, kids, facts, find, id.0, cell) {
+        Err(refusal) => Looked {
+            no: u32::from(refusal),
+            value: 0,
+        },
+        Ok(()) => {
+            let end = descend(kids, id, cell);
+            Looked {
+                no: 0,
+                value: value_once(facts, end.id.0),
+            }
+        }
     }
 }
 

@@ -19,7 +19,7 @@ use Rattle.read_cell.specs.Reading.{cube_of}
 use Rattle.read_cell.specs.Calls.{expand_no, expanded, expand_of}
 use Rattle.read_cell.specs.Models.{val}
 use Rattle.read_cell.proofs.Ends.{val_facts}
-use Rattle.read_cell.proofs.Cube.{pow_eight}
+use Rattle.read_cell.proofs.Cube.{pow_eight, cells_shift}
 use Rattle.read_cube.specs.Models.{fill_row, grow, cube_from}
 use Rattle.read_cube.proofs.Whole.{cube_from_lem}
 
@@ -33,13 +33,11 @@ side_shift d h =
     let k : 2 ^ d < 2 ^ 64 = omega (arith, side_small d h) in
     rw (one-mul (2 ^ d)) (mod-eq_of_lt k)
 
-pub square_small : (s p : ℕ) → s ≤ 64 → p ≡ s * s → p ≤ 4096
-square_small s p h e = let m : s * s ≤ 64 * 64 = mul-le-mul h h in omega arith
+pub square_small : (s : ℕ) → s ≤ 64 → s * s ≤ 4096
+square_small s h = let m : s * s ≤ 64 * 64 = mul-le-mul h h in omega arith
 
-pub cube_test : (d n s p q : ℕ) → s ≡ 2 ^ d → p ≡ s * s → q ≡ p * s → eqb n q ≡ eqb n (8 ^ d)
-cube_test d n s p q e h k =
-    let m : q ≡ 8 ^ d = rw (pow_eight d) (k ∙ ap (λ (i : ℕ). i * s) h ∙ ap (λ (i : ℕ). i * i * i) e) in
-    ap (eqb n) m
+pub cube_test : (d n : ℕ) → d ≤ deepest_cube → eqb n (1 * 2 ^ (3 * d) % 2 ^ 64) ≡ eqb n (8 ^ d)
+cube_test d n h = ap (eqb n) (cells_shift 64 d (omega arith))
 
 -- ---- expansion: a refusal, or the whole cube
 
@@ -85,10 +83,7 @@ unfolding cube_from
 from_leaf ks fs s d a u l m h q j =
     rw (le-leb (2 ^ 63) a h) (j ∙ ap (λ (n : ℕ). fill_row 0 (length l) n l) (q ∙ val_facts ks fs a))
 
-pub from_parts : (ks fs : List ℕ) (s p d a : ℕ) (l o m : List ℕ) → a < 2 ^ 63 → o ≡ fill_row 0 (length l) 0 l → p ≡ s * s
-    → m ≡ grow (word_of (nodes ks fs)) 8 s p d s a 0 o → m ≡ cube_from (word_of (nodes ks fs)) s d a l
+pub from_parts : (ks fs : List ℕ) (s d a : ℕ) (l o m : List ℕ) → a < 2 ^ 63 → o ≡ fill_row 0 (length l) 0 l
+    → m ≡ grow (word_of (nodes ks fs)) 8 s (s * s) d s a 0 o → m ≡ cube_from (word_of (nodes ks fs)) s d a l
 unfolding cube_from
-from_parts ks fs s p d a l o m h q k j = rw (lt-leb (2 ^ 63) a h) (j ∙ cc (k, q))
-
-pub from_fits : (s p c c₀ : ℕ) → 0 + s * (s * s) + s * s + s ≤ c₀ + s * s + s → p ≡ s * s → c ≡ c₀ → 0 + s * p + s * s + s ≤ c + p + s
-from_fits s p c c₀ h e q = rw e (omega arith)
+from_parts ks fs s d a l o m h q j = rw (lt-leb (2 ^ 63) a h) (j ∙ cc q)

@@ -17,7 +17,8 @@ use Rattle.tree.specs.Cells.{path_by, cube_path}
 use Rattle.paths.specs.Paths.{octant}
 use Rattle.tree.proofs.Canon.{look_empty, look_leaf, look_branch, look_end}
 use Rattle.read_cell.specs.Reading.{read_at}
-use Rattle.read_cell.specs.Models.{val, ends_at}
+use Rattle.ids.specs.Ids.{is_end}
+use Rattle.read_cell.specs.Models.{val}
 use Rattle.read_cell.proofs.Ends.{ends_leaf, ends_not}
 use Rattle.read_cell.proofs.Cube.{addr}
 use Rattle.read_cube.specs.Models.{times, fill_block, thick, offset, grow}
@@ -204,11 +205,11 @@ module _ (W : Words) (n s t : ℕ) where
   unfolding grow
   grow_none k side a at l e = rw (eq-eqb a 0 e)
 
-  grow_end : (k side a at : ℕ) (l : List ℕ) → (a ≡ 0 → ⊥) → ends_at a ≡ true → fill_block s (t * s) at side (thick n side) (val W a) l ≡ grow W n s (t * s) (suc k) side a at l
+  grow_end : (k side a at : ℕ) (l : List ℕ) → (a ≡ 0 → ⊥) → is_end a ≡ true → fill_block s (t * s) at side (thick n side) (val W a) l ≡ grow W n s (t * s) (suc k) side a at l
   unfolding grow
   grow_end k side a at l h e = rw (ne_eqb a 0 h, e)
 
-  grow_on : (k side a at : ℕ) (l : List ℕ) → (a ≡ 0 → ⊥) → ends_at a ≡ false
+  grow_on : (k side a at : ℕ) (l : List ℕ) → (a ≡ 0 → ⊥) → is_end a ≡ false
       → times (λ c m. grow W n s (t * s) k (side / 2) (child_of W a c) (at + offset s (t * s) (side / 2) c) m) n l ≡ grow W n s (t * s) (suc k) side a at l
   unfolding grow
   grow_on k side a at l h e = rw (ne_eqb a 0 h, e)

@@ -4,7 +4,8 @@ use Rattle.basics.specs.Limits.{cube_kids}
 use Rattle.basics.specs.Pick.{pick}
 use Rattle.nodes.specs.Words.{Words}
 use Rattle.tree.specs.Tree.{child_of}
-use Rattle.read_cell.specs.Models.{ends_at, val}
+use Rattle.ids.specs.Ids.{is_end}
+use Rattle.read_cell.specs.Models.{val}
 
 -- On the list of the cube: cells lie side by side in a row, rows `row` apart, planes `plane` apart
 
@@ -38,7 +39,7 @@ unfoldable pub grow : Words → ℕ → ℕ → ℕ → ℕ → ℕ → ℕ → 
 grow W n row plane zero side a at l = set l at (val W a)
 grow W n row plane (suc k) side a at l =
     pick (eqb a 0) l
-    (pick (ends_at a) (fill_block row plane at side (thick n side) (val W a) l)
+    (pick (is_end a) (fill_block row plane at side (thick n side) (val W a) l)
     (times (λ c m. grow W n row plane k (side / 2) (child_of W a c) (at + offset row plane (side / 2) c) m) n l))
 
 -- the first c parts of a branch, h their side and k the levels below them

@@ -3,6 +3,7 @@
 
 ghost use Rattle.std.specs.Prelude.{◌≡◌, ◌+◌, ◌*◌, ◌^◌, ◌<◌, ◌≤◌, eqb, length};
 ghost use Rattle.basics.specs.Limits.{deepest_cube, cube_kids};
+ghost use Rattle.basics.specs.Refusals.{no_of};
 ghost use Rattle.nodes.specs.Lent.{words_in};
 ghost use Rattle.nodes.specs.Words.{fact_of};
 ghost use Rattle.arena.specs.Lent.{before};
@@ -10,30 +11,19 @@ ghost use Rattle.read_cell.specs.Calls.{expanded, expand_no, expand_of};
 ghost use Rattle.read_cube.specs.Models.{fill_row, fill_plane, fill_block, offset as offset_of, grow, parts_to, pair_of, eight_of, cube_from};
 
 use arena::{Arena, fit, is_live_or_empty, slot_of};
-use basics::{DEEPEST_CUBE, Kids};
+use basics::{DEEPEST_CUBE, Kids, Refusal};
 use ids::{BlockId, LOWEST_LEAF};
 use nodes::{children, kid};
 use read_cell::value;
 
 // ---- one value into part of a cube
 
-fn mul(a: usize, b: usize) -> usize
-    requires { (a ≤ 4096) × (b ≤ 4096) }
-    ensures { (result ≡ a * b) × (result ≤ 16777216) }
-{
-    a * b
-}
-
 // n cells from `at`.
 fn fill_row(cube: &mut [u16], at: usize, n: usize, v: u16)
     requires { at + n ≤ length cube.old }
     ensures { cube.new ≡ fill_row at n v cube.old }
 {
-    let mut x: usize = 0;
-    while x < n {
-        cube[at + x] = v;
-        x += 1;
-    }
+    cube[at..at + n].fill(v);
 }
 
 // n rows of n cells, `row` apart.
@@ -42,10 +32,8 @@ fn fill_plane(cube: &mut [u16], at: usize, n: usize, row: usize, v: u16)
     requires n_bound_2 { at + n * row + n ≤ length cube.old + row }
     ensures { cube.new ≡ fill_plane row at n n v cube.old }
 {
-    let mut z: usize = 0;
-    while z < n {
-        fill_row(cube, at + mul(z, row), n, v);
-        z += 1;
+    for z in 0..n {
+        fill_row(cube, at + z * row, n, v);
     }
 }
 
@@ -55,10 +43,8 @@ fn fill_block(cube: &mut [u16], at: usize, n: usize, row: usize, plane: usize, v
     requires n_bound_2 { at + n * plane + n * row + n ≤ length cube.old + plane + row }
     ensures { cube.new ≡ fill_block row plane at n n v cube.old }
 {
-    let mut y: usize = 0;
-    while y < n {
-        fill_plane(cube, at + mul(y, plane), n, row, v);
-        y += 1;
+    for y in 0..n {
+        fill_plane(cube, at + y * plane, n, row, v);
     }
 }
 
@@ -68,15 +54,11 @@ fn fill_leaf(cube: &mut [u16], at: usize, n: usize, row: usize, plane: usize, v:
     requires n_bound_2 { at + n * plane + n * row + n ≤ length cube.old + plane + row }
     ensures { cube.new ≡ fill_block row plane at n n v cube.old }
 {
-    if n == 8 {
-        fill_block(cube, at, 8, row, plane, v);
-        return;
+    match n {
+        8 => fill_block(cube, at, 8, row, plane, v),
+        4 => fill_block(cube, at, 4, row, plane, v),
+        _ => fill_block(cube, at, n, row, plane, v),
     }
-    if n == 4 {
-        fill_block(cube, at, 4, row, plane, v);
-        return;
-    }
-    fill_block(cube, at, n, row, plane, v);
 }
 
 // ---- octants
@@ -94,7 +76,7 @@ fn offset(c: usize, h: usize, row: usize, plane: usize) -> usize
     requires { (c < 8) × (h ≤ 64) × (row ≤ 64) × (plane ≤ 4096) }
     ensures { (result ≡ offset_of row plane h c) × (result ≤ h * plane + h * row + h) }
 {
-    times_bit(c % 2, h) + times_bit(c / 2 % 2, mul(h, plane)) + times_bit(c / 4, mul(h, row))
+    times_bit(c % 2, h) + times_bit(c / 2 % 2, h * plane) + times_bit(c / 4, h * row)
 }
 
 // The values of two ids, side by side.
@@ -172,11 +154,9 @@ fn fill_smalls(
     ensures { cube.new ≡ parts_to (words_in kids.now facts.now) cube_kids row plane 1 2 id at 8 cube.old }
 {
     let s = slot_of(id);
-    let mut c: usize = 0;
-    while c < 8 {
+    for c in 0..8 {
         let e = at + offset(c, 2, row, plane);
         fill_small(kids, facts, cube, kid(kids, s, c), e, row, plane);
-        c += 1;
     }
 }
 
@@ -237,11 +217,9 @@ fn fill_octants(
     ensures { cube.new ≡ parts_to (words_in kids.now facts.now) cube_kids row plane left h id at 8 cube.old }
 {
     let s = slot_of(id);
-    let mut c: usize = 0;
-    while c < 8 {
+    for c in 0..8 {
         let e = at + offset(c, h, row, plane);
         fill_octant(kids, facts, cube, kid(kids, s, c), e, left, h, row, plane);
-        c += 1;
     }
 }
 
@@ -257,7 +235,7 @@ fn fill_cube(kids: &[u64], facts: &[u32], cube: &mut [u16], id: u64, depth: u32,
         return;
     }
     fill_row(cube, 0, n, 0);
-    fill_octant(kids, facts, cube, id, 0, depth, s, s, mul(s, s));
+    fill_octant(kids, facts, cube, id, 0, depth, s, s, s * s);
 }
 
 // 2^d
@@ -265,8 +243,7 @@ fn side_of(d: u32) -> usize
     requires { d ≤ deepest_cube }
     ensures { (result ≡ 2 ^ d) × (result ≤ 64) }
 {
-    let one: usize = 1;
-    one << d
+    1usize << d
 }
 
 // Is n 8^d?
@@ -274,12 +251,11 @@ fn is_cube(d: u32, n: usize) -> bool
     requires { d ≤ deepest_cube }
     ensures { result ≡ eqb n (8 ^ d) }
 {
-    let s = side_of(d);
-    n == mul(mul(s, s), s)
+    n == 1usize << (3 * d)
 }
 
-// The lowest refusal that applies to an expansion into a cube of n values, or 0.
-fn expand_no(
+// Refuses an expansion into a cube of n values by the lowest refusal that applies.
+fn may_expand(
     arena: Arena,
     kids: &[u64],
     facts: &[u32],
@@ -287,25 +263,26 @@ fn expand_no(
     id: u64,
     depth: u32,
     n: usize,
-) -> u32
-    ensures { result ≡ expand_no (before arena kids.now facts.now find.now) id depth n }
+) -> Result<(), Refusal>
+    ensures { no_of result ≡ expand_no (before arena kids.now facts.now find.now) id depth n }
 {
-    if fit(arena.capacity, kids.len(), facts.len(), find.len()) {
-        if depth <= DEEPEST_CUBE {
-            if is_live_or_empty(arena.capacity, facts, id) {
-                if is_cube(depth, n) {
-                    return 0;
-                }
-                return 9;
-            }
-            return 4;
-        }
-        return 2;
+    if !fit(arena.capacity, kids.len(), facts.len(), find.len()) {
+        return Err(Refusal::Size);
     }
-    1
+    if depth > DEEPEST_CUBE {
+        return Err(Refusal::Depth);
+    }
+    if !is_live_or_empty(arena.capacity, facts, id) {
+        return Err(Refusal::NotLive);
+    }
+    if !is_cube(depth, n) {
+        return Err(Refusal::Cube);
+    }
+    Ok(())
 }
 
 // Writes the cells of the cube of the depth under id, or refuses: 1, 2, 4 or 9.
+// Kept: the number, 0 or the refusal, which C takes as it is.
 pub fn to_vec(
     arena: Arena,
     kids: &[u64],
@@ -317,10 +294,11 @@ pub fn to_vec(
 ) -> u32
     ensures { expanded result cube.new ≡ expand_of (before arena kids.now facts.now find.now) id.0 depth cube.old }
 {
-    let no = expand_no(arena, kids, facts, find, id.0, depth, cube.len());
-    if no != 0 {
-        return no;
+    match may_expand(arena, kids, facts, find, id.0, depth, cube.len()) {
+        Err(refusal) => u32::from(refusal),
+        Ok(()) => {
+            fill_cube(kids, facts, cube, id.0, depth, side_of(depth));
+            0
+        }
     }
-    fill_cube(kids, facts, cube, id.0, depth, side_of(depth));
-    0
 }

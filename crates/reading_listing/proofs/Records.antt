@@ -15,14 +15,6 @@ use Rattle.listing.specs.Holding.{Enters}
 use Rattle.listing.proofs.Puts.{line_short}
 use Rattle.reading_listing.specs.Listing.{survey_depth, readings}
 
-pub record_whole : (b : List ℕ) (i : ℕ) → take (record_bytes * i + record_bytes - record_bytes * i) (drop (record_bytes * i) b) ≡ record_in record_bytes b i
-unfolding record_in
-record_whole b i = let w : record_bytes * i + record_bytes - record_bytes * i ≡ record_bytes = omega arith in ap (λ (n : ℕ). take n (drop (record_bytes * i) b)) w
-
-pub record_cut : (b : List ℕ) (i : ℕ) → length b - record_bytes * i < record_bytes → take (length b - record_bytes * i) (drop (record_bytes * i) b) ≡ record_in record_bytes b i
-unfolding record_in
-record_cut b i h = part_to_end b (record_bytes * i) ∙ sym (take_all record_bytes (drop (record_bytes * i) b) (omega (arith, length-drop (record_bytes * i) b)))
-
 pub readings_enter : (k : ℕ) → Enters (readings k)
 readings_enter k = record {
   unfit = λ t root r f. sym (enter_unsized t root survey_depth k r f);

@@ -6,14 +6,14 @@
 
 ghost use Rattle.std.specs.Prelude.{◌≡◌, ◌<◌, ◌≤◌, length};
 ghost use Rattle.basics.specs.Limits.{deepest, cube_kids};
-ghost use Rattle.metres.specs.Record.{record_bytes};
 ghost use Rattle.arena.specs.Calls.{Fair};
-ghost use Rattle.listing.specs.Lent.{before, after, lined, told};
-ghost use Rattle.listing.specs.Listing.{widest, record_in, taken_of, told_of};
-ghost use Rattle.listing.specs.Models.{one_of};
+ghost use Rattle.listing.specs.Lent.{before, told};
+ghost use Rattle.listing.specs.Listing.{taken_of, told_of};
 ghost use Rattle.reading_listing.specs.Listing.{readings, all_in};
 
-use listing::{Lined, Ran, Run};
+use arena::{Arena, Made};
+use ids::BlockId;
+use listing::{Kind, Ran, Run};
 use metres::RECORD_BYTES;
 
 // The depth of the cells.
@@ -23,39 +23,37 @@ const DEPTH: u32 = 6;
 fn records_in(bytes: &[u8]) -> usize
     ensures { result ≡ all_in (length bytes.now) }
 {
-    (bytes.len() + (RECORD_BYTES - 1)) / RECORD_BYTES
+    bytes.len().div_ceil(RECORD_BYTES)
 }
 
-// Record i: forty bytes, or as many as are left.
-fn record_in(bytes: &[u8], i: usize) -> &[u8]
-    requires { i < all_in (length bytes.now) }
-    ensures { result.now ≡ record_in record_bytes bytes.now i }
-{
-    let from = RECORD_BYTES * i;
-    if bytes.len() - from < RECORD_BYTES {
-        return &bytes[from..];
-    }
-    &bytes[from..from + RECORD_BYTES]
-}
-
-// One record, its line at the start of `out`.
-fn one(
-    run: Run,
-    kids: &mut [u64],
-    facts: &mut [u32],
-    find: &mut [u16],
+// Records of readings, with an edge of 2^-k metres, and a line each.
+#[derive(Clone, Copy)]
+struct Readings {
     k: u32,
-    bytes: &[u8],
-    out: &mut [u8],
-) -> Lined
-    ensures { (result.len ≤ widest)
-        × (Fair cube_kids deepest (before run kids.old facts.old find.old).tables
-        → Fair cube_kids deepest (after result.run kids.new facts.new find.new).tables
-        × (lined result kids.new facts.new find.new out.new ≡ one_of (readings k) (before run kids.old facts.old find.old) bytes.now out.old)) }
-{
-    let root = run.root;
-    let made = readings::enter_reading(run.arena, kids, facts, find, root, DEPTH, k, bytes);
-    listing::after_record(run, made, kids, facts, find, out)
+}
+
+impl Kind for Readings {
+    ghost records = { λ kind. readings kind.k };
+
+    fn width(&self) -> usize {
+        RECORD_BYTES
+    }
+
+    fn enter(
+        &self,
+        arena: Arena,
+        kids: &mut [u64],
+        facts: &mut [u32],
+        find: &mut [u16],
+        root: BlockId,
+        bytes: &[u8],
+    ) -> Made {
+        readings::enter_reading(arena, kids, facts, find, root, DEPTH, self.k, bytes)
+    }
+
+    fn put(&self, out: &mut [u8], number: u64, no: u32, root: BlockId) -> usize {
+        listing::put_line(out, number, no, root)
+    }
 }
 
 // Enters the records of `bytes`, as far as `out` has room for their lines, and writes the lines at the start of `out`.
@@ -72,28 +70,6 @@ pub fn enter_records(
         × (Fair cube_kids deepest (before run kids.old facts.old find.old).tables
         → told result kids.new facts.new find.new out.new ≡ told_of (readings k) (before run kids.old facts.old find.old) bytes.now out.old result.records) }
 {
-    let most = listing::taken(records_in(bytes), out.len());
-    let mut now = run;
-    let mut i: usize = 0;
-    let mut len: usize = 0;
-    while i < most {
-        let lined = one(
-            now,
-            kids,
-            facts,
-            find,
-            k,
-            record_in(bytes, i),
-            &mut out[len..],
-        );
-        let next = lined.run;
-        now = next;
-        len += lined.len;
-        i += 1;
-    }
-    Ran {
-        run: now,
-        records: i,
-        len: len,
-    }
+    let records = records_in(bytes);
+    listing::list_records(&Readings { k }, records, run, kids, facts, find, bytes, out)
 }

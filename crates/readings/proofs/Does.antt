@@ -1,20 +1,25 @@
 -- What entering a reading does, as any call: one hold granted on its answer if it is accepted, and none taken.
 use mathlib.Core.Path.{◌≡◌, refl, sym, ap, ◌∙◌, subst}
 use mathlib.Core.Logic.{◌≢◌, inl, inr}
-use mathlib.Core.Bool.{Bool, true, false}
+use mathlib.Core.Bool.{true}
 use mathlib.Core.List.{List}
-use Prim.Native.Nat.{ℕ, ◌+◌, ◌-◌, ◌^◌, ◌≤◌, ◌<◌}
+use Prim.Native.Nat.{ℕ, ◌-◌, ◌^◌, ◌≤◌}
 use native.Mathlib.Decide.{ℕ_discrete}
 use native.Mathlib.Omega.{arith}
-use Rattle.basics.specs.Limits.{deepest, cube_kids, kid_words, largest_value}
-use Rattle.basics.specs.Pick.{pick}
+use Rattle.basics.specs.Limits.{deepest, cube_kids, kid_words}
 use Rattle.nodes.proofs.Sums.{cases}
 use Rattle.basics.specs.Bytes.{Bytes}
 use Rattle.metres.specs.Record.{aim_of}
-use Rattle.metres.specs.declared.Aim.{Aim}
-use Rattle.metres.specs.declared.Aim.TheVariants.{Nothing, Cells, No}
+use Rattle.std.specs.declared.option.Option.{Option}
+use Rattle.std.specs.declared.result.Result.{Result}
+use Rattle.std.specs.declared.option.Option.TheVariants.{Some, None}
+use Rattle.std.specs.declared.result.Result.TheVariants.{Ok, Err}
+use Rattle.basics.specs.declared.Refusal.{Refusal}
+use Rattle.basics.specs.Refusals.{number}
+use Rattle.basics.proofs.Refusals.{number_some}
+use Rattle.metres.specs.declared.Cells.{Cells}
 use Rattle.arena.specs.Calls.{Out, said, refused, Fair, fits, hold_no, hold_of}
-use Rattle.arena.specs.Tables.{Tables, cap, WellFormed}
+use Rattle.arena.specs.Tables.{Tables, WellFormed}
 use Rattle.arena.proofs.Fits.{sized_fits}
 use Rattle.ledger.specs.Ledger.{on, if_accepted}
 use Rattle.ledger.proofs.Effects.{accepted, unaccepted}
@@ -24,7 +29,6 @@ use Rattle.calls.specs.Does.{Does}
 use Rattle.calls.proofs.Arena.{hold_does}
 use Rattle.calls.proofs.Compose.{does_none, does_as}
 use Rattle.calls.proofs.Once.{grew_extends, grown_ends_none}
-use Rattle.bars.specs.Bars.{bar_of, bar_ends}
 use Rattle.bars.proofs.Does.{bar_does, bar_ends_few}
 use Rattle.readings.specs.Enter.{pause_of, asked_of, enter_of, asked_ends, enter_ends}
 use Rattle.readings.proofs.Aims.{Sound, aim_sound}
@@ -58,11 +62,11 @@ module _ {t : Tables} (w : WellFormed cube_kids deepest t) where
       (λ s l. grown_ends_none fit (hold_of t root).after w (grew_extends cube_kids fit (hold_ends_none t root)) s l)))
       (λ z. subst (λ (i : Out). Grants t i (λ s. 0)) (sym (unpaused t root z)) (refused_grants (hold_no t root) z))
 
-  asked_grants : (root d : ℕ) (m : Aim) → Sound d m → Grants t (asked_of t root d m) (asked_ends t root d m)
+  asked_grants : (root d : ℕ) (m : Result (Option Cells) Refusal) → Sound d m → Grants t (asked_of t root d m) (asked_ends t root d m)
   unfolding asked_of asked_ends
-  asked_grants root d (Nothing) g = pause_grants root
-  asked_grants root d (Cells a b y z v) g = bar_does w root d y z a (b - a) v g.small
-  asked_grants root d (No n) g = refused_grants n g
+  asked_grants root d (Ok None) g = pause_grants root
+  asked_grants root d (Ok (Some c)) g = bar_does w root d c.y c.z c.first (c.last - c.first) c.value g.small
+  asked_grants root d (Err refusal) g = refused_grants (number refusal) (λ z. let h = number_some refusal in omega arith)
 
 -- ## The call
 
@@ -70,11 +74,11 @@ ends_sized : (t : Tables) (root d k : ℕ) (l : List ℕ) (s : ℕ) → fits t �
 unfolding enter_ends
 ends_sized t root d k l s f = rw f
 
-asked_few : (t : Tables) (root d : ℕ) (m : Aim) (s : ℕ) → Sound d m → asked_ends t root d m s ≤ 2 ^ d
+asked_few : (t : Tables) (root d : ℕ) (m : Result (Option Cells) Refusal) (s : ℕ) → Sound d m → asked_ends t root d m s ≤ 2 ^ d
 unfolding asked_ends
-asked_few t root d (Nothing) s g = omega arith
-asked_few t root d (Cells a b y z v) s g = let h = g.in_x in let q = bar_ends_few t root d y z a (b - a) v s in omega arith
-asked_few t root d (No n) s g = omega arith
+asked_few t root d (Ok None) s g = omega arith
+asked_few t root d (Ok (Some c)) s g = let h = g.in_x in let q = bar_ends_few t root d c.y c.z c.first (c.last - c.first) c.value s in omega arith
+asked_few t root d (Err refusal) s g = omega arith
 
 module _ {t : Tables} (root d k : ℕ) (l : List ℕ) (bytes : Bytes l) where
   -- An accepted reading grants one hold on its answer; nothing is taken. A slot is recycled as often as the releases of a bar's passing roots recycle it.

@@ -1,14 +1,14 @@
 -- Where a bar stops: its number is that of the first edit that is refused.
-use mathlib.Core.Path.{◌≡◌, refl, sym, ap, ◌∙◌, subst}
+use mathlib.Core.Path.{◌≡◌, refl, sym, ap, ◌∙◌}
 use mathlib.Core.Logic.{◌≢◌, ◌↔◌}
-use Prim.Native.Nat.{ℕ, zero, suc, ◌+◌, ◌-◌, ◌≤◌, ◌<◌}
+use Prim.Native.Nat.{ℕ, zero, suc, ◌+◌, ◌≤◌, ◌<◌}
 use native.Mathlib.Decide.{ℕ_discrete}
 use native.Mathlib.Omega.{arith}
 use Rattle.basics.specs.Limits.{deepest}
 use Rattle.nodes.proofs.Sums.{cases}
 use Rattle.paths.specs.Paths.{place}
 use Rattle.arena.specs.Tables.{Tables}
-use Rattle.arena.specs.Calls.{Out, said, refused, release_of}
+use Rattle.arena.specs.Calls.{Out, said, release_of}
 use Rattle.edit.specs.Edit.{edit_of}
 use Rattle.bars.specs.Bars.{pass_of, bar_of}
 use Rattle.bars.proofs.Ways.{pass_none, pass_on, pass_stop, bar_on, bar_stop}

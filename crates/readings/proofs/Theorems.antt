@@ -3,7 +3,7 @@ use mathlib.Core.Path.{◌≡◌, refl, sym, ap, ◌∙◌, subst}
 use mathlib.Core.Logic.{◌≢◌, ◌⊎◌, inl, inr, ⊎_elim}
 use mathlib.Core.Bool.{true, false}
 use mathlib.Core.List.{List}
-use Prim.Native.Nat.{ℕ, ◌+◌, ◌-◌, ◌^◌, ◌≤◌, ◌<◌}
+use Prim.Native.Nat.{ℕ, ◌+◌, ◌-◌, ◌^◌, ◌≤◌}
 use native.Mathlib.Decide.{ℕ_discrete}
 use native.Mathlib.Omega.{arith}
 use lib.ListN.{length}
@@ -13,7 +13,7 @@ use Rattle.nodes.proofs.Sums.{cases, split}
 use Rattle.paths.specs.Paths.{place}
 use Rattle.tree.specs.Tree.{LiveOr0, Below}
 use Rattle.tree.specs.Cells.{At}
-use Rattle.arena.specs.Calls.{Out, said, refused, fits, hold_no, hold_of, counts_of}
+use Rattle.arena.specs.Calls.{Out, refused, fits, hold_no, counts_of}
 use Rattle.arena.specs.Tables.{Tables, cap, W, WellFormed}
 use Rattle.arena.proofs.Fits.{sized_fits}
 use Rattle.ledger.specs.Fates.{Lives}
@@ -24,9 +24,13 @@ use Rattle.read_cell.specs.Calls.{expand_of}
 use Rattle.edit.specs.Edit.{edit_of}
 use Rattle.edit.proofs.Edits.{edit_number, edit_refused, accepted_past, posed}
 use Rattle.basics.specs.Bytes.{Bytes}
-use Rattle.metres.specs.Record.{aim_of}
-use Rattle.metres.specs.declared.Aim.{Aim}
-use Rattle.metres.specs.declared.Aim.TheVariants.{Nothing, Cells, No}
+use Rattle.metres.specs.Record.{cells_at, aim_of}
+use Rattle.std.specs.declared.option.Option.{Option}
+use Rattle.std.specs.declared.result.Result.{Result}
+use Rattle.std.specs.declared.option.Option.TheVariants.{Some, None}
+use Rattle.std.specs.declared.result.Result.TheVariants.{Ok, Err}
+use Rattle.basics.specs.declared.Refusal.{Refusal}
+use Rattle.metres.specs.declared.Cells.{Cells}
 use Rattle.bars.specs.Bars.{Late, Passing, Undone, Drawn, bar_of}
 use Rattle.bars.proofs.Ways.{bar_one, bar_stop}
 use Rattle.bars.proofs.Drawing.{bar_drawn}
@@ -47,38 +51,38 @@ module _ (t : Tables) (root d k : ℕ) (l : List ℕ) where
       (λ f. subst P (enter_sized t root d k l f) (rest f)) (λ f. subst P (enter_unsized t root d k l f) (one f))
 
   module _ (f : fits t ≡ true) where
-    enters : (m : Aim) → aim_of l k d ≡ m → enter_of t root d k l ≡ asked_of t root d m
+    enters : (m : Result (Option Cells) Refusal) → aim_of l k d ≡ m → enter_of t root d k l ≡ asked_of t root d m
     enters m e = sym (enter_sized t root d k l f) ∙ ap (asked_of t root d) e
 
     -- A pause holds the old root and answers it.
-    pub enter_pause : aim_of l k d ≡ Nothing → enter_of t root d k l ≡ pause_of t root
+    pub enter_pause : aim_of l k d ≡ Ok None → enter_of t root d k l ≡ pause_of t root
     unfolding asked_of
-    enter_pause e = enters Nothing e
+    enter_pause e = enters (Ok None) e
 
-    pub pause_answers : aim_of l k d ≡ Nothing → (enter_of t root d k l).no ≡ 0 → (enter_of t root d k l).id ≡ root
+    pub pause_answers : aim_of l k d ≡ Ok None → (enter_of t root d k l).no ≡ 0 → (enter_of t root d k l).id ≡ root
     pause_answers e ok = cases (ℕ_discrete (hold_no t root) 0)
         (λ z. ap (λ (o : Out). o.id) (enter_pause e ∙ paused t root z))
         (λ z. absurd (z (sym (ap (λ (o : Out). o.no) (enter_pause e ∙ unpaused t root z)) ∙ ok)))
 
     -- A shot or a bar edits the cells that the record asks for ..
-    pub enter_bar : {a b y z v : ℕ} → aim_of l k d ≡ Cells a b y z v → enter_of t root d k l ≡ bar_of t root d y z a (b - a) v
+    pub enter_bar : {a b y z v : ℕ} → aim_of l k d ≡ Ok (Some (cells_at a b y z v)) → enter_of t root d k l ≡ bar_of t root d y z a (b - a) v
     unfolding asked_of
-    enter_bar {a} {b} {y} {z} {v} e = enters (Cells a b y z v) e
+    enter_bar {a} {b} {y} {z} {v} e = enters (Ok (Some (cells_at a b y z v))) e
 
     -- .. and one cell, as of a shot, is the edit.
-    pub enter_shot : {a y z v : ℕ} → aim_of l k d ≡ Cells a a y z v → enter_of t root d k l ≡ edit_of t root d (place a y z) v
+    pub enter_shot : {a y z v : ℕ} → aim_of l k d ≡ Ok (Some (cells_at a a y z v)) → enter_of t root d k l ≡ edit_of t root d (place a y z) v
     enter_shot {a} {y} {z} {v} e =
         let none : a - a ≡ 0 = omega arith in
         enter_bar e ∙ ap (λ (n : ℕ). bar_of t root d y z a n v) none ∙ bar_one t root d y z a v
 
 -- ## A refusal
 
-asked_invalid : (t : Tables) (root d : ℕ) (m : Aim) → (asked_of t root d m).no ≢ 0 → (asked_of t root d m).id ≡ invalid
+asked_invalid : (t : Tables) (root d : ℕ) (m : Result (Option Cells) Refusal) → (asked_of t root d m).no ≢ 0 → (asked_of t root d m).id ≡ invalid
 unfolding asked_of
-asked_invalid t root d (Nothing) bad = cases (ℕ_discrete (hold_no t root) 0)
+asked_invalid t root d (Ok None) bad = cases (ℕ_discrete (hold_no t root) 0)
     (λ z. absurd (bad (ap (λ (o : Out). o.no) (paused t root z)))) (λ z. ap (λ (o : Out). o.id) (unpaused t root z))
-asked_invalid t root d (Cells a b y z v) bad = bar_invalid t root d y z a (b - a) v bad
-asked_invalid t root d (No n) bad = refl
+asked_invalid t root d (Ok (Some c)) bad = bar_invalid t root d c.y c.z c.first (c.last - c.first) c.value bad
+asked_invalid t root d (Err refusal) bad = refl
 
 -- It answers INVALID. On any tables.
 pub enter_invalid : (t : Tables) (root d k : ℕ) (l : List ℕ) → (enter_of t root d k l).no ≢ 0 → (enter_of t root d k l).id ≡ invalid
@@ -100,12 +104,12 @@ module _ {t : Tables} (w : WellFormed cube_kids deepest t) (root d : ℕ) where
       inl (bar_late w root d y z a (b - a) v g.small g.deep g.in_y g.in_z (omega arith) (posed w root d (place a y z) past.0).there past.1))
       (λ bad. inr (ap (λ (o : Out). o.after) (bar_stop d y z v t root a (b - a) bad)))
 
-  asked_stays : (m : Aim) → Sound d m → (asked_of t root d m).no ≢ 0 → (asked_of t root d m).no ≢ 10 → (asked_of t root d m).no ≢ 11 → (asked_of t root d m).after ≡ t
+  asked_stays : (m : Result (Option Cells) Refusal) → Sound d m → (asked_of t root d m).no ≢ 0 → (asked_of t root d m).no ≢ 10 → (asked_of t root d m).no ≢ 11 → (asked_of t root d m).after ≡ t
   unfolding asked_of
-  asked_stays (Nothing) g bad ten eleven = pause_stays bad
-  asked_stays (Cells a b y z v) g bad ten eleven = ⊎_elim (λ late. ⊎_elim (λ e. absurd (bad e)) (λ m. ⊎_elim (λ e. absurd (ten e)) (λ e. absurd (eleven e)) m) late)
-      (λ e. e) (bar_stays a b y z v g)
-  asked_stays (No n) g bad ten eleven = refl
+  asked_stays (Ok None) g bad ten eleven = pause_stays bad
+  asked_stays (Ok (Some c)) g bad ten eleven = ⊎_elim (λ late. ⊎_elim (λ e. absurd (bad e)) (λ m. ⊎_elim (λ e. absurd (ten e)) (λ e. absurd (eleven e)) m) late)
+      (λ e. e) (bar_stays c.first c.last c.y c.z c.value g)
+  asked_stays (Err refusal) g bad ten eleven = refl
 
 -- ## The call, on well-formed tables
 
@@ -139,7 +143,7 @@ module _ {t : Tables} (w : WellFormed cube_kids deepest t) (root d k : ℕ) (l :
   enter_only = granting_only w o (enter_does root d k l bytes w)
 
   -- The answer of a shot or a bar shows the old cube with just its cells set.
-  pub enter_drawn : {a b y z v : ℕ} → aim_of l k d ≡ Cells a b y z v → (enter_of t root d k l).no ≡ 0
+  pub enter_drawn : {a b y z v : ℕ} → aim_of l k d ≡ Ok (Some (cells_at a b y z v)) → (enter_of t root d k l).no ≡ 0
       → Drawn d t root y z a b v (enter_of t root d k l).after (enter_of t root d k l).id
   enter_drawn {a} {b} {y} {z} {v} e ok =
       let g : SoundCells d a b y z v = subst (Sound d) e (aim_sound l k d bytes) in
@@ -163,9 +167,9 @@ module _ {t : Tables} (w : WellFormed cube_kids deepest t) (root d k : ℕ) (l :
       (λ f. asked_stays w root d (aim_of l k d) (aim_sound l k d bytes))
 
   -- So it is with every refusal of a pause and of a shot.
-  pub pause_unchanged : aim_of l k d ≡ Nothing → (enter_of t root d k l).no ≢ 0 → (enter_of t root d k l).after ≡ t
+  pub pause_unchanged : aim_of l k d ≡ Ok None → (enter_of t root d k l).no ≢ 0 → (enter_of t root d k l).after ≡ t
   pause_unchanged e = subst (λ (i : Out). i.no ≢ 0 → i.after ≡ t) (sym (enter_pause t root d k l (sized_fits w.sized) e)) (pause_stays w root d)
 
-  pub shot_unchanged : {a y z v : ℕ} → aim_of l k d ≡ Cells a a y z v → (enter_of t root d k l).no ≢ 0 → (enter_of t root d k l).after ≡ t
+  pub shot_unchanged : {a y z v : ℕ} → aim_of l k d ≡ Ok (Some (cells_at a a y z v)) → (enter_of t root d k l).no ≢ 0 → (enter_of t root d k l).after ≡ t
   shot_unchanged {a} {y} {z} {v} e = subst (λ (i : Out). i.no ≢ 0 → i.after ≡ t) (sym (enter_shot t root d k l (sized_fits w.sized) e))
       (λ bad. ap (λ (i : Out). i.after) (edit_refused t root d (place a y z) v (λ n. bad (edit_number t root d (place a y z) v ∙ n))))

@@ -1,10 +1,12 @@
 -- What a private function asks of what it is handed. No reader has to believe it: the public contract cites `Enter`.
-use Rattle.std.specs.Prelude.{ℕ, ◌≤◌}
-use Rattle.metres.specs.declared.Aim.{Aim}
-use Rattle.metres.specs.declared.Aim.TheVariants.{Nothing, Cells, No}
+use Rattle.std.specs.Prelude.{Option, Result, ◌≤◌}
+use Rattle.std.specs.declared.option.Option.TheVariants.{Some, None}
+use Rattle.std.specs.declared.result.Result.TheVariants.{Ok, Err}
+use Rattle.basics.specs.declared.Refusal.{Refusal}
+use Rattle.metres.specs.declared.Cells.{Cells}
 
 -- what is asked for are cells from the first x to one that is not below it
-abbrev pub Rising : Aim → Type 0
-Rising Nothing = Unit {0}
-Rising (Cells first last y z value) = first ≤ last
-Rising (No k) = Unit {0}
+abbrev pub Rising : Result (Option Cells) Refusal → Type 0
+Rising (Ok None) = Unit {0}
+Rising (Ok (Some cells)) = cells.first ≤ cells.last
+Rising (Err refusal) = Unit {0}

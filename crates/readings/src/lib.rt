@@ -2,7 +2,7 @@
 // answers and leaves: specs/Enter.antt. What a record says: crate `metres`; the bar: crate `bars`.
 #![tactic(auto)]
 
-ghost use Rattle.std.specs.Prelude.{◌≡◌};
+ghost use Rattle.std.specs.Prelude.{◌≡◌, Ok};
 ghost use Rattle.basics.specs.Limits.{deepest, cube_kids};
 ghost use Rattle.arena.specs.Calls.{Fair};
 ghost use Rattle.arena.specs.Lent.{before, made};
@@ -10,8 +10,9 @@ ghost use Rattle.readings.specs.Enter.{pause_of, asked_of, enter_of};
 ghost use Rattle.readings.specs.Models.{Rising};
 
 use arena::{Arena, Made, fit};
+use basics::Refusal;
 use ids::BlockId;
-use metres::{Aim, aim_of};
+use metres::{Cells, aim_of};
 
 // The answer of a pause: the old root with one new hold.
 fn hold_root(
@@ -24,21 +25,15 @@ fn hold_root(
     ensures { made arena result kids.new facts.new find.new ≡ pause_of (before arena kids.old facts.old find.old) root.0 }
 {
     let held = arena_hold::hold(arena, kids, facts, find, root);
-    if held.no != 0 {
-        return Made {
-            no: held.no,
-            id: BlockId::INVALID,
-            slots: held.slots,
-        };
-    }
+    let id = if held.no == 0 { root } else { BlockId::INVALID };
     Made {
-        no: 0,
-        id: root,
+        no: held.no,
+        id,
         slots: held.slots,
     }
 }
 
-// What a record asks for, done.
+// What an accepted record asks for, done.
 fn act(
     arena: Arena,
     kids: &mut [u64],
@@ -46,32 +41,27 @@ fn act(
     find: &mut [u16],
     root: BlockId,
     depth: u32,
-    aim: Aim,
+    aim: Option<Cells>,
 ) -> Made
-    requires { Rising aim }
+    requires { Rising (Ok aim) }
     ensures { Fair cube_kids deepest (before arena kids.old facts.old find.old)
-        → made arena result kids.new facts.new find.new ≡ asked_of (before arena kids.old facts.old find.old) root.0 depth aim }
+        → made arena result kids.new facts.new find.new ≡ asked_of (before arena kids.old facts.old find.old) root.0 depth (Ok aim) }
 {
     match aim {
-        Aim::Nothing => hold_root(arena, kids, facts, find, root),
-        Aim::Cells(first, last, y, z, value) => bars::set_bar(
+        None => hold_root(arena, kids, facts, find, root),
+        Some(cells) => bars::set_bar(
             arena,
             kids,
             facts,
             find,
             root,
             depth,
-            y,
-            z,
-            first,
-            last - first,
-            value,
+            cells.y,
+            cells.z,
+            cells.first,
+            cells.last - cells.first,
+            cells.value,
         ),
-        Aim::No(no) => Made {
-            no: no,
-            id: BlockId::INVALID,
-            slots: arena.slots,
-        },
     }
 }
 
@@ -91,13 +81,19 @@ pub fn enter_reading(
     ensures { Fair cube_kids deepest (before arena kids.old facts.old find.old)
         → made arena result kids.new facts.new find.new ≡ enter_of (before arena kids.old facts.old find.old) root.0 depth k bytes.now }
 {
-    if fit(arena.capacity, kids.len(), facts.len(), find.len()) {
-        let aim = aim_of(bytes, k, depth);
-        return act(arena, kids, facts, find, root, depth, aim);
+    if !fit(arena.capacity, kids.len(), facts.len(), find.len()) {
+        return Made {
+            no: u32::from(Refusal::Size),
+            id: BlockId::INVALID,
+            slots: arena.slots,
+        };
     }
-    Made {
-        no: 1,
-        id: BlockId::INVALID,
-        slots: arena.slots,
+    match aim_of(bytes, k, depth) {
+        Ok(aim) => act(arena, kids, facts, find, root, depth, aim),
+        Err(refusal) => Made {
+            no: u32::from(refusal),
+            id: BlockId::INVALID,
+            slots: arena.slots,
+        },
     }
 }

@@ -33,11 +33,17 @@ use Rattle.calls.proofs.Follows.{held_there}
 use Rattle.read_cell.proofs.Laws.{there_live}
 use Rattle.edit.specs.Edit.{edit_of}
 use Rattle.basics.specs.Bytes.{Bytes}
-use Rattle.metres.specs.Record.{kind_in, value_in, x_in, y_in, z_in, last_in, malformed, unending, outside, aim_of}
+use Rattle.metres.specs.Record.{kind_in, value_in, x_in, y_in, z_in, last_in, malformed, unending, outside, cells_at, aim_of}
 use Rattle.metres.specs.Bits.{cell_number}
 use Rattle.metres.specs.Why.{Malformed, Unending, endless_x, endless_y, endless_z, endless_second, Beyond as RecordBeyond, beyond_x, beyond_y, beyond_z, beyond_second}
-use Rattle.metres.specs.declared.Aim.{Aim}
-use Rattle.metres.specs.declared.Aim.TheVariants.{Nothing, Cells, No}
+use Rattle.std.specs.declared.option.Option.{Option}
+use Rattle.std.specs.declared.option.Option.TheVariants.{Some, None}
+use Rattle.std.specs.declared.result.Result.{Result}
+use Rattle.std.specs.declared.result.Result.TheVariants.{Ok, Err}
+use Rattle.basics.specs.declared.Refusal.{Refusal}
+use Rattle.metres.specs.declared.Cells.{Cells}
+use Rattle.basics.specs.declared.Refusal.TheVariants.{Depth, Position, Record, NotFinite}
+use Rattle.basics.specs.Refusals.{number as number_of}
 use Rattle.metres.proofs.Theorems.{thirteen, fourteen, three}
 use Rattle.bars.specs.Bars.{Late, bar_of}
 use Rattle.bars.proofs.Ways.{bar_one, bar_stop}
@@ -59,38 +65,38 @@ abbrev far : ℕ → ℕ → Bool
 far k d = ltb deepest d || ltb finest_edge k
 
 module _ (l : List ℕ) (k d : ℕ) where
-  aim_2 : far k d ≡ true → aim_of l k d ≡ No 2
+  aim_2 : far k d ≡ true → aim_of l k d ≡ Err Depth
   unfolding aim_of
   aim_2 e = rw e
 
   module _ (near : far k d ≡ false) where
-    aim_13 : malformed l ≡ true → aim_of l k d ≡ No 13
+    aim_13 : malformed l ≡ true → aim_of l k d ≡ Err Record
     unfolding aim_of
     aim_13 e = rw (near, e)
 
     module _ (formed : malformed l ≡ false) where
-      aim_14 : unending l ≡ true → aim_of l k d ≡ No 14
+      aim_14 : unending l ≡ true → aim_of l k d ≡ Err NotFinite
       unfolding aim_of
       aim_14 e = rw (near, formed, e)
 
       module _ (ending : unending l ≡ false) where
-        aim_3 : outside l k d ≡ true → aim_of l k d ≡ No 3
+        aim_3 : outside l k d ≡ true → aim_of l k d ≡ Err Position
         unfolding aim_of
         aim_3 e = rw (near, formed, ending, e)
 
         module _ (within : outside l k d ≡ false) where
-          aim_pause : kind_in l ≡ 0 → aim_of l k d ≡ Nothing
+          aim_pause : kind_in l ≡ 0 → aim_of l k d ≡ Ok None
           unfolding aim_of
           aim_pause e = rw (near, formed, ending, within, eq-eqb (kind_in l) 0 e)
 
-          aim_cells : kind_in l ≢ 0 → aim_of l k d ≡ Cells (cell_number (x_in l) k) (cell_number (last_in l) k) (cell_number (y_in l) k) (cell_number (z_in l) k) (value_in l)
+          aim_cells : kind_in l ≢ 0 → aim_of l k d ≡ Ok (Some (cells_at (cell_number (x_in l) k) (cell_number (last_in l) k) (cell_number (y_in l) k) (cell_number (z_in l) k) (value_in l)))
           unfolding aim_of
           aim_cells e = rw (near, formed, ending, within, ne_eqb (kind_in l) 0 e)
 
-abbrev IsCells : Aim → Type 0
-IsCells (Nothing) = ⊥
-IsCells (Cells a b y z v) = Unit {0}
-IsCells (No n) = ⊥
+abbrev IsCells : Result (Option Cells) Refusal → Type 0
+IsCells (Ok None) = ⊥
+IsCells (Ok (Some c)) = Unit {0}
+IsCells (Err refusal) = ⊥
 
 -- ---- a number by the tests that it passes
 
@@ -301,22 +307,22 @@ module _ (t : Tables) (root d k : ℕ) (l : List ℕ) (bytes : Bytes l) where
   abbrev no : ℕ
   no = (enter_of t root d k l).no
 
-  asks : (m : Aim) → aim_of l k d ≡ m → fits t ≡ true → no ≡ (asked_of t root d m).no
-  asks m e f = ap (λ (o : Out). o.no) (sym (enter_sized t root d k l f)) ∙ ap (λ (i : Aim). (asked_of t root d i).no) e
+  asks : (m : Result (Option Cells) Refusal) → aim_of l k d ≡ m → fits t ≡ true → no ≡ (asked_of t root d m).no
+  asks m e f = ap (λ (o : Out). o.no) (sym (enter_sized t root d k l f)) ∙ ap (λ (i : Result (Option Cells) Refusal). (asked_of t root d i).no) e
 
-  asks_no : (n : ℕ) → aim_of l k d ≡ No n → fits t ≡ true → no ≡ n
+  asks_no : (refusal : Refusal) → aim_of l k d ≡ Err refusal → fits t ≡ true → no ≡ number_of refusal
   unfolding asked_of
-  asks_no n e f = asks (No n) e f
+  asks_no refusal e f = asks (Err refusal) e f
 
-  asks_pause : aim_of l k d ≡ Nothing → fits t ≡ true → no ≡ (pause_of t root).no
+  asks_pause : aim_of l k d ≡ Ok None → fits t ≡ true → no ≡ (pause_of t root).no
   unfolding asked_of
-  asks_pause e f = asks Nothing e f
+  asks_pause e f = asks (Ok None) e f
 
-  asks_bar : {a b y z v : ℕ} → aim_of l k d ≡ Cells a b y z v → fits t ≡ true → no ≡ (bar_of t root d y z a (b - a) v).no
+  asks_bar : {a b y z v : ℕ} → aim_of l k d ≡ Ok (Some (cells_at a b y z v)) → fits t ≡ true → no ≡ (bar_of t root d y z a (b - a) v).no
   unfolding asked_of
-  asks_bar {a} {b} {y} {z} {v} e f = asks (Cells a b y z v) e f
+  asks_bar {a} {b} {y} {z} {v} e f = asks (Ok (Some (cells_at a b y z v))) e f
 
-  sound : {a b y z v : ℕ} → aim_of l k d ≡ Cells a b y z v → SoundCells d a b y z v
+  sound : {a b y z v : ℕ} → aim_of l k d ≡ Ok (Some (cells_at a b y z v)) → SoundCells d a b y z v
   sound {a} {b} {y} {z} {v} e = subst (Sound d) e (aim_sound l k d bytes)
 
   -- the tests that 4, 8, 10 and 11 come after
@@ -326,14 +332,14 @@ module _ (t : Tables) (root d k : ℕ) (l : List ℕ) (bytes : Bytes l) where
     ending : unending l ≡ false
     within : outside l k d ≡ false
 
-  pause_is : Passed → kind_in l ≡ 0 → aim_of l k d ≡ Nothing
+  pause_is : Passed → kind_in l ≡ 0 → aim_of l k d ≡ Ok None
   pause_is p = aim_pause l k d p.near p.formed p.ending p.within
 
-  cells_are : Passed → kind_in l ≢ 0 → aim_of l k d ≡ Cells (cell_number (x_in l) k) (cell_number (last_in l) k) (cell_number (y_in l) k) (cell_number (z_in l) k) (value_in l)
+  cells_are : Passed → kind_in l ≢ 0 → aim_of l k d ≡ Ok (Some (cells_at (cell_number (x_in l) k) (cell_number (last_in l) k) (cell_number (y_in l) k) (cell_number (z_in l) k) (value_in l)))
   cells_are p = aim_cells l k d p.near p.formed p.ending p.within
 
   -- cells are not those of a pause
-  no_pause : Passed → {a b y z v : ℕ} → aim_of l k d ≡ Cells a b y z v → kind_in l ≢ 0
+  no_pause : Passed → {a b y z v : ℕ} → aim_of l k d ≡ Ok (Some (cells_at a b y z v)) → kind_in l ≢ 0
   no_pause p e z = subst IsCells (sym e ∙ pause_is p z) tt
 
   eight_tall : kind_in l ≢ 0 → eight_of t root d l ≡ not (leb (height_at (W t) root) d)
@@ -473,10 +479,10 @@ module _ (t : Tables) (root d k : ℕ) (l : List ℕ) (bytes : Bytes l) where
     enter_ladder = climbed (fits t) (far k d) (malformed l) (unending l) (outside l k d) (live_or_empty (cap t) (W t) root) (eight_of t root d l) (enter_of t root d k l).no
         (record {
           first = λ a. sym (ap (λ (o : Out). o.no) (enter_unsized t root d k l a));
-          second = λ a b. asks_no t root d k l bytes 2 (aim_2 l k d b) a;
-          third = λ a b c. asks_no t root d k l bytes 13 (aim_13 l k d b c) a;
-          fourth = λ a b c e. asks_no t root d k l bytes 14 (aim_14 l k d b c e) a;
-          fifth = λ a b c e f. asks_no t root d k l bytes 3 (aim_3 l k d b c e f) a;
+          second = λ a b. asks_no t root d k l bytes Depth (aim_2 l k d b) a;
+          third = λ a b c. asks_no t root d k l bytes Record (aim_13 l k d b c) a;
+          fourth = λ a b c e. asks_no t root d k l bytes NotFinite (aim_14 l k d b c e) a;
+          fifth = λ a b c e f. asks_no t root d k l bytes Position (aim_3 l k d b c e f) a;
           sixth = λ a b c e f g. four t root d k l bytes (well a) (passes b c e f) g;
           seventh = λ a b c e f g h. eight t root d k l bytes (well a) (passes b c e f) (there_live t root g) h;
           last = λ a b c e f g h. late t root d k l bytes (well a) (passes b c e f) (there_live t root g) h;
@@ -533,7 +539,7 @@ module _ (t : Tables) (root d k : ℕ) (l : List ℕ) (bytes : Bytes l) where
 
 -- ---- a pause
 
-no_cells : (b : Bool) (x y : Aim) → (IsCells x → ⊥) → (IsCells y → ⊥) → IsCells (pick b x y) → ⊥
+no_cells : (b : Bool) (x y : Result (Option Cells) Refusal) → (IsCells x → ⊥) → (IsCells y → ⊥) → IsCells (pick b x y) → ⊥
 no_cells true x y p q = p
 no_cells false x y p q = q
 
@@ -541,8 +547,8 @@ pause_cells : (l : List ℕ) (k d : ℕ) → kind_in l ≡ 0 → IsCells (aim_of
 unfolding aim_of
 pause_cells l k d z =
     rw (eq-eqb (kind_in l) 0 z)
-    (no_cells (far k d) (No 2) _ (λ i. i)
-    (no_cells (malformed l) (No 13) _ (λ i. i) (no_cells (unending l) (No 14) _ (λ i. i) (no_cells (outside l k d) (No 3) Nothing (λ i. i) (λ i. i)))))
+    (no_cells (far k d) (Err Depth) _ (λ i. i)
+    (no_cells (malformed l) (Err Record) _ (λ i. i) (no_cells (unending l) (Err NotFinite) _ (λ i. i) (no_cells (outside l k d) (Err Position) (Ok None) (λ i. i) (λ i. i)))))
 
 -- A pause is refused only by 1, 2, 13, 4 and 10: no other number applies to it.
 pub pause_only : (t : Tables) (root d k : ℕ) (l : List ℕ) → kind_in l ≡ 0 → (n : ℕ) → EnterWhy t root d k l n → (n ≡ 1) ⊎ (n ≡ 2) ⊎ (n ≡ 13) ⊎ (n ≡ 4) ⊎ (n ≡ 10)

@@ -13,9 +13,10 @@ use Rattle.ledger.specs.Fates.{Lives}
 use Rattle.ledger.specs.Refusals.{Full}
 use Rattle.edit.specs.Edit.{cell_at}
 use Rattle.edit.specs.Promises.{Imagined, Missing}
-use Rattle.metres.specs.Record.{kind_in, aim_of}
+use Rattle.metres.specs.Record.{kind_in, cells_at, aim_of}
 use Rattle.metres.specs.Why.{Malformed, Unending, Beyond as RecordBeyond}
-use Rattle.metres.specs.declared.Aim.TheVariants.{Cells}
+use Rattle.std.specs.declared.option.Option.TheVariants.{Some}
+use Rattle.std.specs.declared.result.Result.TheVariants.{Ok}
 use Rattle.readings.specs.Stops.{reached_of}
 use Rattle.compare.specs.Promises.{shows}
 
@@ -79,7 +80,7 @@ pub data EditWhy (t : Tables) (root d : ℕ) (p : IVec3) (v : ℕ) : ℕ → Typ
 
 -- n applies to the edit of one of the cells that the record l asks for, those before it accepted
 pub data StopsBy (t : Tables) (root d k : ℕ) (l : List ℕ) (n : ℕ) : Type 0 where
-  at_cell : (first last y z v j : ℕ) → aim_of l k d ≡ Cells first last y z v → first + j ≤ last → (reached_of t root d y z first j v).no ≡ 0
+  at_cell : (first last y z v j : ℕ) → aim_of l k d ≡ Ok (Some (cells_at first last y z v)) → first + j ≤ last → (reached_of t root d y z first j v).no ≡ 0
       → EditWhy (reached_of t root d y z first j v).after (reached_of t root d y z first j v).id d (place (first + j) y z) v n → StopsBy t root d k l n
 
 -- a number applies to entering the record l below the root, at depth d, with an edge of 2^-k metres; they are tested in the order 1, 2, 13, 14, 3, 4, 8, 10, 11.

@@ -7,18 +7,17 @@ use native.Mathlib.Numerals.{add-one}
 use native.Mathlib.Omega.{arith}
 use lib.ListN.{length, get_or, drop, drop_of_length-le}
 use lib.Seq.{drop-cons}
-use borrow.Author.Tests.{eq-eqb, ne_eqb, le-leb, lt-leb}
 use Rattle.basics.specs.Pick.{pick}
 use Rattle.survey.specs.Digits.{digit, all_digits, number_from, too_fine, edge_after, edge_of}
-use Rattle.survey.specs.declared.Edge.TheVariants.{Of, Unsaid}
+use Rattle.std.specs.Prelude.{Some, None, eqb}
 
-pub edge_empty : (s : List ℕ) → length s ≡ 0 → Unsaid ≡ edge_of s
+pub edge_empty : (s : List ℕ) → eqb (length s) 0 ≡ true → None ≡ edge_of s
 unfolding edge_of
-edge_empty s z = rw (eq-eqb (length s) 0 z)
+edge_empty s z = rw z
 
-pub edge_begun : (s : List ℕ) → (length s ≡ 0 → ⊥) → edge_after 0 (drop 0 s) ≡ edge_of s
+pub edge_begun : (s : List ℕ) → eqb (length s) 0 ≡ false → edge_after 0 s ≡ edge_of s
 unfolding edge_of
-edge_begun s z = rw (ne_eqb (length s) 0 z)
+edge_begun s z = rw z
 
 -- ---- one digit
 
@@ -31,40 +30,29 @@ capped (c ∷ s) n =
 
 after_capped : (s : List ℕ) (n : ℕ) → edge_after (min too_fine n) s ≡ edge_after n s
 unfolding edge_after
-after_capped s n = ap (λ (m : ℕ). pick (all_digits s) (Of m) Unsaid) (capped s n)
+after_capped s n = ap (λ (m : ℕ). pick (all_digits s) (Some m) None) (capped s n)
 
 after_digit : (n c : ℕ) (s : List ℕ) → digit c ≡ true → edge_after n (c ∷ s) ≡ edge_after (10 * n + (c - 48)) s
 unfolding edge_after all_digits number_from
 after_digit n c s d = rw d
 
-after_other : (n c : ℕ) (s : List ℕ) → digit c ≡ false → edge_after n (c ∷ s) ≡ Unsaid
+after_other : (n c : ℕ) (s : List ℕ) → digit c ≡ false → edge_after n (c ∷ s) ≡ None
 unfolding edge_after all_digits
 after_other n c s d = rw d
-
-is_digit : (c : ℕ) → 48 ≤ c → c ≤ 57 → digit c ≡ true
-is_digit c h k = rw (le-leb 48 c h, le-leb c 57 k)
-
-is_low : (c : ℕ) → c < 48 → digit c ≡ false
-is_low c h = rw (lt-leb 48 c h)
-
-is_high : (c : ℕ) → 57 < c → digit c ≡ false
-is_high c h = let low : 48 ≤ c = omega arith in rw (le-leb 48 c low, lt-leb c 57 h)
 
 -- ---- the loop: i bytes are digits and say k
 
 module _ (s : List ℕ) (k i : ℕ) (so : edge_after k (drop i s) ≡ edge_of s) where
-  pub edge_low : i < length s → get_or s i 0 < 48 → Unsaid ≡ edge_of s
-  edge_low h l = sym (sym so ∙ ap (edge_after k) (drop-cons s i 0 h) ∙ after_other k (get_or s i 0) (drop (suc i) s) (is_low (get_or s i 0) l))
+  pub edge_other : i < length s → digit (get_or s i 0) ≡ false → None ≡ edge_of s
+  edge_other h d = sym (sym so ∙ ap (edge_after k) (drop-cons s i 0 h) ∙ after_other k (get_or s i 0) (drop (suc i) s) d)
 
-  pub edge_high : i < length s → 57 < get_or s i 0 → Unsaid ≡ edge_of s
-  edge_high h l = sym (sym so ∙ ap (edge_after k) (drop-cons s i 0 h) ∙ after_other k (get_or s i 0) (drop (suc i) s) (is_high (get_or s i 0) l))
-
-  pub edge_again : i < length s → 48 ≤ get_or s i 0 → get_or s i 0 ≤ 57 → (n : ℕ) → n ≡ min too_fine (10 * k + (get_or s i 0 - 48)) → edge_after n (drop (i + 1) s) ≡ edge_of s
-  edge_again h l m n e =
-      rw (e, add-one i)
+  pub edge_again : i < length s → digit (get_or s i 0) ≡ true → (n : ℕ) → n ≡ min (10 * k + (get_or s i 0 - 48)) too_fine → edge_after n (drop (i + 1) s) ≡ edge_of s
+  edge_again h d n e =
+      let m : n ≡ min too_fine (10 * k + (get_or s i 0 - 48)) = omega arith in
+      rw (m, add-one i)
       (after_capped (drop (suc i) s) (10 * k + (get_or s i 0 - 48))
-      ∙ sym (after_digit k (get_or s i 0) (drop (suc i) s) (is_digit (get_or s i 0) l m)) ∙ ap (edge_after k) (sym (drop-cons s i 0 h)) ∙ so)
+      ∙ sym (after_digit k (get_or s i 0) (drop (suc i) s) d) ∙ ap (edge_after k) (sym (drop-cons s i 0 h)) ∙ so)
 
-  pub edge_done : length s ≤ i → k ≤ too_fine → Of k ≡ edge_of s
+  pub edge_done : length s ≤ i → k ≤ too_fine → Some k ≡ edge_of s
   unfolding edge_after all_digits number_from
-  edge_done h l = let e : k ≡ min too_fine k = omega arith in ap Of e ∙ ap (edge_after k) (sym (drop_of_length-le s {i = i} h)) ∙ so
+  edge_done h l = let e : k ≡ min too_fine k = omega arith in ap Some e ∙ ap (edge_after k) (sym (drop_of_length-le s {i = i} h)) ∙ so

@@ -1,9 +1,7 @@
 -- What the argument K says: a number in digits, and nothing else.
-use Rattle.std.specs.Prelude.{Bool, true, false, ◌&&◌, List, [], ◌∷◌, ℕ, suc, ◌+◌, ◌-◌, ◌*◌, min, eqb, leb, length}
+use Rattle.std.specs.Prelude.{Bool, true, false, ◌&&◌, List, [], ◌∷◌, ℕ, suc, ◌+◌, ◌-◌, ◌*◌, min, eqb, leb, length, Option, Some, None}
 use Rattle.basics.specs.Limits.{finest_edge}
 use Rattle.basics.specs.Pick.{pick}
-use Rattle.survey.specs.declared.Edge.{Edge}
-use Rattle.survey.specs.declared.Edge.TheVariants.{Of, Unsaid}
 
 -- a digit: 0 is 48, and 9 is 57
 abbrev pub digit : ℕ → Bool
@@ -22,9 +20,9 @@ number_from n (c ∷ s) = number_from (10 * n + (c - 48)) s
 abbrev pub too_fine : ℕ
 too_fine = suc finest_edge
 
-unfoldable pub edge_after : ℕ → List ℕ → Edge
-edge_after n s = pick (all_digits s) (Of (min too_fine (number_from n s))) Unsaid
+unfoldable pub edge_after : ℕ → List ℕ → Option ℕ
+edge_after n s = pick (all_digits s) (Some (min too_fine (number_from n s))) None
 
 -- the number that a text says; an empty one says none
-unfoldable pub edge_of : List ℕ → Edge
-edge_of s = pick (eqb (length s) 0) Unsaid (edge_after 0 s)
+unfoldable pub edge_of : List ℕ → Option ℕ
+edge_of s = pick (eqb (length s) 0) None (edge_after 0 s)

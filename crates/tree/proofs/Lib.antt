@@ -1,6 +1,7 @@
 pub mod Canon
 pub mod Grow
 pub mod Making
+pub mod Ends
 pub mod Plan
 pub mod CellLaws
 pub mod OneNode

@@ -5,8 +5,14 @@ use mathlib.Core.Bool.{Bool, true, false}
 use mathlib.Core.List.{List}
 use Prim.Native.Nat.{ℕ, ◌+◌, ◌*◌, ◌^◌}
 use native.Mathlib.Omega.{arith}
+use Rattle.std.specs.Prelude.{Result, Ok, Err}
 use Rattle.basics.specs.Limits.{deepest, cube_kids}
+use Rattle.basics.specs.Refusals.{no_of}
+use Rattle.basics.specs.declared.Refusal.{Refusal}
+use Rattle.basics.proofs.Refusals.{number_one, number_some}
 use Rattle.ids.specs.declared.BlockId.{BlockId}
+use Rattle.paths.specs.declared.IVec3.{IVec3}
+use Rattle.paths.specs.Paths.{Decoded, decoded, ChildIndex, child_index}
 use Rattle.arena.specs.declared.Answer.{Answer}
 use Rattle.arena.specs.declared.Counted.{Counted}
 use Rattle.arena.specs.declared.Made.{Made}
@@ -56,6 +62,28 @@ compared_one : {o : Outcome} (a b : Compared × List ℕ × List ℕ × List ℕ
 compared_one = one (λ (a : Compared × List ℕ × List ℕ × List ℕ). compared a.0 a.1 a.2 a.3)
     (λ o. (record { no = o.no; count = o.count; opened = o.opened }, o.codes, o.lefts, o.rights)) (λ a. refl)
 
+-- Accepted or refused, an answer is one: no refusal has the number 0, and no two have one.
+result_one : {A O : Type 0} (of : Result A Refusal → O) (number_in : O → ℕ) (value : O → A) → ((r : Result A Refusal) → number_in (of r) ≡ no_of r) → ((x : A) → value (of (Ok x)) ≡ x)
+    → {o : O} (a b : Result A Refusal) → of a ≡ o → of b ≡ o → a ≡ b
+result_one of number_in value n v (Ok x) (Ok y) p q = ap Ok (one (λ z. of (Ok z)) value v x y p q)
+result_one of number_in value n v (Ok x) (Err s) p q = absurd (omega (arith, sym (n (Ok x)) ∙ ap number_in (p ∙ sym q) ∙ n (Err s), number_some s))
+result_one of number_in value n v (Err r) (Ok y) p q = absurd (omega (arith, sym (n (Err r)) ∙ ap number_in (p ∙ sym q) ∙ n (Ok y), number_some r))
+result_one of number_in value n v (Err r) (Err s) p q = ap Err (number_one r s (sym (n (Err r)) ∙ ap number_in (p ∙ sym q) ∙ n (Err s)))
+
+decoded_no : (r : Result IVec3 Refusal) → (decoded r).no ≡ no_of r
+decoded_no (Ok x) = refl
+decoded_no (Err r) = refl
+
+decoded_one : {o : Decoded} (a b : Result IVec3 Refusal) → decoded a ≡ o → decoded b ≡ o → a ≡ b
+decoded_one = result_one decoded (λ o. o.no) (λ o. o.position) decoded_no (λ x. refl)
+
+child_no : (r : Result ℕ Refusal) → (child_index r).no ≡ no_of r
+child_no (Ok x) = refl
+child_no (Err r) = refl
+
+child_one : {o : ChildIndex} (a b : Result ℕ Refusal) → child_index a ≡ o → child_index b ≡ o → a ≡ b
+child_one = result_one child_index (λ o. o.no) (λ o. o.index) child_no (λ x. refl)
+
 same : {A : Type 0} {o : A} (a b : A) → a ≡ o → b ≡ o → a ≡ b
 same a b p q = p ∙ sym q
 
@@ -84,8 +112,8 @@ plain_determined (is_valid c) = same
 plain_determined (is_empty c) = same
 plain_determined (text c) = same
 plain_determined (path p) = same
-plain_determined (position c) = same
-plain_determined (child p k d) = same
+plain_determined (position c) = decoded_one
+plain_determined (child p k d) = child_one
 plain_determined (parse l) = same
 
 pub determined : (q : Asked) → Speaks q → (a b : Said q) → Meets q a → Meets q b → a ≡ b

@@ -1,14 +1,13 @@
 -- The public calls with what they are handed, what each answers and leaves, and its contract as the source has it.
-use Rattle.std.specs.Prelude.{◌≡◌, ◌↔◌, Bool, true, not, List, ℕ, ◌≤◌, eqb}
+use Rattle.std.specs.Prelude.{◌≡◌, ◌↔◌, Bool, true, not, Result, List, ℕ, ◌≤◌, eqb}
 use Rattle.basics.specs.Limits.{deepest, cube_kids, kid_words}
+use Rattle.basics.specs.declared.Refusal.{Refusal}
 use Rattle.ids.specs.declared.BlockId.{BlockId}
 use Rattle.ids.specs.Ids as ids
 use Rattle.ids_text.specs.declared.IdText.{IdText}
 use Rattle.ids_text.specs.Text.{id_text_of}
 use Rattle.paths.specs.declared.IVec3.{IVec3}
-use Rattle.paths.specs.declared.ChildIndex.{ChildIndex}
-use Rattle.paths.specs.declared.Decoded.{Decoded}
-use Rattle.paths.specs.Paths.{path_of, decoded_of, child_index_of}
+use Rattle.paths.specs.Paths.{path_of, decoded, decoded_of, child_index, child_index_of}
 use Rattle.arena.specs.declared.Answer.{Answer}
 use Rattle.arena.specs.declared.Counted.{Counted}
 use Rattle.arena.specs.declared.Made.{Made}
@@ -67,9 +66,9 @@ PlainSaid (is_valid b) = Bool
 PlainSaid (is_empty b) = Bool
 PlainSaid (text b) = IdText
 PlainSaid (path p) = ℕ
-PlainSaid (position c) = Decoded
-PlainSaid (child p k d) = ChildIndex
-PlainSaid (parse l) = Reading
+PlainSaid (position c) = Result IVec3 Refusal
+PlainSaid (child p k d) = Result ℕ Refusal
+PlainSaid (parse l) = Result Reading Refusal
 
 -- its contract
 abbrev pub PlainMeets : (q : Plain) → PlainSaid q → Type 0
@@ -90,8 +89,8 @@ PlainMeets (is_valid b) a = a ≡ not (eqb b.0 ids.invalid)
 PlainMeets (is_empty b) a = a ≡ eqb b.0 ids.empty
 PlainMeets (text b) a = a ≡ id_text_of b.0
 PlainMeets (path p) a = a ≡ path_of p
-PlainMeets (position c) a = a ≡ decoded_of c
-PlainMeets (child p k d) a = a ≡ child_index_of p k d
+PlainMeets (position c) a = decoded a ≡ decoded_of c
+PlainMeets (child p k d) a = child_index a ≡ child_index_of p k d
 PlainMeets (parse l) a = a ≡ reading_of l
 
 -- ## Calls on lent tables

@@ -10,7 +10,7 @@ ghost use Rattle.unique.specs.Exports.{ExportMeets};
 ghost use Rattle.arena.specs.Lent.{before};
 
 use arena::{Answer, Arena, Counted, Made};
-use basics::KID_WORDS;
+use basics::{KID_WORDS, Refusal};
 use capi_ids::Packed;
 use capi_paths::{Cell, Child, Text};
 use compare::Compared;
@@ -19,7 +19,7 @@ use ids_text::IdText;
 use listing::{Ran, Run, Step};
 use metres::{Reading, ReadingFields};
 use month_listing::{Cells, Side};
-use paths::{ChildIndex, Decoded, IVec3};
+use paths::IVec3;
 use read_cell::Looked;
 
 // ---- calls that are lent no tables
@@ -126,19 +126,19 @@ fn path_meets(cell: IVec3) -> u32
     paths::encode_child_index_path(cell)
 }
 
-fn position_meets(code: u32) -> Decoded
+fn position_meets(code: u32) -> Result<IVec3, Refusal>
     ensures { PlainMeets (position code) result }
 {
     paths::decode_child_index_path(code)
 }
 
-fn child_meets(cell: IVec3, level: u32, depth: u32) -> ChildIndex
+fn child_meets(cell: IVec3, level: u32, depth: u32) -> Result<usize, Refusal>
     ensures { PlainMeets (child cell level depth) result }
 {
     paths::child_index2(cell, level, depth)
 }
 
-fn parse_meets(bytes: &[u8]) -> Reading
+fn parse_meets(bytes: &[u8]) -> Result<Reading, Refusal>
     ensures { PlainMeets (parse bytes.now) result }
 {
     metres::parse(bytes)

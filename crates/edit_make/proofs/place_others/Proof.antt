@@ -4,7 +4,7 @@ use mathlib.Core.Bool.{Bool, true, false}
 use mathlib.Core.List.{List}
 use Prim.Native.Nat.{ℕ}
 use Rattle.ids.specs.Ids.{mask_of}
-use Rattle.edit_way.specs.Models.{is_end}
+use Rattle.ids.specs.Ids.{is_end}
 use Rattle.edit_make.specs.Models.{other_bits, placed_where, seven_placed, placed_over}
 use Rattle.edit_make.proofs.place_others.Statement.{statement}
 use Rattle.edit_make.proofs.place_others.Tie as tie

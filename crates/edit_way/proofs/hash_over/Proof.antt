@@ -4,7 +4,8 @@ use mathlib.Core.Bool.{Bool, true, false}
 use Prim.Native.Nat.{ℕ}
 use Rattle.nodes.specs.Words.{Words, hash, slot}
 use Rattle.find_hash.specs.Hash.{even_hash}
-use Rattle.edit_way.specs.Models.{is_end, hash_over}
+use Rattle.ids.specs.Ids.{is_end}
+use Rattle.edit_way.specs.Models.{hash_over}
 use Rattle.edit_way.proofs.hash_over.Statement.{statement}
 use Rattle.edit_way.proofs.hash_over.Tie as tie
 

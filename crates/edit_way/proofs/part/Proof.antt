@@ -5,7 +5,7 @@ use Prim.Native.Nat.{ℕ}
 use Rattle.nodes.specs.Words.{Words, slot}
 use Rattle.tree.specs.Anew.{part}
 use Rattle.tree.proofs.Making.{part_flat, part_branch}
-use Rattle.edit_way.specs.Models.{is_end}
+use Rattle.ids.specs.Ids.{is_end}
 use Rattle.edit_way.proofs.Words.{is_flat, is_branch_lem}
 use Rattle.edit_way.proofs.part.Statement.{statement}
 use Rattle.edit_way.proofs.part.Tie as tie

@@ -6,7 +6,8 @@ use Prim.Native.Nat.{ℕ}
 use lib.ListN.{replicate}
 use Rattle.nodes.specs.Words.{Words, slot}
 use Rattle.nodes.specs.Tally.{kids_of}
-use Rattle.edit_way.specs.Models.{is_end, eight_parts}
+use Rattle.ids.specs.Ids.{is_end}
+use Rattle.edit_way.specs.Models.{eight_parts}
 use Rattle.edit_way.proofs.Words.{is_flat, is_branch_lem, parts_flat, parts_branch}
 use Rattle.edit_way.proofs.parts.Statement.{statement}
 use Rattle.edit_way.proofs.parts.Tie as tie

@@ -1,0 +1,12 @@
+use Rattle.std.proofs.Common.{rules, tests, refl, ◌∙◌, ◌-◌}
+use Rattle.std.proofs.lemmas.Iterator.{YieldsList-from_range}
+use Rattle.std.proofs.lemmas.Iterator.Search.{all_from_yields_List}
+use Rattle.check_find.specs.Models.{found_at}
+use Rattle.check_freed.proofs.Passes.{all_range}
+use Rattle.check_find.proofs.all_found.Goals as goal
+
+pub returns : goal.returns
+returns c =
+    let n = c.args.capacity in
+    all_from_yields_List (found_at c.args.kids.now c.args.facts.now c.args.find.now n) _ _ c.all.result c.all.ensures.ran (YieldsList-from_range 0 n (n - 0) refl refl) (λ x b q k. search (rules, tests))
+    ∙ all_range _ 0 n
