@@ -12,7 +12,7 @@ use lib.ListN.{length, get_or}
 use borrow.Author.Tests.{eqb-true, eqb-false, eq-eqb, ne_eqb, not-true}
 use Rattle.basics.specs.Bits.{bit}
 use Rattle.ids.specs.Ids.{leaf_flag, types_field, mask_field, generation_of, is_leaf, types_of, mask_of, has_child, HasFields}
-use Rattle.ids.proofs.Fields.{types_leaf, types_branch, mask_leaf, mask_branch, child_bit}
+use Rattle.ids.proofs.Fields.{byte_leaf, byte_branch, child_bit}
 use Rattle.ids.proofs.Packing.{packed_fields}
 use Rattle.nodes.specs.Tally.{one_if, kids_of, Live}
 use Rattle.nodes.specs.Words.{Words, own, slot}
@@ -113,20 +113,20 @@ module _ {n tallest : ℕ} {t : Tables} (m : n ≤ 8) (w : WellFormed n tallest 
       (λ b. ap (bit i) (branch b) ∙ kids_bit (W t) (slot y) p i l)
 
   pub mask_kids : is_leaf y ≡ false → mask_of y ≡ kid_mask (kids_of 8 (W t) (slot y))
-  unfolding mask_field
-  mask_kids b = sym (mask_branch y (is_leaf y) refl b) ∙ (branch_fields b).mask
+  unfolding mask_of mask_field
+  mask_kids b = sym (byte_branch y 47 (is_leaf y) refl b) ∙ (branch_fields b).mask
 
   pub types_kids : is_leaf y ≡ false → types_of y ≡ kid_types (kids_of 8 (W t) (slot y))
-  unfolding types_field
-  types_kids b = sym (types_branch y (is_leaf y) refl b) ∙ (branch_fields b).types
+  unfolding types_of types_field
+  types_kids b = sym (byte_branch y 55 (is_leaf y) refl b) ∙ (branch_fields b).types
 
   mask_one : (i : ℕ) → i < 8 → bit i (mask_of y) ≡ one_if (not (eqb (W t (slot y) i) 0))
-  unfolding kid_mask
-  mask_one = byte_bit (λ k. not (eqb k 0)) (mask_of y) refl (mask_leaf y (is_leaf y) refl) mask_kids
+  unfolding kid_mask mask_of mask_field
+  mask_one = byte_bit (λ k. not (eqb k 0)) (mask_of y) refl (byte_leaf y 47 (is_leaf y) refl) mask_kids
 
   types_one : (i : ℕ) → i < 8 → bit i (types_of y) ≡ one_if (is_leaf (W t (slot y) i))
-  unfolding kid_types
-  types_one = byte_bit is_leaf (types_of y) empty_flag (types_leaf y (is_leaf y) refl) types_kids
+  unfolding kid_types types_of types_field
+  types_one = byte_bit is_leaf (types_of y) empty_flag (byte_leaf y 55 (is_leaf y) refl) types_kids
 
   -- Mask bit i is 1 exactly if child i isn't EMPTY.
   pub mask_bit : (i : ℕ) → i < 8 → bit i (mask_of y) ≡ 1 ↔ W t (slot y) i ≢ 0

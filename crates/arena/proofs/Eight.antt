@@ -100,23 +100,6 @@ unfolding raw_ids
 raw_length [] = refl
 raw_length (a ∷ ids) = ap suc (raw_length ids)
 
-abbrev at : List BlockId → ℕ → ℕ
-at ids i = (get_or ids i (record { 0 = 0 })).0
-
-pub raw_eight : (ids : List BlockId) → length ids ≡ 8
-    → ◌≡◌ {A = List ℕ} (at ids 0 ∷ at ids 1 ∷ at ids 2 ∷ at ids 3 ∷ at ids 4 ∷ at ids 5 ∷ at ids 6 ∷ at ids 7 ∷ []) (raw_ids ids)
-unfolding raw_ids
-raw_eight [] e = absurd (omega arith)
-raw_eight (a ∷ []) q = absurd (omega arith)
-raw_eight (a ∷ b ∷ []) q = absurd (omega arith)
-raw_eight (a ∷ b ∷ c ∷ []) q = absurd (omega arith)
-raw_eight (a ∷ b ∷ c ∷ d ∷ []) q = absurd (omega arith)
-raw_eight (a ∷ b ∷ c ∷ d ∷ e ∷ []) q = absurd (omega arith)
-raw_eight (a ∷ b ∷ c ∷ d ∷ e ∷ f ∷ []) q = absurd (omega arith)
-raw_eight (a ∷ b ∷ c ∷ d ∷ e ∷ f ∷ g ∷ []) q = absurd (omega arith)
-raw_eight (a ∷ b ∷ c ∷ d ∷ e ∷ f ∷ g ∷ h ∷ []) q = refl
-raw_eight (a ∷ b ∷ c ∷ d ∷ e ∷ f ∷ g ∷ h ∷ i ∷ ids) q = absurd (omega arith)
-
 and_rest : (b : Bool) {r s : Bool} → r ≡ s → (b && r) ≡ pick b s false
 and_rest true e = e
 and_rest false e = refl

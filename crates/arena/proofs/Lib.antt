@@ -6,6 +6,7 @@ pub mod Inv
 pub mod Dropping
 pub mod Outs
 pub mod Fits
+pub mod Seeing
 pub mod Scan
 pub mod Make
 pub mod Places

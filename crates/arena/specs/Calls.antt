@@ -1,7 +1,10 @@
 -- What each public call answers and leaves. On tables that are not sized: refusal 1, nothing changed. On well-formed tables: exactly this.
-use Rattle.std.specs.Prelude.{◌≡◌, ◌⊎◌, Bool, true, false, List, [], ◌∷◌, ℕ, zero, suc, ◌+◌, ◌-◌, ◌*◌, ◌^◌, eqb, leb, ltb, length, replicate}
+use Rattle.std.specs.Prelude.{◌≡◌, ◌⊎◌, Bool, true, false, List, [], ◌∷◌, ℕ, zero, suc, ◌+◌, ◌-◌, ◌*◌, ◌^◌, Result, eqb, leb, ltb, length, replicate}
+use Rattle.std.specs.declared.result.Result.TheVariants.{Ok, Err}
 use Rattle.basics.specs.Limits.{kid_words, fact_words, slot_cells, least_slots, most_slots, most_holds}
 use Rattle.basics.specs.Pick.{pick}
+use Rattle.basics.specs.Refusals.{number}
+use Rattle.basics.specs.declared.Refusal.{Refusal}
 use Rattle.ids.specs.Ids.{empty, invalid, is_leaf, generation_of}
 use Rattle.nodes.specs.Tally.{occ, kids_of}
 use Rattle.ids.specs.declared.BlockId.{BlockId}
@@ -13,6 +16,7 @@ use Rattle.arena.specs.Node.{next_generation, leaf_id, branch_id, sum_for, value
 use Rattle.arena.specs.Tables.{State, live_in, state_in, Tables, tables_of, tables, cap, W, WellFormed}
 use Rattle.arena.specs.declared.Answer.{Answer}
 use Rattle.arena.specs.declared.Counted.{Counted}
+use Rattle.arena.specs.declared.Counts.{Counts}
 use Rattle.arena.specs.declared.Made.{Made}
 
 -- ## Answers: a number, an id, and the arena afterwards
@@ -235,6 +239,11 @@ counts_of t id = of_id t id (λ k. numbers k 0 0) (numbers 0 (W t (slot id) hold
 
 abbrev pub counted : Counted → Numbers
 counted r = numbers r.no r.holds r.places
+
+-- what the code answers, so written
+abbrev pub counted_as : Result Counts Refusal → Numbers
+counted_as (Ok r) = numbers 0 r.holds r.places
+counted_as (Err refusal) = numbers (number refusal) 0 0
 
 -- ## A fresh arena clears every slot, with generation 0 and none given out. Refusal 1
 

@@ -8,7 +8,7 @@ ghost use Rattle.basics.specs.Refusals.{number, no_of};
 ghost use Rattle.ids.specs.Ids.{invalid};
 ghost use Rattle.nodes.specs.Words.{holds as holds_word, places as places_word, fact_of, fact_put, slot};
 ghost use Rattle.arena.specs.Calls.{made_of, each, fit_of, live_of, live_or_empty, all_live, none_of, there_no};
-ghost use Rattle.arena.specs.Lent.{before};
+ghost use Rattle.arena.specs.Seen.{Shows, seen_in};
 ghost use Rattle.arena.specs.Models.{more_of, bumped, hit_by};
 ghost use Rattle.arena.specs.Tables.{live_in, next_in, freed_in, state_of, tables};
 
@@ -25,6 +25,31 @@ use nodes_write::put_fact;
 pub struct Arena {
     pub capacity: usize,
     pub slots: u64,
+}
+
+// An arena lent to be read: its state, and its tables.
+#[derive(Clone, Copy)]
+pub struct Seen<'a> {
+    pub capacity: usize,
+    pub slots: u64,
+    pub kids: &'a [u64],
+    pub facts: &'a [u32],
+    pub find: &'a [u16],
+}
+
+impl Arena {
+    // The arena of this state with its tables.
+    pub fn seen<'a>(self, kids: &'a [u64], facts: &'a [u32], find: &'a [u16]) -> Seen<'a>
+        ensures { Shows result self kids.now facts.now find.now }
+    {
+        Seen {
+            capacity: self.capacity,
+            slots: self.slots,
+            kids,
+            facts,
+            find,
+        }
+    }
 }
 
 // The answer of a call that makes a node: refusal number or 0, the node's id, and `slots` of the state afterwards.
@@ -83,7 +108,14 @@ impl Answer {
     }
 }
 
-// The answer of `counts`.
+// The holds and the places of a node.
+#[derive(Clone, Copy)]
+pub struct Counts {
+    pub holds: u64,
+    pub places: u64,
+}
+
+// The answer of `counts` for C.
 // Kept: C reads the number beside the counts.
 #[repr(C)]
 #[derive(Clone, Copy)]
@@ -181,13 +213,18 @@ pub fn all_empty(ids: Kids) -> bool
 
 // Refusals 1 and 4 of a call that is handed an id: the tables are not sized, or the id is neither EMPTY nor live.
 #[tactic(auto, unfolding(crate::specs::Calls::there_no, crate::specs::Calls::live_or_empty, crate::specs::Calls::live_of, nodes::specs::Words::word_of))]
-pub fn may_name(a: Arena, kids: &[u64], facts: &[u32], find: &[u16], id: u64) -> Result<(), Refusal>
-    ensures { no_of result ≡ there_no (before a kids.now facts.now find.now) id }
+pub fn may_name(seen: Seen<'_>, id: u64) -> Result<(), Refusal>
+    ensures { no_of result ≡ there_no (seen_in seen.entry) id }
 {
-    if !fit(a.capacity, kids.len(), facts.len(), find.len()) {
+    if !fit(
+        seen.capacity,
+        seen.kids.len(),
+        seen.facts.len(),
+        seen.find.len(),
+    ) {
         return Err(Refusal::Size);
     }
-    if !is_live_or_empty(a.capacity, facts, id) {
+    if !is_live_or_empty(seen.capacity, seen.facts, id) {
         return Err(Refusal::NotLive);
     }
     Ok(())

@@ -3,18 +3,23 @@ use mathlib.Core.Path.{◌≡◌, refl, sym, ap, ◌∙◌}
 use mathlib.Core.Logic.{◌≢◌}
 use mathlib.Core.Bool.{true, false}
 use mathlib.Core.List.{List}
-use Prim.Native.Nat.{ℕ, ◌≤◌, ◌<◌, ◌%◌, ◌^◌}
+use Prim.Native.Nat.{ℕ, ◌+◌, ◌≤◌, ◌<◌, ◌%◌, ◌^◌}
 use native.Mathlib.Omega.{arith}
 use lib.Dec.{ltb}
+use lib.ListN.{length}
 use borrow.Author.Tests.{eq-eqb, ne_eqb, le-leb, lt-leb, ltb-true}
-use Rattle.basics.specs.Limits.{cube_kids, deepest}
+use Rattle.basics.specs.Limits.{cube_kids, deepest, kid_words}
 use Rattle.basics.specs.Pick.{pick}
-use Rattle.nodes.specs.Words.{Words, fact_of, holds, word_of}
+use Rattle.ids.specs.declared.BlockId.{BlockId}
+use Rattle.nodes.specs.Words.{Words, fact_of, holds, places, word_of}
 use Rattle.nodes.proofs.Sums.{split}
-use Rattle.arena.specs.Calls.{Out, all_live, each, enough, enough_for, full_of, live_of, live_or_empty, refused}
-use Rattle.arena.specs.Models.{branch_at, branch_new_by, branch_take_by, first_no, hit_by, lasts, late_no, lives_at, sum_by, taken_one, top_for}
-use Rattle.arena.specs.Node.{sum_for, value_for}
+use Rattle.find_hash.specs.Hash.{kids_hash}
+use Rattle.arena.specs.Calls.{Out, Fair, all_live, each, enough, enough_for, full_of, intern_branch_of, live_of, live_or_empty, raw_ids, refused}
+use Rattle.arena.specs.Models.{branch_at, branch_new_by, branch_take_by, branch_with, bumped, first_no, hit_by, intern_branch_by, lasts, late_no, lives_at, sum_by, taken_one, top_for}
+use Rattle.arena.specs.Node.{kid_mask, kid_types, sum_for, value_for}
 use Rattle.arena.specs.Tables.{State, Tables, cap, tables, W}
+use Rattle.arena.proofs.Branching.{branch_law}
+use Rattle.arena.proofs.Eight.{raw_length}
 use Rattle.new_value.proofs.Facts.{sum_facts, top_facts, value_facts}
 
 module _ (a : State) (k f e ks : List ℕ) (s at : ℕ) where
@@ -90,3 +95,16 @@ module _ (a : State) (k f e ks : List ℕ) (s at : ℕ) where
 pub low : (a : State) (U : Words) (x : ℕ) → late_no deepest a U 0 x ≡ 0 → x < deepest
 unfolding late_no
 low a U x e = split (ltb x deepest) (λ q. ltb-true x deepest q) (λ q. absurd (let z : 8 ≡ 0 = rw q at e in omega arith))
+
+-- the fresh branch, once the code has counted the places and made the bytes
+pub fresh : (a : State) (k f e ks m : List ℕ) (v top sm kh at ty ma : ℕ) (x : Out) → m ≡ each (bumped places) f ks → kh ≡ kids_hash ks → ty ≡ kid_types ks → ma ≡ kid_mask ks
+    → x ≡ branch_with (tables a k m e) ks ty ma v (top + 1) (sm % 2 ^ 32) kh 1 0 at → x ≡ branch_new_by (tables a k f e) ks v top (sm % 2 ^ 32) at
+unfolding branch_new_by
+fresh a k f e ks m v top sm kh at ty ma x em ek et ea ex = ex ∙ (λ i. branch_with (tables a k (em i) e) ks (et i) (ea i) v (top + 1) (sm % 2 ^ 32) (ek i) 1 0 at)
+
+-- a cube's children fill the words of a row: no id stands beyond them
+pub cube_law : {t : Tables} (ids : List BlockId) (ks : List ℕ) (x : Out) → length ids ≡ kid_words → ks ≡ raw_ids ids
+    → x ≡ intern_branch_by cube_kids deepest t ks → Fair cube_kids deepest t → x ≡ intern_branch_of cube_kids deepest t (raw_ids ids)
+cube_law {t} ids ks x e r q f =
+    branch_law (raw_ids ids) x (omega arith) (omega arith) (raw_length ids ∙ e) (λ i a b. absurd (omega arith))
+    (q ∙ ap (intern_branch_by cube_kids deepest t) r) f

@@ -129,6 +129,7 @@ fn take_holds(facts: &mut [u32], ks: Kids) -> bool
 }
 
 // A fresh branch, named in the cell `at`: the holds of its children, which are taken already, become places.
+#[tactic(auto, using(crate::proofs::Steps::fresh))]
 fn branch_new(
     a: Arena,
     kids: &mut [u64],
@@ -251,6 +252,7 @@ fn raw_ids(ids: [BlockId; KID_WORDS]) -> Kids
 
 // Intern branch: the live node of those eight ids if there is one, else a fresh one; the caller gets one hold. It uses up one of the caller's
 // holds for each child that isn't EMPTY.
+#[tactic(auto, using(crate::proofs::Steps::cube_law))]
 pub fn intern_branch(
     arena: Arena,
     kids: &mut [u64],

@@ -3,10 +3,11 @@
 
 ghost use Rattle.std.specs.Prelude.{◌≡◌};
 ghost use Rattle.basics.specs.Refusals.{no_of};
-ghost use Rattle.arena.specs.Calls.{answered_of, counted, did, hold_of, counts_of, fresh_of};
+ghost use Rattle.arena.specs.Calls.{answered_of, counted_as, did, hold_of, counts_of, fresh_of};
 ghost use Rattle.arena.specs.Lent.{before, answered};
+ghost use Rattle.arena.specs.Seen.{seen_in};
 
-use arena::{Answer, Arena, Counted, bump, fit, may_name, slot_of, slots_of};
+use arena::{Answer, Arena, Counts, Seen, bump, fit, may_name, slot_of, slots_of};
 use basics::{MOST_HOLDS, Refusal};
 use ids::BlockId;
 use nodes::{HOLDS, PLACES, fact};
@@ -21,7 +22,7 @@ fn grant(
 ) -> Result<(), Refusal>
     ensures { did (no_of result) (before arena kids.now facts.new find.now) ≡ hold_of (before arena kids.now facts.old find.now) id }
 {
-    may_name(arena, kids, facts, find, id)?;
+    may_name(arena.seen(kids, facts, find), id)?;
     if id == BlockId::EMPTY.0 {
         return Ok(());
     }
@@ -34,6 +35,7 @@ fn grant(
 }
 
 // Hold: the caller gets one hold more. EMPTY: nothing.
+// Kept: the tables apart, since the hold is written into `facts`, and C lends the others to be read.
 pub fn hold(arena: Arena, kids: &[u64], facts: &mut [u32], find: &[u16], id: BlockId) -> Answer
     ensures { answered arena result kids.now facts.new find.now ≡ hold_of (before arena kids.now facts.old find.now) id.0 }
 {
@@ -44,29 +46,21 @@ pub fn hold(arena: Arena, kids: &[u64], facts: &mut [u32], find: &[u16], id: Blo
 }
 
 // Counts: the holds and the places of a node.
-pub fn counts(arena: Arena, kids: &[u64], facts: &[u32], find: &[u16], id: BlockId) -> Counted
-    ensures { counted result ≡ counts_of (before arena kids.now facts.now find.now) id.0 }
+pub fn counts(seen: Seen<'_>, id: BlockId) -> Result<Counts, Refusal>
+    ensures { counted_as result ≡ counts_of (seen_in seen.entry) id.0 }
 {
-    if let Err(refusal) = may_name(arena, kids, facts, find, id.0) {
-        return Counted {
-            no: u32::from(refusal),
-            holds: 0,
-            places: 0,
-        };
-    }
+    may_name(seen, id.0)?;
     if id.is_empty() {
-        return Counted {
-            no: 0,
+        return Ok(Counts {
             holds: 0,
             places: 0,
-        };
+        });
     }
     let s = slot_of(id.0);
-    Counted {
-        no: 0,
-        holds: fact(facts, s, HOLDS) as u64,
-        places: fact(facts, s, PLACES) as u64,
-    }
+    Ok(Counts {
+        holds: fact(seen.facts, s, HOLDS) as u64,
+        places: fact(seen.facts, s, PLACES) as u64,
+    })
 }
 
 // A fresh arena: clears every slot, with generation 0 and none given out.

@@ -151,7 +151,7 @@ fn release_any(
 ) -> Result<u64, Refusal>
     ensures { did (no_of result) (after_in (state_in a.capacity (slots_after a.slots result)) kids.new facts.new find.new) ≡ release_any deepest (before a kids.old facts.old find.old) id }
 {
-    may_name(a, kids, facts, find, id)?;
+    may_name(a.seen(kids, facts, find), id)?;
     if id == BlockId::EMPTY.0 {
         return Ok(a.slots);
     }

@@ -16,6 +16,7 @@ use ids::BlockId;
 use paths::IVec3;
 
 // The cell (x, y, z).
+#[tactic(auto, using(crate::proofs::Steps::cell_is))]
 fn cell(x: u32, y: u16, z: u16) -> IVec3
     requires { x < 2 ^ 31 }
     ensures { result ≡ place x y z }

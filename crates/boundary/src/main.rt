@@ -5,7 +5,7 @@
 // 944 bytes. Where a line can't be written, the program ends with the error.
 #![tactic(auto)]
 
-use arena::{Arena, Made};
+use arena::{Arena, Counts, Made, Seen};
 use ids::BlockId;
 use paths::IVec3;
 use std::fmt::{self, Display, Formatter, Write};
@@ -79,6 +79,11 @@ impl Tables {
         }
     }
 
+    // The arena, to be read.
+    fn seen(&self) -> Seen<'_> {
+        self.arena.seen(&self.kids, &self.facts, &self.find)
+    }
+
     // Makes it a fresh arena.
     fn clear(&mut self) {
         let answer = arena_hold::fresh(SLOTS, &mut self.kids, &mut self.facts, &mut self.find);
@@ -136,24 +141,25 @@ impl Tables {
 
     // Looks a cell of the x axis up at depth 6.
     fn say_cell(&self, rt: &impl Print, asked: &str, root: BlockId, x: i32) -> io::Result<()> {
-        let looked = read_cell::get_at_depth(
-            self.arena,
-            &self.kids,
-            &self.facts,
-            &self.find,
-            root,
-            DEPTH,
-            cell(x),
-        );
-        println!(rt; "{asked}: {} {}", looked.no, looked.value)
+        let (no, value) = match read_cell::get_at_depth(self.seen(), root, DEPTH, cell(x)) {
+            Ok(value) => (0, value),
+            Err(refusal) => (u32::from(refusal), 0),
+        };
+        println!(rt; "{asked}: {no} {value}")
     }
 
     fn say_counts(&self, rt: &impl Print, asked: &str, id: BlockId) -> io::Result<()> {
-        let counted = arena_hold::counts(self.arena, &self.kids, &self.facts, &self.find, id);
-        println!(rt;
-            "{asked}: {} holds {} places {}",
-            counted.no, counted.holds, counted.places
-        )
+        let (no, Counts { holds, places }) = match arena_hold::counts(self.seen(), id) {
+            Ok(counts) => (0, counts),
+            Err(refusal) => (
+                u32::from(refusal),
+                Counts {
+                    holds: 0,
+                    places: 0,
+                },
+            ),
+        };
+        println!(rt; "{asked}: {no} holds {holds} places {places}")
     }
 }
 

@@ -4,11 +4,11 @@
 
 ghost use Rattle.std.specs.Prelude.{◌≡◌, ℕ, ◌≤◌};
 ghost use Rattle.basics.specs.Limits.{deepest, cube_kids, kid_words};
-ghost use Rattle.arena.specs.Calls.{answered_of, counted, Fair, raw_ids, fresh_of, intern_leaf_of, intern_branch_of, hold_of, release_of, counts_of};
+ghost use Rattle.arena.specs.Calls.{answered_of, counted, counted_as, Fair, raw_ids, fresh_of, intern_leaf_of, intern_branch_of, hold_of, release_of, counts_of};
 ghost use Rattle.arena.specs.Lent.{before, made, answered};
 
-use arena::{Answer, Arena, Counted, Made};
-use basics::KID_WORDS;
+use arena::{Answer, Arena, Counted, Counts, Made};
+use basics::{KID_WORDS, Refusal};
 use ids::BlockId;
 
 // The eight child ids of a branch. An array alone can't be passed.
@@ -16,6 +16,24 @@ use ids::BlockId;
 #[derive(Clone, Copy)]
 pub struct Children {
     pub ids: [BlockId; KID_WORDS],
+}
+
+// The counts, or the number of the refusal with counts 0, as C reads them.
+fn counted(answer: Result<Counts, Refusal>) -> Counted
+    ensures { counted result ≡ counted_as answer }
+{
+    match answer {
+        Ok(Counts { holds, places }) => Counted {
+            no: 0,
+            holds,
+            places,
+        },
+        Err(refusal) => Counted {
+            no: u32::from(refusal),
+            holds: 0,
+            places: 0,
+        },
+    }
 }
 
 pub fn fenpiling_fresh(
@@ -81,5 +99,5 @@ pub fn fenpiling_release(
 pub fn fenpiling_counts(arena: Arena, kids: &[u64], facts: &[u32], find: &[u16], id: u64) -> Counted
     ensures { counted result ≡ counts_of (before arena kids.now facts.now find.now) id }
 {
-    arena_hold::counts(arena, kids, facts, find, BlockId(id))
+    counted(arena_hold::counts(arena.seen(kids, facts, find), BlockId(id)))
 }

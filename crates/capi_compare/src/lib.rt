@@ -24,16 +24,13 @@ pub fn fenpiling_compare(
 ) -> Compared
     ensures { compared result codes.new lefts.new rights.new ≡ compare_of (before arena kids.now facts.now find.now) left right depth codes.old lefts.old rights.old }
 {
-    compare::compare(
-        arena,
-        kids,
-        facts,
-        find,
+    Compared::from(compare::compare(
+        arena.seen(kids, facts, find),
         BlockId(left),
         BlockId(right),
         depth,
         codes,
         lefts,
         rights,
-    )
+    ))
 }

@@ -1,4 +1,3 @@
 pub mod Slots
 pub mod Checking
 pub mod Deciding
-pub mod Ranges

@@ -7,12 +7,12 @@ ghost use Rattle.basics.specs.Limits.{deepest, cube_kids, kid_words};
 ghost use Rattle.nodes.specs.Words.{kid_of, fact_of, holds, places};
 ghost use Rattle.nodes.specs.Tally.{kids_of};
 ghost use Rattle.arena.specs.Calls.{none_of};
-ghost use Rattle.arena.specs.Tables.{WellFormed, state_of};
+ghost use Rattle.arena.specs.Tables.{WellFormed, state_in};
 ghost use Rattle.arena.specs.Lent.{before};
 ghost use Rattle.check_freed.specs.Models.{all_in};
 ghost use Rattle.check_arena.specs.Models.{blank_at, dead_fine, counts_fine, leaf_named, kept_at, leaf_fine, branch_named, tall_at, branch_fine, kind_fine, live_fine, rests_at, plain_at, slot_fine, ranged_by, sound_by};
 
-use arena::{Arena, all_empty, all_live, fit, next_in};
+use arena::{Arena, Seen, all_empty, all_live, fit, next_in};
 use basics::{Kids, LARGEST_VALUE, LAST_GENERATION, MOST_HOLDS, TALLEST};
 use check_find::find_fine;
 use check_freed::{is_given, state_fine};
@@ -42,10 +42,10 @@ fn bare(kids: &[u64], s: usize) -> bool
 
 // Is slot s cleared: value 0, children EMPTY, both counts 0? Its own word is a generation alone.
 #[tactic(auto, unfolding(crate::specs::Models::dead_fine))]
-fn dead_fine(kids: &[u64], facts: &[u32], s: usize) -> bool
-    ensures { result ≡ dead_fine kids.now facts.now s }
+fn dead_fine(seen: &Seen<'_>, s: usize) -> bool
+    ensures { result ≡ dead_fine seen.now.kids.now seen.now.facts.now s }
 {
-    own(facts, s) % 0x1_0000_0000 == 0 && bare(kids, s) && blank(facts, s)
+    own(seen.facts, s) % 0x1_0000_0000 == 0 && bare(seen.kids, s) && blank(seen.facts, s)
 }
 
 // ---- a live slot
@@ -138,10 +138,10 @@ fn kind_fine(facts: &[u32], capacity: usize, ks: Kids, s: usize) -> bool
 
 // A live node meets the rules on content, stored value, height and id, with at most 1,000,000 holds.
 #[tactic(auto, unfolding(crate::specs::Models::live_fine))]
-fn live_fine(kids: &[u64], facts: &[u32], capacity: usize, s: usize) -> bool
-    ensures { result ≡ live_fine kids.now facts.now capacity s }
+fn live_fine(seen: &Seen<'_>, s: usize) -> bool
+    ensures { result ≡ live_fine seen.now.kids.now seen.now.facts.now seen.now.capacity s }
 {
-    counts_fine(facts, s) && kind_fine(facts, capacity, children(kids, s), s)
+    counts_fine(seen.facts, s) && kind_fine(seen.facts, seen.capacity, children(seen.kids, s), s)
 }
 
 // ---- every slot
@@ -166,23 +166,23 @@ fn is_plain(facts: &[u32], s: usize) -> bool
 
 // Slot s has a live node that meets the rules, or is cleared.
 #[tactic(auto, unfolding(crate::specs::Models::slot_fine, nodes::specs::Words::floor))]
-fn slot_fine(kids: &[u64], facts: &[u32], capacity: usize, next: usize, s: usize) -> bool
-    ensures { result ≡ slot_fine kids.now facts.now capacity next s }
+fn slot_fine(seen: &Seen<'_>, next: usize, s: usize) -> bool
+    ensures { result ≡ slot_fine seen.now.kids.now seen.now.facts.now seen.now.capacity next s }
 {
-    is_plain(facts, s)
-        && rests(facts, next, s)
-        && if FLOOR <= own(facts, s) {
-            live_fine(kids, facts, capacity, s)
+    is_plain(seen.facts, s)
+        && rests(seen.facts, next, s)
+        && if FLOOR <= own(seen.facts, s) {
+            live_fine(seen, s)
         } else {
-            dead_fine(kids, facts, s)
+            dead_fine(seen, s)
         }
 }
 
 // Every slot is as it must be by itself and by its children.
-fn slots_fine(kids: &[u64], facts: &[u32], capacity: usize, next: usize) -> bool
-    ensures { result ≡ all_in 0 capacity (slot_fine kids.now facts.now capacity next) }
+fn slots_fine(seen: &Seen<'_>, next: usize) -> bool
+    ensures { result ≡ all_in 0 seen.now.capacity (slot_fine seen.now.kids.now seen.now.facts.now seen.now.capacity next) }
 {
-    (0..capacity).all(|s| slot_fine(kids, facts, capacity, next, s))
+    (0..seen.capacity).all(|s| slot_fine(seen, next, s))
 }
 
 // ---- the check
@@ -197,20 +197,25 @@ fn is_ranged(next: usize, capacity: usize) -> bool
 
 // All of it but the tally, which wants these to be right.
 #[tactic(auto, unfolding(crate::specs::Models::sound_by))]
-fn is_sound(kids: &[u64], facts: &[u32], find: &[u16], arena: Arena) -> bool
-    ensures { result ≡ sound_by (state_of arena) kids.now facts.now find.now }
+fn is_sound(seen: Seen<'_>) -> bool
+    ensures { result ≡ sound_by (state_in seen.entry.capacity seen.entry.slots) seen.entry.kids.now seen.entry.facts.now seen.entry.find.now }
 {
-    let next = next_in(arena.slots) as usize;
-    fit(arena.capacity, kids.len(), facts.len(), find.len())
-        && is_ranged(next, arena.capacity)
-        && slots_fine(kids, facts, arena.capacity, next)
-        && state_fine(facts, arena)
-        && find_fine(kids, facts, find, arena)
+    let next = next_in(seen.slots) as usize;
+    fit(
+        seen.capacity,
+        seen.kids.len(),
+        seen.facts.len(),
+        seen.find.len(),
+    ) && is_ranged(next, seen.capacity)
+        && slots_fine(&seen, next)
+        && state_fine(seen)
+        && find_fine(seen)
 }
 
 // The arena check: yes exactly if the tables are well formed, on any tables; with refusal 1 it says no. The tables are as before.
+// Kept: the tables apart, since the tally writes marks into `facts`, and C lends the others to be read.
 pub fn check_arena(arena: Arena, kids: &[u64], facts: &mut [u32], find: &[u16]) -> bool
     ensures { ((result ≡ true) ↔ WellFormed cube_kids deepest (before arena kids.now facts.old find.now)) × (facts.new ≡ facts.old) }
 {
-    is_sound(kids, facts, find, arena) && tallies(kids, facts, arena.capacity)
+    is_sound(arena.seen(kids, facts, find)) && tallies(kids, facts, arena.capacity)
 }

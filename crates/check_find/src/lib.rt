@@ -7,7 +7,7 @@ ghost use Rattle.find.specs.Cells.{seat};
 ghost use Rattle.check_freed.specs.Models.{all_in};
 ghost use Rattle.check_find.specs.Models.{live_at, named_at, cell_fine, found_at, find_fine};
 
-use arena::Arena;
+use arena::Seen;
 use find::{Found, cell, search, search_leaf};
 use find_hash::{kids_hash, leaf_hash};
 use ids::BlockId;
@@ -21,56 +21,63 @@ fn lives(facts: &[u32], capacity: usize, s: usize) -> bool
 }
 
 // Searches for the content of slot s, by the hash worked out from it.
-fn search_for(kids: &[u64], facts: &[u32], find: &[u16], capacity: usize, s: usize) -> Found
-    ensures { (result.cell ≡ seat find.now capacity (words_in kids.now facts.now) s) × (result.slot ≡ get_or find.now (seat find.now capacity (words_in kids.now facts.now) s) 0) }
+fn search_for(seen: &Seen<'_>, s: usize) -> Found
+    ensures { (result.cell ≡ seat seen.now.find.now seen.now.capacity (words_in seen.now.kids.now seen.now.facts.now) s) × (result.slot ≡ get_or seen.now.find.now (seat seen.now.find.now seen.now.capacity (words_in seen.now.kids.now seen.now.facts.now) s) 0) }
 {
-    if BlockId(own(facts, s)).is_leaf() {
-        let v = fact(facts, s, VALUE);
-        return search_leaf(find, facts, capacity, leaf_hash(v), v);
+    if BlockId(own(seen.facts, s)).is_leaf() {
+        let v = fact(seen.facts, s, VALUE);
+        return search_leaf(seen.find, seen.facts, seen.capacity, leaf_hash(v), v);
     }
-    let ks = children(kids, s);
-    search(find, kids, facts, capacity, kids_hash(ks), ks)
+    let ks = children(seen.kids, s);
+    search(
+        seen.find,
+        seen.kids,
+        seen.facts,
+        seen.capacity,
+        kids_hash(ks),
+        ks,
+    )
 }
 
 // Slot s is live, and the search for its content ends at cell p.
-fn is_at(kids: &[u64], facts: &[u32], find: &[u16], capacity: usize, s: usize, p: usize) -> bool
-    ensures { result ≡ named_at kids.now facts.now find.now capacity s p }
+fn is_at(seen: &Seen<'_>, s: usize, p: usize) -> bool
+    ensures { result ≡ named_at seen.now.kids.now seen.now.facts.now seen.now.find.now seen.now.capacity s p }
 {
-    lives(facts, capacity, s) && search_for(kids, facts, find, capacity, s).cell == p
+    lives(seen.facts, seen.capacity, s) && search_for(seen, s).cell == p
 }
 
 // Cell p is empty, or names a live slot, and no other cell does: the search for the slot's content ends there.
-fn cell_fine(kids: &[u64], facts: &[u32], find: &[u16], capacity: usize, p: usize) -> bool
-    ensures { result ≡ cell_fine kids.now facts.now find.now capacity p }
+fn cell_fine(seen: &Seen<'_>, p: usize) -> bool
+    ensures { result ≡ cell_fine seen.now.kids.now seen.now.facts.now seen.now.find.now seen.now.capacity p }
 {
-    let s = cell(find, p);
-    s == 0 || is_at(kids, facts, find, capacity, s, p)
+    let s = cell(seen.find, p);
+    s == 0 || is_at(seen, s, p)
 }
 
 // The finding table names live slots only, each once.
-fn cells_fine(kids: &[u64], facts: &[u32], find: &[u16], capacity: usize) -> bool
-    ensures { result ≡ all_in 0 (length find.now) (cell_fine kids.now facts.now find.now capacity) }
+fn cells_fine(seen: &Seen<'_>) -> bool
+    ensures { result ≡ all_in 0 (length seen.now.find.now) (cell_fine seen.now.kids.now seen.now.facts.now seen.now.find.now seen.now.capacity) }
 {
-    (0..find.len()).all(|p| cell_fine(kids, facts, find, capacity, p))
+    (0..seen.find.len()).all(|p| cell_fine(seen, p))
 }
 
 // The search finds the node in slot s, if it is live: so no other has equal content.
-fn is_found(kids: &[u64], facts: &[u32], find: &[u16], capacity: usize, s: usize) -> bool
-    ensures { result ≡ found_at kids.now facts.now find.now capacity s }
+fn is_found(seen: &Seen<'_>, s: usize) -> bool
+    ensures { result ≡ found_at seen.now.kids.now seen.now.facts.now seen.now.find.now seen.now.capacity s }
 {
-    !lives(facts, capacity, s) || search_for(kids, facts, find, capacity, s).slot == s
+    !lives(seen.facts, seen.capacity, s) || search_for(seen, s).slot == s
 }
 
 // The search finds every live node; no two have equal content.
-fn all_found(kids: &[u64], facts: &[u32], find: &[u16], capacity: usize) -> bool
-    ensures { result ≡ all_in 0 capacity (found_at kids.now facts.now find.now capacity) }
+fn all_found(seen: &Seen<'_>) -> bool
+    ensures { result ≡ all_in 0 seen.now.capacity (found_at seen.now.kids.now seen.now.facts.now seen.now.find.now seen.now.capacity) }
 {
-    (0..capacity).all(|s| is_found(kids, facts, find, capacity, s))
+    (0..seen.capacity).all(|s| is_found(seen, s))
 }
 
 // The finding table names live slots only, each once, and the search finds every live node.
-pub fn find_fine(kids: &[u64], facts: &[u32], find: &[u16], arena: Arena) -> bool
-    ensures { result ≡ find_fine arena.capacity kids.now facts.now find.now }
+pub fn find_fine(seen: Seen<'_>) -> bool
+    ensures { result ≡ find_fine seen.entry.capacity seen.entry.kids.now seen.entry.facts.now seen.entry.find.now }
 {
-    cells_fine(kids, facts, find, arena.capacity) && all_found(kids, facts, find, arena.capacity)
+    cells_fine(&seen) && all_found(&seen)
 }

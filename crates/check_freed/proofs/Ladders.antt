@@ -20,9 +20,6 @@ module _ (x y z : Bool) (a b w v : ℕ) (e : w ≡ a) (d : v ≡ b) where
   pub eq_yes : w ≡ v → z ≡ x → z ≡ pick (eqb a b) x y
   eq_yes h k = k ∙ sym (pick_yes (eqb a b) x y (eq-eqb a b (sym e ∙ h ∙ d)))
 
-  pub ne_no : (w ≡ v → ⊥) → z ≡ y → z ≡ pick (eqb a b) x y
-  ne_no h k = k ∙ sym (pick_no (eqb a b) x y (ne_eqb a b (λ q. h (e ∙ q ∙ sym d))))
-
   pub le_yes : w ≤ v → z ≡ x → z ≡ pick (leb a b) x y
   le_yes h k = k ∙ sym (pick_yes (leb a b) x y (le-leb a b (omega arith)))
 

@@ -1,16 +1,14 @@
--- A pass: a loop that stops at the first number of which its test is false; and one that changes something at each number.
+-- A pass: a test of each of some numbers; and a loop that changes something at each number.
 use Rattle.std.specs.List.{list_all, range_with_len, count_by}
 use Rattle.std.proofs.lemmas.List.Sums.{sum_by_push}
 use Rattle.basics.specs.Sums.{sum_to}
 use mathlib.Core.Path.{◌≡◌, refl, sym, ap, ◌∙◌}
-use mathlib.Core.Bool.{Bool, true, false, not, cond}
+use mathlib.Core.Bool.{Bool, true, false, cond}
 use mathlib.Core.List.{List, [], ◌∷◌, ◌++◌}
 use Prim.Native.Nat.{ℕ, zero, suc, ◌+◌, ◌-◌, ◌≤◌, ◌<◌}
 use native.Mathlib.Decide.{ℕ_discrete}
 use native.Mathlib.Numerals.{add-one}
 use native.Mathlib.Omega.{arith}
-use borrow.Author.Tests.{not-true, not-false}
-use Rattle.basics.specs.Pick.{pick}
 use Rattle.nodes.specs.Tally.{tab_from, occ, one_if}
 use Rattle.nodes.proofs.Sums.{cases, occ_cons, occ_here}
 use Rattle.arena.specs.Calls.{all_of, each}
@@ -18,31 +16,7 @@ use Rattle.arena.proofs.Eight.{all_of_list}
 use Rattle.check_freed.specs.Models.{all_in, up_to}
 use Rattle.check_freed.proofs.Ladders.{Tells, tells_and, tells_map}
 
--- ---- the loop's steps: what is left of the pass answers for all of it
-
-abbrev pub Passed : (ℕ → Bool) → ℕ → ℕ → ℕ → Type 0
-Passed p from i m = all_in from m p ≡ all_in i m p
-
-module _ (p : ℕ → Bool) (from i m : ℕ) (e : Passed p from i m) where
-  rest : i < m → all_in from m p ≡ pick (p i) (all_in (i + 1) m p) false
-  unfolding all_in all_of tab_from
-  rest h = e ∙ (let d : m - i ≡ suc (m - (i + 1)) = omega arith in rw (d, add-one i))
-
-  pub pass_next : p i ≡ true → i < m → Passed p from (i + 1) m
-  pass_next y l = rest l ∙ rw y
-
-  pub pass_halt : p i ≡ false → i < m → false ≡ all_in from m p
-  pass_halt n l = sym (rest l ∙ rw n)
-
-  pub pass_on : (t : Bool) → t ≡ p i → not t ≡ false → i < m → Passed p from (i + 1) m
-  pass_on t d h l = pass_next (sym d ∙ not-false t h) l
-
-  pub pass_stop : (t : Bool) → t ≡ p i → not t ≡ true → i < m → false ≡ all_in from m p
-  pass_stop t d h l = pass_halt (sym d ∙ not-true t h) l
-
-  pub pass_end : m ≤ i → true ≡ all_in from m p
-  unfolding all_in all_of tab_from
-  pass_end h = sym (e ∙ (let d : m - i ≡ 0 = omega arith in rw d))
+-- ---- the turns of a loop, one by one
 
 module _ {A : Type 0} (g : A → ℕ → A) (x : A) where
   pub turn_first : x ≡ up_to g x 0

@@ -5,10 +5,10 @@
 ghost use Rattle.std.specs.Prelude.{◌≡◌};
 ghost use Rattle.nodes.specs.Words.{fact_of};
 ghost use Rattle.nodes.specs.Tally.{live_count};
-ghost use Rattle.arena.specs.Tables.{state_of};
+ghost use Rattle.arena.specs.Tables.{state_in};
 ghost use Rattle.check_freed.specs.Models.{all_in, is_given, is_free, numbered_by, entry_fine, state_fine};
 
-use arena::{Arena, freed_in, next_in};
+use arena::{Seen, freed_in, next_in};
 use nodes::{ENTRY, FLOOR, MARK, fact, own};
 
 // Was slot s given out? Slot 0 never is.
@@ -47,13 +47,14 @@ fn entries_fine(facts: &[u32], next: usize, freed: usize) -> bool
 }
 
 // Every slot from 1 up to the highest given out is live or on the stack of the freed ones, once.
-pub fn state_fine(facts: &[u32], arena: Arena) -> bool
-    ensures { result ≡ state_fine (state_of arena) facts.now }
+pub fn state_fine(seen: Seen<'_>) -> bool
+    ensures { result ≡ state_fine (state_in seen.entry.capacity seen.entry.slots) seen.entry.facts.now }
 {
-    let next = next_in(arena.slots) as usize;
-    let freed = freed_in(arena.slots) as usize;
+    let next = next_in(seen.slots) as usize;
+    let freed = freed_in(seen.slots) as usize;
     if freed >= next {
         return false;
     }
-    count_live(facts, arena.capacity) == next - 1 - freed && entries_fine(facts, next, freed)
+    count_live(seen.facts, seen.capacity) == next - 1 - freed
+        && entries_fine(seen.facts, next, freed)
 }

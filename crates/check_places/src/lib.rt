@@ -53,6 +53,7 @@ fn all_agree(facts: &[u32], c: usize) -> bool
 
 // Places equal the true tally, of the slots below c. (Of tables whose children are live or EMPTY and whose live slots have the mark 0: then the
 // tables are as before.)
+// Kept: the tables apart, since the counters are written into `facts`.
 pub fn tallies(kids: &[u64], facts: &mut [u32], c: usize) -> bool
     ensures { (result ≡ all_in 0 c (agree_at (count_to kids.now facts.old c))) × (facts.new ≡ clear_to (count_to kids.now facts.old c) c) }
 {

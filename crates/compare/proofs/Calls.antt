@@ -20,9 +20,8 @@ use Rattle.read_cell.proofs.Cube.{cells_shift}
 use Rattle.compare_count.specs.Count.{count_of}
 use Rattle.compare_list.specs.List.{Written, wrote, cells_written, written_of}
 use Rattle.compare_list.specs.declared.Found.{Found}
-use Rattle.compare.specs.declared.Compared.{Compared}
-use Rattle.compare.specs.Compare.{outcome, compared, cells_of, roots_no, compare_no, listed, compare_of}
-use Rattle.compare.specs.Models.{roots_by, first_no, refused_with}
+use Rattle.compare.specs.Compare.{outcome, cells_of, roots_no, compare_no, listed, compare_of}
+use Rattle.compare.specs.Models.{roots_by, first_no}
 
 -- ---- refusals
 
@@ -109,18 +108,18 @@ module _ (T : Tables) (a b d c l r k : ℕ) (e : k ≡ first_no T a b d c l r) w
   deep_enough h = (lent h).2
 
 module _ (A : State) (ks fs es : List ℕ) (a b d k : ℕ) (c l r : List ℕ) (e : k ≡ first_no (tables A ks fs es) a b d (length c) (length l) (length r)) where
-  refuses : (n : ℕ) (x : Compared) → x ≡ refused_with n → compare_no (tables A ks fs es) a b d (length c) (length l) (length r) ≡ n → (n ≡ 0 → ⊥)
-      → compared x c l r ≡ compare_of (tables A ks fs es) a b d c l r
+  refuses : (n : ℕ) → compare_no (tables A ks fs es) a b d (length c) (length l) (length r) ≡ n → (n ≡ 0 → ⊥)
+      → outcome n 0 0 c l r ≡ compare_of (tables A ks fs es) a b d c l r
   unfolding compare_of
-  refuses n x q m h = rw (q, m, ne_eqb n 0 h)
+  refuses n m h = rw (m, ne_eqb n 0 h)
 
-  pub call_refused : (x : Compared) → x ≡ refused_with k → (k ≡ 0 → ⊥) → compared x c l r ≡ compare_of (tables A ks fs es) a b d c l r
-  call_refused x q h = refuses k x q (no_stops (tables A ks fs es) a b d (length c) (length l) (length r) k e h) h
+  pub call_refused : (k ≡ 0 → ⊥) → outcome k 0 0 c l r ≡ compare_of (tables A ks fs es) a b d c l r
+  call_refused h = refuses k (no_stops (tables A ks fs es) a b d (length c) (length l) (length r) k e h) h
 
   module _ (t : Bool) (u : t ≡ leb (length (differing cube_kids (word_of (nodes ks fs)) d a b)) (length c)) (h : k ≡ 0) where
-    pub call_fifteen : (x : Compared) → x ≡ refused_with 15 → t ≡ false → compared x c l r ≡ compare_of (tables A ks fs es) a b d c l r
-    call_fifteen x q g =
-        refuses 15 x q (no_passes (tables A ks fs es) a b d (length c) (length l) (length r) k e h ∙ rw (sym u ∙ g)) (omega arith)
+    pub call_fifteen : t ≡ false → outcome 15 0 0 c l r ≡ compare_of (tables A ks fs es) a b d c l r
+    call_fifteen g =
+        refuses 15 (no_passes (tables A ks fs es) a b d (length c) (length l) (length r) k e h ∙ rw (sym u ∙ g)) (omega arith)
 
     pub call_listed : (f : Found) (c' l' r' : List ℕ) → wrote f c' l' r' ≡ written_of (word_of (nodes ks fs)) a b d c l r → t ≡ true
         → outcome 0 f.cells f.opened c' l' r' ≡ compare_of (tables A ks fs es) a b d c l r

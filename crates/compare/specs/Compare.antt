@@ -1,12 +1,16 @@
 -- What comparison answers and leaves: request 8 of document 02.
-use Rattle.std.specs.Prelude.{List, map, ℕ, leb, eqb, length}
+use Rattle.std.specs.Prelude.{List, map, ℕ, leb, eqb, length, Result}
+use Rattle.std.specs.declared.result.Result.TheVariants.{Ok, Err}
 use Rattle.basics.specs.Limits.{deepest, cube_kids}
 use Rattle.basics.specs.Pick.{pick}
+use Rattle.basics.specs.Refusals.{number}
+use Rattle.basics.specs.declared.Refusal.{Refusal}
 use Rattle.nodes.specs.Values.{height_at}
 use Rattle.arena.specs.Tables.{Tables, cap, W}
 use Rattle.arena.specs.Calls.{fits, live_or_empty}
 use Rattle.basics.specs.Puts.{puts_from}
 use Rattle.compare_pairs.specs.Differing.{Differs, differing, opened}
+use Rattle.compare_list.specs.declared.Found.{Found}
 use Rattle.compare.specs.declared.Compared.{Compared}
 
 -- number, how many cells differ, how many pairs were opened, and the three parts of the lent list afterwards
@@ -20,6 +24,11 @@ pub record Outcome : Type 0 where
 
 abbrev pub outcome : ℕ → ℕ → ℕ → List ℕ → List ℕ → List ℕ → Outcome
 outcome k m o c l r = record { no = k; count = m; opened = o; codes = c; lefts = l; rights = r }
+
+-- what the code answers, as C has it
+abbrev pub answered : Result Found Refusal → Compared
+answered (Ok found) = record { no = 0; count = found.cells; opened = found.opened }
+answered (Err refusal) = record { no = number refusal; count = 0; opened = 0 }
 
 -- what a call answered, and the parts as it left them
 abbrev pub compared : Compared → List ℕ → List ℕ → List ℕ → Outcome

@@ -6,7 +6,6 @@ use Rattle.nodes.specs.Words.{Words}
 use Rattle.nodes.specs.Values.{height_at}
 use Rattle.arena.specs.Tables.{Tables, cap, W}
 use Rattle.arena.specs.Calls.{fits, live_or_empty}
-use Rattle.compare.specs.declared.Compared.{Compared}
 
 -- refusals 4 and 8
 unfoldable pub roots_by : ℕ → Words → ℕ → ℕ → ℕ → ℕ
@@ -16,6 +15,3 @@ roots_by m U a b d =
 -- refusals 1, 2, 4 and 8
 unfoldable pub first_no : Tables → ℕ → ℕ → ℕ → ℕ → ℕ → ℕ → ℕ
 first_no t a b d c l r = pick (fits t) (pick (eqb l c) (pick (eqb r c) (pick (leb d deepest) (roots_by (cap t) (W t) a b d) 2) 1) 1) 1
-
-abbrev pub refused_with : ℕ → Compared
-refused_with k = record { no = k; count = 0; opened = 0 }

@@ -1,5 +1,5 @@
 -- The steps of the count: a block, eight cells, pairs and places.
-use mathlib.Core.Path.{◌≡◌, ◌∙◌, refl, sym, ap, ap₂}
+use mathlib.Core.Path.{◌≡◌, ◌∙◌, refl, sym, ap}
 use mathlib.Core.Logic.{⊎_elim}
 use mathlib.Core.Bool.{Bool, true, false}
 use mathlib.Core.List.{List}
@@ -9,31 +9,22 @@ use native.Mathlib.Numerals.{add-one}
 use native.Mathlib.Omega.{arith}
 use borrow.Author.Tests.{eq-eqb, ne_eqb, le-leb, lt-leb}
 use lib.Dec.{eqb}
-use lib.ListN.{get_or}
-use Rattle.basics.specs.Limits.{deepest, cube_kids, kid_words}
+use Rattle.basics.specs.Limits.{deepest, cube_kids}
 use Rattle.basics.specs.Pick.{pick}
 use Rattle.basics.specs.Sums.{sum_to}
-use Rattle.nodes.specs.Words.{Words, nodes, kid_of, fact_of, word_of, slot}
-use Rattle.nodes.specs.Tally.{kids_of}
-use Rattle.nodes.proofs.Access.{word_kid}
-use Rattle.nodes.proofs.Sums.{cases, sum_to_ext_lem, tab_at}
+use Rattle.nodes.specs.Words.{Words, nodes, kid_of, fact_of, word_of}
+use Rattle.nodes.proofs.Sums.{cases, sum_to_ext_lem}
 use native.Mathlib.Decide.{ℕ_discrete}
-use Rattle.tree.specs.Tree.{child_of}
 use Rattle.tree.specs.Anew.{part}
-use Rattle.tree.proofs.Making.{part_flat, part_branch}
 use Rattle.read_cell.specs.Models.{val}
 use Rattle.read_cell.proofs.Ends.{val_facts}
-use Rattle.compare_pairs.specs.Differing.{branches}
 use Rattle.compare_pairs.specs.Models.{goes_on}
-use Rattle.compare_pairs.proofs.Ids.{is_branch_lem, branches_no, part_kids, on_not_last, off_ends}
-use Rattle.ids.specs.Ids.{is_end}
-use Rattle.tree.specs.Tree.{Flat}
-use Rattle.tree.proofs.Ends.{flat_end, branch_end}
-use Rattle.compare_pairs.proofs.Pairs.{eqb_sym, count_end, count_places}
+use Rattle.compare_pairs.proofs.Ids.{part_kids, on_not_last, off_ends}
+use Rattle.compare_pairs.proofs.Pairs.{count_end, count_places}
 use Rattle.compare_pairs.proofs.Sizes.{places_most}
 use Rattle.read_cell.proofs.Cube.{cells_shift}
 use Rattle.compare_count.specs.Count.{count_of}
-use Rattle.compare_count.specs.Models.{count_in, block_count, against_to, both_to, places_count}
+use Rattle.compare_count.specs.Models.{count_in, block_count, eight_to, places_count}
 use Rattle.compare_count.proofs.Counts.{count_few, count_same, count_ends}
 
 -- ---- a block
@@ -52,86 +43,21 @@ cell_few u v = cases (ℕ_discrete u v) (λ e. rw (eq-eqb u v e) (omega arith)) 
 
 -- ---- eight cells
 
--- the children that a row names
-row_child : (ks fs row : List ℕ) (a c : ℕ) → row ≡ kids_of kid_words (kid_of ks) (slot a) → c < 8 → get_or row c 0 ≡ child_of (word_of (nodes ks fs)) a c
-unfolding kids_of
-row_child ks fs row a c e h =
-    let z : 0 + c ≡ c = omega arith in
-    ap (λ (l : List ℕ). get_or l c 0) e ∙ tab_at kid_words 0 (kid_of ks (slot a)) c h ∙ ap (kid_of ks (slot a)) z ∙ sym (word_kid (nodes ks fs) (slot a) c h)
+module _ (f g : ℕ → ℕ) where
+  pub eight_none : 0 ≡ eight_to f g 0
+  unfolding eight_to sum_to
+  eight_none = refl
 
-child_value : (ks fs row : List ℕ) (a c u : ℕ) → u ≡ val (fact_of fs) (get_or row c 0) → row ≡ kids_of kid_words (kid_of ks) (slot a) → c < 8
-    → u ≡ val (word_of (nodes ks fs)) (child_of (word_of (nodes ks fs)) a c)
-child_value ks fs row a c u eu e h = eu ∙ val_facts ks fs (get_or row c 0) ∙ ap (val (word_of (nodes ks fs))) (row_child ks fs row a c e h)
+  pub eight_step : (c m u v q : ℕ) → m ≡ eight_to f g c → q ≡ block_count u v 0 → u ≡ f c → v ≡ g c → m + q ≡ eight_to f g (c + 1)
+  unfolding eight_to sum_to
+  eight_step c m u v q em eq eu ev = rw (add-one c, em, eq, eu, ev)
 
-pub row_of : (ks row : List ℕ) (a s : ℕ) → row ≡ kids_of kid_words (kid_of ks) s → s ≡ slot a → row ≡ kids_of kid_words (kid_of ks) (slot a)
-row_of ks row a s e q = e ∙ ap (kids_of kid_words (kid_of ks)) q
-
-module _ (ks fs : List ℕ) (a v : ℕ) where
-  pub against_none : 0 ≡ against_to (word_of (nodes ks fs)) a v 0
-  unfolding against_to sum_to
-  against_none = refl
-
-  pub against_step : (row : List ℕ) (c m u q : ℕ) → m ≡ against_to (word_of (nodes ks fs)) a v c → q ≡ block_count u v 0 → u ≡ val (fact_of fs) (get_or row c 0)
-      → row ≡ kids_of kid_words (kid_of ks) (slot a) → c < 8 → m + q ≡ against_to (word_of (nodes ks fs)) a v (c + 1)
-  unfolding against_to sum_to
-  against_step row c m u q em eq eu er h = rw (add-one c, em, eq, child_value ks fs row a c u eu er h)
-
-module _ (ks fs : List ℕ) (a b : ℕ) where
-  pub both_none : 0 ≡ both_to (word_of (nodes ks fs)) a b 0
-  unfolding both_to sum_to
-  both_none = refl
-
-  pub both_step : (rowa rowb : List ℕ) (c m u w q : ℕ) → m ≡ both_to (word_of (nodes ks fs)) a b c → q ≡ block_count u w 0 → u ≡ val (fact_of fs) (get_or rowa c 0)
-      → w ≡ val (fact_of fs) (get_or rowb c 0) → rowa ≡ kids_of kid_words (kid_of ks) (slot a) → rowb ≡ kids_of kid_words (kid_of ks) (slot b) → c < 8
-      → m + q ≡ both_to (word_of (nodes ks fs)) a b (c + 1)
-  unfolding both_to sum_to
-  both_step rowa rowb c m u w q em eq eu ew ea eb h = rw (add-one c, em, eq, child_value ks fs rowa a c u eu ea h, child_value ks fs rowb b c w ew eb h)
-
--- each is the count of the places
-
-cells_by : (W : Words) (a b : ℕ) (f : ℕ → ℕ) → ((i : ℕ) → f i ≡ block_count (val W (part W a i)) (val W (part W b i)) 0)
-    → sum_to cube_kids f ≡ places_count W 0 a b cube_kids
-unfolding places_count count_in block_count
-cells_by W a b f h = sum_to_ext_lem cube_kids f (λ i. count_in cube_kids W 0 (part W a i) (part W b i)) (λ i _. h i ∙ sym (count_end cube_kids W (part W a i) (part W b i)))
-
-block_sym : (u v k : ℕ) → block_count u v k ≡ block_count v u k
-unfolding block_count
-block_sym u v k = ap (λ (t : Bool). pick t 0 (cube_kids ^ k)) (eqb_sym u v)
-
-module _ (ks fs : List ℕ) (a b : ℕ) (s t : Bool) (es : s ≡ is_end a) (et : t ≡ is_end b) where
-  pub cells_both : (m : ℕ) → m ≡ both_to (word_of (nodes ks fs)) a b cube_kids → s ≡ false → t ≡ false → m ≡ places_count (word_of (nodes ks fs)) 0 a b cube_kids
-  unfolding both_to
-  cells_both m e hs ht =
-      e
-      ∙ cells_by (word_of (nodes ks fs)) a b _
-      (λ i.
-      ap₂ (λ (x y : ℕ). block_count (val (word_of (nodes ks fs)) x) (val (word_of (nodes ks fs)) y) 0) (sym (part_branch (word_of (nodes ks fs)) a i (branch_end a (sym es ∙ hs))))
-      (sym (part_branch (word_of (nodes ks fs)) b i (branch_end b (sym et ∙ ht)))))
-
-  pub cells_left : (m v : ℕ) → m ≡ against_to (word_of (nodes ks fs)) a v cube_kids → v ≡ val (fact_of fs) b → s ≡ false → t ≡ true
-      → m ≡ places_count (word_of (nodes ks fs)) 0 a b cube_kids
-  unfolding against_to
-  cells_left m v e ev hs ht =
-      e
-      ∙ cells_by (word_of (nodes ks fs)) a b _
-      (λ i.
-      ap₂ (λ (x y : ℕ). block_count (val (word_of (nodes ks fs)) x) y 0) (sym (part_branch (word_of (nodes ks fs)) a i (branch_end a (sym es ∙ hs))))
-      (ev ∙ val_facts ks fs b ∙ ap (val (word_of (nodes ks fs))) (sym (part_flat (word_of (nodes ks fs)) b i (flat_end b (sym et ∙ ht))))))
-
-pub cells_right : (ks fs : List ℕ) (a b m u : ℕ) (s : Bool) → m ≡ against_to (word_of (nodes ks fs)) b u cube_kids → u ≡ val (fact_of fs) a → s ≡ is_end a → s ≡ true
-    → goes_on 1 a b ≡ true → m ≡ places_count (word_of (nodes ks fs)) 0 a b cube_kids
-unfolding against_to goes_on
-cells_right ks fs a b m u s e eu es hs g =
-    let fa : Flat a = flat_end a (sym es ∙ hs) in
-    let na : branches a ≡ false = branches_no a fa in
-    let nb : branches b ≡ true = rw na at g in
-    e
-    ∙ cells_by (word_of (nodes ks fs)) a b _
-    (λ i.
-    block_sym (val (word_of (nodes ks fs)) (child_of (word_of (nodes ks fs)) b i)) u 0
-    ∙ ap₂ (λ (x y : ℕ). block_count x (val (word_of (nodes ks fs)) y) 0)
-    (eu ∙ val_facts ks fs a ∙ ap (val (word_of (nodes ks fs))) (sym (part_flat (word_of (nodes ks fs)) a i fa)))
-    (sym (part_branch (word_of (nodes ks fs)) b i (is_branch_lem b nb))))
+-- the eight cells of a pair are its places
+pub eight_places : (W : Words) (a b : ℕ) → eight_to (λ i. val W (part W a i)) (λ i. val W (part W b i)) cube_kids ≡ places_count W 0 a b cube_kids
+unfolding eight_to places_count count_in block_count
+eight_places W a b =
+    sum_to_ext_lem cube_kids (λ i. block_count (val W (part W a i)) (val W (part W b i)) 0) (λ i. count_in cube_kids W 0 (part W a i) (part W b i))
+    (λ i _. sym (count_end cube_kids W (part W a i) (part W b i)))
 
 pub one_left : (k a b : ℕ) (t : Bool) → t ≡ goes_on k a b → t ≡ true → k ≡ 1 → goes_on 1 a b ≡ true
 one_left k a b t e h o = ap (λ (i : ℕ). goes_on i a b) (sym o) ∙ sym e ∙ h

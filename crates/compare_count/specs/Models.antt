@@ -4,9 +4,7 @@ use Rattle.basics.specs.Limits.{cube_kids}
 use Rattle.basics.specs.Pick.{pick}
 use Rattle.basics.specs.Sums.{sum_to}
 use Rattle.nodes.specs.Words.{Words}
-use Rattle.tree.specs.Tree.{child_of}
 use Rattle.tree.specs.Anew.{part}
-use Rattle.read_cell.specs.Models.{val}
 use Rattle.compare_pairs.specs.Differing.{differing}
 
 -- how many cells of a and b differ, with k levels left
@@ -17,12 +15,9 @@ count_in n W k a b = length (differing n W k a b)
 unfoldable pub block_count : ℕ → ℕ → ℕ → ℕ
 block_count u v k = pick (eqb u v) 0 (cube_kids ^ k)
 
--- the cells of the first c children of a branch against the value v, and of two branches
-unfoldable pub against_to : Words → ℕ → ℕ → ℕ → ℕ
-against_to W a v c = sum_to c (λ i. block_count (val W (child_of W a i)) v 0)
-
-unfoldable pub both_to : Words → ℕ → ℕ → ℕ → ℕ
-both_to W a b c = sum_to c (λ i. block_count (val W (child_of W a i)) (val W (child_of W b i)) 0)
+-- of the first c of eight cells with the values f i and g i, those that differ
+unfoldable pub eight_to : (ℕ → ℕ) → (ℕ → ℕ) → ℕ → ℕ
+eight_to f g c = sum_to c (λ i. block_count (f i) (g i) 0)
 
 -- the first c places of an opened pair, with k levels below them
 unfoldable pub places_count : Words → ℕ → ℕ → ℕ → ℕ → ℕ

@@ -1,14 +1,15 @@
 // Two roots side by side, counted: in how many cells they differ.
 #![tactic(auto)]
 
-ghost use Rattle.std.specs.Prelude.{◌≡◌, true, ◌<◌, ◌≤◌};
+ghost use Rattle.std.specs.Prelude.{◌≡◌, true, ℕ, ◌<◌, ◌≤◌};
 ghost use Rattle.basics.specs.Limits.{deepest, cube_kids};
-ghost use Rattle.nodes.specs.Lent.{words_in};
+ghost use Rattle.arena.specs.Seen.{seen_in};
+ghost use Rattle.arena.specs.Tables.{W};
 ghost use Rattle.compare_pairs.specs.Models.{goes_on};
 ghost use Rattle.compare_count.specs.Count.{count_of};
-ghost use Rattle.compare_count.specs.Models.{count_in, block_count, against_to, both_to, places_count};
+ghost use Rattle.compare_count.specs.Models.{count_in, block_count, eight_to, places_count};
 
-use arena::slot_of;
+use arena::{Seen, slot_of};
 use basics::{CUBE_KIDS, DEEPEST};
 use compare_pairs::goes_on;
 use ids::BlockId;
@@ -26,86 +27,84 @@ fn count_block(u: u16, v: u16, left: u32) -> u32
     if u == v { 0 } else { 1u32 << (3 * left) }
 }
 
-// Kept: a function for each way that one or both sides are branches, since with the values of both sides in arrays, or each read by itself, counting takes 1.5 times as long or more (docs/DECISIONS.md).
-// The cells of the eight children of a branch, against one value on the other side.
-fn count_against(kids: &[u64], facts: &[u32], id: u64, v: u16) -> u32
-    ensures { result ≡ against_to (words_in kids.now facts.now) id v cube_kids }
+// The cells of eight places, whose values on both sides `u` and `v` say: how many differ.
+fn count_eight<F: Fn(usize) -> u16, G: Fn(usize) -> u16>(u: F, v: G) -> u32
+    requires lefts { (c : ℕ) → c < cube_kids → F.pre u c }
+    requires rights { (c : ℕ) → c < cube_kids → G.pre v c }
+    ensures { (f g : ℕ → ℕ) → ((c y : ℕ) → c < cube_kids → F.post u c y → y ≡ f c) → ((c y : ℕ) → c < cube_kids → G.post v c y → y ≡ g c)
+        → result ≡ eight_to f g cube_kids }
 {
-    let mut cells = 0;
-    for child in children(kids, slot_of(id)) {
-        cells += count_block(value(facts, child), v, 0);
-    }
-    cells
-}
-
-// The cells of the eight children of two branches.
-fn count_both(kids: &[u64], facts: &[u32], a: u64, b: u64) -> u32
-    ensures { result ≡ both_to (words_in kids.now facts.now) a b cube_kids }
-{
-    let lefts = children(kids, slot_of(a));
-    let rights = children(kids, slot_of(b));
     let mut cells = 0;
     for c in 0..CUBE_KIDS {
-        cells += count_block(value(facts, lefts[c]), value(facts, rights[c]), 0);
+        cells += count_block(u(c), v(c), 0);
     }
     cells
 }
 
-// The eight cells of an opened pair, one level above them.
-fn count_cells(kids: &[u64], facts: &[u32], a: u64, b: u64) -> u32
+// The eight cells of an opened pair, one level above them; what has one value is read once.
+fn count_cells(seen: &Seen<'_>, a: u64, b: u64) -> u32
     requires { goes_on 1 a b ≡ true }
-    ensures { result ≡ places_count (words_in kids.now facts.now) 0 a b cube_kids }
+    ensures { result ≡ places_count (W (seen_in seen.now)) 0 a b cube_kids }
 {
     if BlockId(a).is_end() {
-        return count_against(kids, facts, b, value(facts, a));
+        let u = value(seen.facts, a);
+        let row = children(seen.kids, slot_of(b));
+        return count_eight(|_| u, |c| value(seen.facts, row[c]));
     }
     if BlockId(b).is_end() {
-        return count_against(kids, facts, a, value(facts, b));
+        let row = children(seen.kids, slot_of(a));
+        let v = value(seen.facts, b);
+        return count_eight(|c| value(seen.facts, row[c]), |_| v);
     }
-    count_both(kids, facts, a, b)
+    let lefts = children(seen.kids, slot_of(a));
+    let rights = children(seen.kids, slot_of(b));
+    count_eight(
+        |c| value(seen.facts, lefts[c]),
+        |c| value(seen.facts, rights[c]),
+    )
 }
 
 // ---- pairs and places
 
 // A pair, `left` levels above the cells.
 #[cycle(count_pair_count_places)]
-fn count_pair(kids: &[u64], facts: &[u32], a: u64, b: u64, left: u32) -> u32
+fn count_pair(seen: &Seen<'_>, a: u64, b: u64, left: u32) -> u32
     requires { left ≤ deepest }
-    ensures { result ≡ count_in cube_kids (words_in kids.now facts.now) left a b }
+    ensures { result ≡ count_in cube_kids (W (seen_in seen.now)) left a b }
 {
     if a == b {
         return 0;
     }
     if goes_on(a, b, left) {
         if left == 1 {
-            return count_cells(kids, facts, a, b);
+            return count_cells(seen, a, b);
         }
-        return count_places(kids, facts, a, b, left - 1);
+        return count_places(seen, a, b, left - 1);
     }
-    count_block(value(facts, a), value(facts, b), left)
+    count_block(value(seen.facts, a), value(seen.facts, b), left)
 }
 
 // The eight places of an opened pair in turn, each `left` levels above the cells.
 #[cycle(count_pair_count_places)]
-fn count_places(kids: &[u64], facts: &[u32], a: u64, b: u64, left: u32) -> u32
+fn count_places(seen: &Seen<'_>, a: u64, b: u64, left: u32) -> u32
     requires { left < deepest }
-    ensures { result ≡ places_count (words_in kids.now facts.now) left a b cube_kids }
+    ensures { result ≡ places_count (W (seen_in seen.now)) left a b cube_kids }
 {
     let mut cells = 0;
     for c in 0..CUBE_KIDS {
-        let p = part_of(kids, a, c);
-        let q = part_of(kids, b, c);
-        cells += count_pair(kids, facts, p, q, left);
+        let p = part_of(seen.kids, a, c);
+        let q = part_of(seen.kids, b, c);
+        cells += count_pair(seen, p, q, left);
     }
     cells
 }
 
 // In how many cells of a cube of the depth two ids differ; of a depth above 6 in none.
-pub fn count_differing(kids: &[u64], facts: &[u32], a: u64, b: u64, depth: u32) -> u32
-    ensures { result ≡ count_of (words_in kids.now facts.now) a b depth }
+pub fn count_differing(seen: Seen<'_>, a: u64, b: u64, depth: u32) -> u32
+    ensures { result ≡ count_of (W (seen_in seen.entry)) a b depth }
 {
     if DEEPEST < depth {
         return 0;
     }
-    count_pair(kids, facts, a, b, depth)
+    count_pair(&seen, a, b, depth)
 }

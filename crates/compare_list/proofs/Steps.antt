@@ -4,34 +4,28 @@ use mathlib.Core.Logic.{⊎_elim}
 use mathlib.Core.Bool.{Bool, true, false}
 use mathlib.Core.List.{List, [], ◌∷◌, ◌++◌}
 use Prim.Native.Nat.{ℕ, zero, suc, ◌+◌, ◌*◌, ◌-◌, ◌/◌, ◌%◌, ◌^◌, ◌≤◌, ◌<◌}
-use native.Mathlib.Nat.{pow-succ', mul-le-mul_right}
+use native.Mathlib.Nat.{pow-succ'}
 use native.Mathlib.Numerals.{add-one}
 use native.Mathlib.Omega.{arith}
 use borrow.Author.Tests.{eq-eqb, ne_eqb}
-use lib.ListN.{length, set, get_or}
-use Rattle.basics.specs.Limits.{deepest, kid_words}
+use lib.ListN.{length, set}
+use Rattle.basics.specs.Limits.{deepest}
 use Rattle.basics.specs.Sums.{sum_to}
-use Rattle.nodes.specs.Words.{Words, nodes, kid_of, fact_of, word_of, slot}
-use Rattle.nodes.specs.Tally.{kids_of}
-use Rattle.nodes.proofs.Access.{word_kid}
-use Rattle.nodes.proofs.Sums.{tab_at}
+use Rattle.nodes.specs.Words.{Words, nodes, kid_of, fact_of, word_of}
 use Rattle.tree.specs.Tree.{Flat}
 use Rattle.tree.specs.Anew.{part}
-use Rattle.tree.proofs.Making.{part_flat, part_branch}
 use Rattle.read_cell.specs.Models.{val}
 use Rattle.read_cell.proofs.Ends.{val_facts}
-use Rattle.compare_pairs.specs.Differing.{Differs, branches, differs, if_differs, joined, differing, opens, opened}
+use Rattle.compare_pairs.specs.Differing.{Differs, differs, if_differs, joined, differing, opens, opened}
 use Rattle.compare_pairs.specs.Models.{cells_in, goes_on}
 use Rattle.compare_pairs.proofs.Differing.{cells_are}
-use Rattle.ids.specs.Ids.{is_end}
-use Rattle.tree.proofs.Ends.{flat_end, branch_end}
-use Rattle.compare_pairs.proofs.Ids.{branches_yes, branches_no, is_branch_lem, is_flat, part_kids, on_not_last, on_opens, off_ends, ends_shut}
-use Rattle.compare_pairs.proofs.Joined.{joined_step}
+use Rattle.compare_pairs.proofs.Ids.{part_kids, on_not_last, on_opens, off_ends, ends_shut}
+use Rattle.compare_pairs.proofs.Joined.{joined_ext, joined_step}
 use Rattle.compare_pairs.proofs.Pairs.{if_same, if_apart, equal_none, equal_unopened, cells_length_le, opened_few}
 use Rattle.compare_pairs.proofs.Sizes.{cells_most}
 use Rattle.read_cell.proofs.Cube.{cells_shift}
 use Rattle.compare_list.specs.List.{written, cells_written}
-use Rattle.compare_list.specs.Models.{most_cells, Laid, row, block, places_to, opened_to}
+use Rattle.compare_list.specs.Models.{most_cells, Laid, row, block, eight_to, places_to, opened_to}
 use Rattle.compare_list.proofs.Blocks.{ends_block, last_block}
 use Rattle.compare_list.proofs.Laying.{laid_none, laid_one, laid_append}
 
@@ -151,68 +145,28 @@ module _ (ks fs : List ℕ) (at base a b k : ℕ) (c l r : List ℕ) where
       let qb : q ≡ part M b i = eq ∙ part_kids ks fs b i h in
       place_more i x y z w c₁ l₁ r₁ c₂ l₂ r₂ u (rw (f, pa, qb) at v)
 
--- ---- the places of a pair one level above the cells
+-- ---- eight cells
 
-cells_step : (ks fs : List ℕ) (at base a b i x z code u v : ℕ) (c l r c₁ l₁ r₁ c₂ l₂ r₂ : List ℕ)
-    → Laid at (places_to (word_of (nodes ks fs)) 0 base a b i) (opened_to (word_of (nodes ks fs)) 0 a b i) x 1 c l r c₁ l₁ r₁
-    → Laid x (if_differs code u v) 0 z 0 c₁ l₁ r₁ c₂ l₂ r₂ → u ≡ val (word_of (nodes ks fs)) (part (word_of (nodes ks fs)) a i)
-    → v ≡ val (word_of (nodes ks fs)) (part (word_of (nodes ks fs)) b i) → code ≡ base + i
-    → Laid at (places_to (word_of (nodes ks fs)) 0 base a b (i + 1)) (opened_to (word_of (nodes ks fs)) 0 a b (i + 1)) z 1 c l r c₂ l₂ r₂
-unfolding cells_in opened
-cells_step ks fs at base a b i x z code u v c l r c₁ l₁ r₁ c₂ l₂ r₂ s t eu ev e =
-    let f : code ≡ base + i * 8 ^ 0 = omega arith in
-    place_more ks fs at base a b 0 c l r i x 1 z 0 c₁ l₁ r₁ c₂ l₂ r₂ s (rw (f, eu, ev) at t)
+module _ (at base : ℕ) (f g : ℕ → ℕ) (c l r : List ℕ) where
+  pub eight_none : Laid at (eight_to base f g 0) 0 at 0 c l r c l r
+  unfolding eight_to joined
+  eight_none = laid_none at c l r
 
-pub row_of : (ks row : List ℕ) (a s : ℕ) → row ≡ kids_of kid_words (kid_of ks) s → s ≡ slot a → row ≡ kids_of kid_words (kid_of ks) (slot a)
-row_of ks row a s e q = e ∙ ap (kids_of kid_words (kid_of ks)) q
+  pub eight_step : (i x z code u v : ℕ) (c₁ l₁ r₁ c₂ l₂ r₂ : List ℕ) → Laid at (eight_to base f g i) 0 x 0 c l r c₁ l₁ r₁
+      → Laid x (if_differs code u v) 0 z 0 c₁ l₁ r₁ c₂ l₂ r₂ → code ≡ base + i → u ≡ f i → v ≡ g i → Laid at (eight_to base f g (i + 1)) 0 z 0 c l r c₂ l₂ r₂
+  unfolding eight_to
+  eight_step i x z code u v c₁ l₁ r₁ c₂ l₂ r₂ s t e eu ev =
+      rw (joined_step i (λ j. if_differs (base + j) (f j) (g j))) (laid_append at c l r _ _ 0 0 x 0 z 0 c₁ l₁ r₁ c₂ l₂ r₂ s (rw (e, eu, ev) at t))
 
--- the value of a cell by the row of its branch, and that of a leaf or EMPTY
-row_value : (ks fs row : List ℕ) (a i u : ℕ) → u ≡ val (fact_of fs) (get_or row i 0) → row ≡ kids_of kid_words (kid_of ks) (slot a) → branches a ≡ true → i < 8
-    → u ≡ val (word_of (nodes ks fs)) (part (word_of (nodes ks fs)) a i)
-unfolding kids_of
-row_value ks fs row a i u eu er h l =
-    let z : 0 + i ≡ i = omega arith in
-    let k : get_or row i 0 ≡ part (word_of (nodes ks fs)) a i =
-    ap (λ (m : List ℕ). get_or m i 0) er ∙ tab_at kid_words 0 (kid_of ks (slot a)) i l ∙ ap (kid_of ks (slot a)) z ∙ sym (word_kid (nodes ks fs) (slot a) i l)
-    ∙ sym (part_branch (word_of (nodes ks fs)) a i (is_branch_lem a h)) in
-    eu ∙ val_facts ks fs (get_or row i 0) ∙ ap (val (word_of (nodes ks fs))) k
-
-flat_value : (ks fs : List ℕ) (a i u : ℕ) → u ≡ val (fact_of fs) a → branches a ≡ false → u ≡ val (word_of (nodes ks fs)) (part (word_of (nodes ks fs)) a i)
-flat_value ks fs a i u eu h =
-    eu ∙ val_facts ks fs a ∙ ap (val (word_of (nodes ks fs))) (sym (part_flat (word_of (nodes ks fs)) a i (is_flat a h)))
-
-module _ (ks fs : List ℕ) (at base a b i x z code u v : ℕ) (c l r c₁ l₁ r₁ c₂ l₂ r₂ : List ℕ)
-    (s : Laid at (places_to (word_of (nodes ks fs)) 0 base a b i) (opened_to (word_of (nodes ks fs)) 0 a b i) x 1 c l r c₁ l₁ r₁)
-    (t : Laid x (if_differs code u v) 0 z 0 c₁ l₁ r₁ c₂ l₂ r₂) (e : code ≡ base + i) (h : i < 8) where
-  pub left_step : (row : List ℕ) → u ≡ val (fact_of fs) (get_or row i 0) → row ≡ kids_of kid_words (kid_of ks) (slot a) → v ≡ val (fact_of fs) b
-      → branches a ≡ true → branches b ≡ false
-      → Laid at (places_to (word_of (nodes ks fs)) 0 base a b (i + 1)) (opened_to (word_of (nodes ks fs)) 0 a b (i + 1)) z 1 c l r c₂ l₂ r₂
-  left_step row eu er ev ha hb = cells_step ks fs at base a b i x z code u v c l r c₁ l₁ r₁ c₂ l₂ r₂ s t (row_value ks fs row a i u eu er ha h) (flat_value ks fs b i v ev hb) e
-
-  pub right_step : (row : List ℕ) → v ≡ val (fact_of fs) (get_or row i 0) → row ≡ kids_of kid_words (kid_of ks) (slot b) → u ≡ val (fact_of fs) a
-      → branches a ≡ false → branches b ≡ true
-      → Laid at (places_to (word_of (nodes ks fs)) 0 base a b (i + 1)) (opened_to (word_of (nodes ks fs)) 0 a b (i + 1)) z 1 c l r c₂ l₂ r₂
-  right_step row ev er eu ha hb = cells_step ks fs at base a b i x z code u v c l r c₁ l₁ r₁ c₂ l₂ r₂ s t (flat_value ks fs a i u eu ha) (row_value ks fs row b i v ev er hb h) e
-
-  pub both_step : (us vs : List ℕ) → u ≡ val (fact_of fs) (get_or us i 0) → us ≡ kids_of kid_words (kid_of ks) (slot a) → v ≡ val (fact_of fs) (get_or vs i 0)
-      → vs ≡ kids_of kid_words (kid_of ks) (slot b) → branches a ≡ true → branches b ≡ true
-      → Laid at (places_to (word_of (nodes ks fs)) 0 base a b (i + 1)) (opened_to (word_of (nodes ks fs)) 0 a b (i + 1)) z 1 c l r c₂ l₂ r₂
-  both_step us vs eu ea ev eb ha hb = cells_step ks fs at base a b i x z code u v c l r c₁ l₁ r₁ c₂ l₂ r₂ s t (row_value ks fs us a i u eu ea ha h) (row_value ks fs vs b i v ev eb hb h) e
-
--- which of the two are branches
-module _ (a : ℕ) (s : Bool) (e : s ≡ is_end a) where
-  pub branch_known : s ≡ false → branches a ≡ true
-  branch_known h = branches_yes a (branch_end a (sym e ∙ h))
-
-  pub end_known : s ≡ true → branches a ≡ false
-  end_known h = branches_no a (flat_end a (sym e ∙ h))
-
-  pub right_branch : (b : ℕ) → s ≡ true → goes_on 1 a b ≡ true → branches b ≡ true
-  unfolding goes_on
-  right_branch b h g = let na : branches a ≡ false = end_known h in rw na at g
-
-pub one_left : (k a b : ℕ) (t : Bool) → t ≡ goes_on k a b → t ≡ true → k ≡ 1 → goes_on 1 a b ≡ true
-one_left k a b t e h o = ap (λ (i : ℕ). goes_on i a b) (sym o) ∙ sym e ∙ h
+-- those of a pair one level above the cells are its places
+pub eight_places : (W : Words) (at base a b x : ℕ) (c l r c' l' r' : List ℕ) → Laid at (eight_to base (λ i. val W (part W a i)) (λ i. val W (part W b i)) 8) 0 x 0 c l r c' l' r'
+    → Laid at (places_to W 0 base a b 8) (opened_to W 0 a b 8) x 1 c l r c' l' r'
+unfolding eight_to places_to opened_to cells_in opened sum_to
+eight_places W at base a b x c l r c' l' r' q =
+    let e = joined_ext 8 (λ i. if_differs (base + i) (val W (part W a i)) (val W (part W b i))) (λ i. cells_in 8 W 0 (base + i * 8 ^ 0) (part W a i) (part W b i))
+    (λ i h. let z : base + i ≡ base + i * 8 ^ 0 = omega arith in ap (λ (n : ℕ). if_differs n (val W (part W a i)) (val W (part W b i))) z) in
+    let p = rw e at q in
+    record { to = p.to; opened = refl; codes = p.codes; lefts = p.lefts; rights = p.rights }
 
 -- ---- sizes and bounds
 
@@ -236,10 +190,6 @@ module _ (k size a b : ℕ) (t : Bool) (e : t ≡ goes_on k a b) (h : t ≡ true
       go zero z s = absurd (z refl)
       go (suc j) z s = let p : suc j - 1 ≡ j = omega arith in rw p (omega (arith, pow-succ' 8 j))
 
--- one level above the cells there are eight
-pub eight_fit : (base size k : ℕ) → size ≡ 8 ^ k → k ≡ 1 → base + size ≤ most_cells → base + 8 ≤ most_cells
-eight_fit base size k e o h = let q : size ≡ 8 = e ∙ ap (λ (i : ℕ). 8 ^ i) o in omega arith
-
 -- no more cells than there are, and no more pairs
 module _ (W : Words) (k size : ℕ) (e : size ≡ 8 ^ k) (a b : ℕ) where
   pub cells_few : (base : ℕ) → length (cells_in 8 W k base a b) ≤ size
@@ -255,16 +205,6 @@ few ks fs k base a b size at x y c l r c' l' r' e q =
     let i = cells_few (word_of (nodes ks fs)) k size e a b base in
     let j = pairs_few (word_of (nodes ks fs)) k size e a b in
     (omega (arith, q.to), omega (arith, q.opened))
-
-module _ (base size c : ℕ) (i : c < 8) (j : base + 8 * size ≤ most_cells) where
-  pub place_fits : (from : ℕ) → from ≡ base + c * size → from + size ≤ most_cells
-  place_fits from e = let m : suc c * size ≤ 8 * size = mul-le-mul_right size i in omega arith
-
-  pub from_fits : (from : ℕ) → from ≡ base + c * size → from + size < 2 ^ 32
-  from_fits from e = omega (arith, place_fits from e)
-
-  pub opened_fits : (o w : ℕ) → o ≤ 1 + c * size → w ≤ size → o + w < 2 ^ 32
-  opened_fits o w k l = let m : suc c * size ≤ 8 * size = mul-le-mul_right size i in omega arith
 
 -- ---- the list
 

@@ -6,7 +6,7 @@ use Rattle.basics.specs.Puts.{puts_from}
 use Rattle.basics.specs.Sums.{sum_to}
 use Rattle.nodes.specs.Words.{Words}
 use Rattle.tree.specs.Anew.{part}
-use Rattle.compare_pairs.specs.Differing.{Differs, differs, joined, opened}
+use Rattle.compare_pairs.specs.Differing.{Differs, differs, if_differs, joined, opened}
 use Rattle.compare_pairs.specs.Models.{cells_in}
 
 -- no cube has more cells
@@ -28,6 +28,10 @@ row m base u v = joined m (λ i. differs (base + i) u v ∷ [])
 -- a block of m cells with one value on each side
 unfoldable pub block : ℕ → ℕ → ℕ → ℕ → List Differs
 block m base u v = pick (eqb u v) [] (row m base u v)
+
+-- of the first c of eight cells in a row with the values f i and g i, those that differ
+unfoldable pub eight_to : ℕ → (ℕ → ℕ) → (ℕ → ℕ) → ℕ → List Differs
+eight_to base f g c = joined c (λ i. if_differs (base + i) (f i) (g i))
 
 -- the first c places of an opened pair, with k levels below them: their cells, and the pairs opened, itself among them
 unfoldable pub places_to : Words → ℕ → ℕ → ℕ → ℕ → ℕ → List Differs

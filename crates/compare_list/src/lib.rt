@@ -1,18 +1,19 @@
 // Two roots side by side, listed: the cells that differ, in rising path code with both values, in a lent list of three parts.
 #![tactic(auto)]
 
-ghost use Rattle.std.specs.Prelude.{◌≡◌, true, false, ◌+◌, ◌*◌, ◌^◌, ◌<◌, ◌≤◌, length, set};
+ghost use Rattle.std.specs.Prelude.{◌≡◌, true, ℕ, ◌+◌, ◌*◌, ◌^◌, ◌<◌, ◌≤◌, length, set};
 ghost use Rattle.basics.specs.Limits.{deepest, cube_kids};
-ghost use Rattle.nodes.specs.Lent.{words_in};
-ghost use Rattle.compare_pairs.specs.Differing.{branches, if_differs, differing, opened as opened_in};
+ghost use Rattle.arena.specs.Seen.{seen_in};
+ghost use Rattle.arena.specs.Tables.{W};
+ghost use Rattle.compare_pairs.specs.Differing.{if_differs, differing, opened as opened_in};
 ghost use Rattle.compare_pairs.specs.Models.{goes_on, cells_in};
 ghost use Rattle.compare_list.specs.Lists.{Same};
 ghost use Rattle.compare_list.specs.List.{wrote, cells_written, written_of};
-ghost use Rattle.compare_list.specs.Models.{most_cells, Laid, block as block_of, places_to, opened_to};
+ghost use Rattle.compare_list.specs.Models.{most_cells, Laid, block as block_of, eight_to, places_to, opened_to};
 
 mod list;
 
-use arena::slot_of;
+use arena::{Seen, slot_of};
 use basics::{CUBE_KIDS, DEEPEST};
 use compare_pairs::goes_on;
 use ids::BlockId;
@@ -83,102 +84,54 @@ fn one_cell(list: &mut List<'_>, u: u16, v: u16, code: u32, at: usize) -> usize
     at + 1
 }
 
-// Kept: a function for each way that one or both sides are branches, since with the values of both sides in arrays, or each read by itself, listing takes 1.5 times as long or more (docs/DECISIONS.md).
-// The eight cells of a branch on the left, against one value on the right. The place after the last.
-fn left_cells(
-    kids: &[u64],
-    facts: &[u32],
+// The cells of eight places, whose values on both sides `u` and `v` say, from the code `base` on: those that differ. The place after the last.
+fn put_eight<F: Fn(usize) -> u16, G: Fn(usize) -> u16>(
     list: &mut List<'_>,
-    a: u64,
-    b: u64,
     base: u32,
     at: usize,
+    u: F,
+    v: G,
 ) -> usize
-    requires a_value { (branches a ≡ true) × (branches b ≡ false) × (base + 8 ≤ most_cells) × (at ≤ base) }
+    requires size_bound { (base + 8 ≤ most_cells) × (at ≤ base) }
+    requires lefts { (c : ℕ) → c < cube_kids → F.pre u c }
+    requires rights { (c : ℕ) → c < cube_kids → G.pre v c }
     ensures same { Same list.old list.new }
-    ensures laid { Laid at (places_to (words_in kids.now facts.now) 0 base a b cube_kids) (opened_to (words_in kids.now facts.now) 0 a b cube_kids) result 1 list.old.codes.now list.old.lefts.now list.old.rights.now list.new.codes.now list.new.lefts.now list.new.rights.now }
+    ensures laid { (f g : ℕ → ℕ) → ((c y : ℕ) → c < cube_kids → F.post u c y → y ≡ f c) → ((c y : ℕ) → c < cube_kids → G.post v c y → y ≡ g c)
+        → Laid at (eight_to base f g cube_kids) 0 result 0 list.old.codes.now list.old.lefts.now list.old.rights.now list.new.codes.now list.new.lefts.now list.new.rights.now }
 {
-    let row = children(kids, slot_of(a));
-    let v = value(facts, b);
     let mut to = at;
     for c in 0..CUBE_KIDS {
         let code = base + c as u32;
-        to = one_cell(list, value(facts, row[c]), v, code, to);
+        to = one_cell(list, u(c), v(c), code, to);
     }
     to
 }
 
-// The eight cells of a branch on the right, against one value on the left. The place after the last.
-fn right_cells(
-    kids: &[u64],
-    facts: &[u32],
-    list: &mut List<'_>,
-    a: u64,
-    b: u64,
-    base: u32,
-    at: usize,
-) -> usize
-    requires a_value { (branches a ≡ false) × (branches b ≡ true) × (base + 8 ≤ most_cells) × (at ≤ base) }
-    ensures same { Same list.old list.new }
-    ensures laid { Laid at (places_to (words_in kids.now facts.now) 0 base a b cube_kids) (opened_to (words_in kids.now facts.now) 0 a b cube_kids) result 1 list.old.codes.now list.old.lefts.now list.old.rights.now list.new.codes.now list.new.lefts.now list.new.rights.now }
-{
-    let row = children(kids, slot_of(b));
-    let u = value(facts, a);
-    let mut to = at;
-    for c in 0..CUBE_KIDS {
-        let code = base + c as u32;
-        to = one_cell(list, u, value(facts, row[c]), code, to);
-    }
-    to
-}
-
-// The eight cells of two branches. The place after the last.
-fn both_cells(
-    kids: &[u64],
-    facts: &[u32],
-    list: &mut List<'_>,
-    a: u64,
-    b: u64,
-    base: u32,
-    at: usize,
-) -> usize
-    requires a_value { (branches a ≡ true) × (branches b ≡ true) × (base + 8 ≤ most_cells) × (at ≤ base) }
-    ensures same { Same list.old list.new }
-    ensures laid { Laid at (places_to (words_in kids.now facts.now) 0 base a b cube_kids) (opened_to (words_in kids.now facts.now) 0 a b cube_kids) result 1 list.old.codes.now list.old.lefts.now list.old.rights.now list.new.codes.now list.new.lefts.now list.new.rights.now }
-{
-    let us = children(kids, slot_of(a));
-    let vs = children(kids, slot_of(b));
-    let mut to = at;
-    for c in 0..CUBE_KIDS {
-        let code = base + c as u32;
-        let u = value(facts, us[c]);
-        let v = value(facts, vs[c]);
-        to = one_cell(list, u, v, code, to);
-    }
-    to
-}
-
-// The eight cells of an opened pair, one level above them. The place after the last.
-fn eight_cells(
-    kids: &[u64],
-    facts: &[u32],
-    list: &mut List<'_>,
-    a: u64,
-    b: u64,
-    base: u32,
-    at: usize,
-) -> usize
+// The eight cells of an opened pair, one level above them; what has one value is read once. The place after the last.
+fn eight_cells(seen: &Seen<'_>, list: &mut List<'_>, a: u64, b: u64, base: u32, at: usize) -> usize
     requires b_value { (goes_on 1 a b ≡ true) × (base + 8 ≤ most_cells) × (at ≤ base) }
     ensures same { Same list.old list.new }
-    ensures laid { Laid at (places_to (words_in kids.now facts.now) 0 base a b cube_kids) (opened_to (words_in kids.now facts.now) 0 a b cube_kids) result 1 list.old.codes.now list.old.lefts.now list.old.rights.now list.new.codes.now list.new.lefts.now list.new.rights.now }
+    ensures laid { Laid at (places_to (W (seen_in seen.now)) 0 base a b cube_kids) (opened_to (W (seen_in seen.now)) 0 a b cube_kids) result 1 list.old.codes.now list.old.lefts.now list.old.rights.now list.new.codes.now list.new.lefts.now list.new.rights.now }
 {
     if BlockId(a).is_end() {
-        return right_cells(kids, facts, list, a, b, base, at);
+        let u = value(seen.facts, a);
+        let row = children(seen.kids, slot_of(b));
+        return put_eight(list, base, at, |_| u, |c| value(seen.facts, row[c]));
     }
     if BlockId(b).is_end() {
-        return left_cells(kids, facts, list, a, b, base, at);
+        let row = children(seen.kids, slot_of(a));
+        let v = value(seen.facts, b);
+        return put_eight(list, base, at, |c| value(seen.facts, row[c]), |_| v);
     }
-    both_cells(kids, facts, list, a, b, base, at)
+    let us = children(seen.kids, slot_of(a));
+    let vs = children(seen.kids, slot_of(b));
+    put_eight(
+        list,
+        base,
+        at,
+        |c| value(seen.facts, us[c]),
+        |c| value(seen.facts, vs[c]),
+    )
 }
 
 // ---- pairs and places
@@ -186,8 +139,7 @@ fn eight_cells(
 // The differing cells of a pair, `left` levels above the cells, whose codes start at `base`: from place `at` of the list on.
 #[cycle(pair_places)]
 fn pair(
-    kids: &[u64],
-    facts: &[u32],
+    seen: &Seen<'_>,
     list: &mut List<'_>,
     a: u64,
     b: u64,
@@ -198,7 +150,7 @@ fn pair(
 ) -> Walk
     requires size_value { (size ≡ cube_kids ^ left) × (base + size ≤ most_cells) × (at ≤ base) }
     ensures same { Same list.old list.new }
-    ensures laid { Laid at (cells_in cube_kids (words_in kids.now facts.now) left base a b) (opened_in cube_kids (words_in kids.now facts.now) left a b) result.at result.opened list.old.codes.now list.old.lefts.now list.old.rights.now list.new.codes.now list.new.lefts.now list.new.rights.now }
+    ensures laid { Laid at (cells_in cube_kids (W (seen_in seen.now)) left base a b) (opened_in cube_kids (W (seen_in seen.now)) left a b) result.at result.opened list.old.codes.now list.old.lefts.now list.old.rights.now list.new.codes.now list.new.lefts.now list.new.rights.now }
     ensures at_bound { (result.at ≤ at + size) × (result.opened ≤ size) }
 {
     if a == b {
@@ -207,20 +159,26 @@ fn pair(
     if goes_on(a, b, left) {
         if left == 1 {
             return Walk {
-                at: eight_cells(kids, facts, list, a, b, base, at),
+                at: eight_cells(seen, list, a, b, base, at),
                 opened: 1,
             };
         }
-        return places(kids, facts, list, a, b, left - 1, size / 8, base, at);
+        return places(seen, list, a, b, left - 1, size / 8, base, at);
     }
-    block(list, value(facts, a), value(facts, b), size, base, at)
+    block(
+        list,
+        value(seen.facts, a),
+        value(seen.facts, b),
+        size,
+        base,
+        at,
+    )
 }
 
 // The eight places of an opened pair in turn, each of `size` cells, `left` levels above them.
 #[cycle(pair_places)]
 fn places(
-    kids: &[u64],
-    facts: &[u32],
+    seen: &Seen<'_>,
     list: &mut List<'_>,
     a: u64,
     b: u64,
@@ -231,15 +189,15 @@ fn places(
 ) -> Walk
     requires size_value { (size ≡ cube_kids ^ left) × (base + 8 * size ≤ most_cells) × (at ≤ base) }
     ensures same { Same list.old list.new }
-    ensures laid { Laid at (places_to (words_in kids.now facts.now) left base a b cube_kids) (opened_to (words_in kids.now facts.now) left a b cube_kids) result.at result.opened list.old.codes.now list.old.lefts.now list.old.rights.now list.new.codes.now list.new.lefts.now list.new.rights.now }
+    ensures laid { Laid at (places_to (W (seen_in seen.now)) left base a b cube_kids) (opened_to (W (seen_in seen.now)) left a b cube_kids) result.at result.opened list.old.codes.now list.old.lefts.now list.old.rights.now list.new.codes.now list.new.lefts.now list.new.rights.now }
 {
     let mut to = at;
     let mut opened: u32 = 1;
     for c in 0..CUBE_KIDS {
         let from = base + c as u32 * size;
-        let p = part_of(kids, a, c);
-        let q = part_of(kids, b, c);
-        let w = pair(kids, facts, list, p, q, left, size, from, to);
+        let p = part_of(seen.kids, a, c);
+        let q = part_of(seen.kids, b, c);
+        let w = pair(seen, list, p, q, left, size, from, to);
         to = w.at;
         opened += w.opened;
     }
@@ -258,8 +216,7 @@ fn size_of(d: u32) -> u32
 
 // All differing cells of a cube of the depth, from the start of the list.
 fn write_cells(
-    kids: &[u64],
-    facts: &[u32],
+    seen: &Seen<'_>,
     a: u64,
     b: u64,
     depth: u32,
@@ -269,14 +226,14 @@ fn write_cells(
 ) -> Found
     requires depth_le_deepest { depth ≤ deepest }
     requires lefts_len { (length lefts.old ≡ length codes.old) × (length rights.old ≡ length codes.old) }
-    ensures { wrote result codes.new lefts.new rights.new ≡ cells_written (differing cube_kids (words_in kids.now facts.now) depth a b) (opened_in cube_kids (words_in kids.now facts.now) depth a b) codes.old lefts.old rights.old }
+    ensures { wrote result codes.new lefts.new rights.new ≡ cells_written (differing cube_kids (W (seen_in seen.now)) depth a b) (opened_in cube_kids (W (seen_in seen.now)) depth a b) codes.old lefts.old rights.old }
 {
     let mut list = List {
         codes,
         lefts,
         rights,
     };
-    let w = pair(kids, facts, &mut list, a, b, depth, size_of(depth), 0, 0);
+    let w = pair(seen, &mut list, a, b, depth, size_of(depth), 0, 0);
     Found {
         cells: w.at as u32,
         opened: w.opened,
@@ -286,8 +243,7 @@ fn write_cells(
 // Writes the cells of a cube of the depth in which two ids differ, in rising path code with both values, as far as the list has room; answers how many they are, and how many pairs were
 // opened. Writes nothing, and answers none, where the parts of the list differ in length or the depth is above 6.
 pub fn write_differing(
-    kids: &[u64],
-    facts: &[u32],
+    seen: Seen<'_>,
     a: u64,
     b: u64,
     depth: u32,
@@ -295,7 +251,7 @@ pub fn write_differing(
     lefts: &mut [u16],
     rights: &mut [u16],
 ) -> Found
-    ensures { wrote result codes.new lefts.new rights.new ≡ written_of (words_in kids.now facts.now) a b depth codes.old lefts.old rights.old }
+    ensures { wrote result codes.new lefts.new rights.new ≡ written_of (W (seen_in seen.entry)) a b depth codes.old lefts.old rights.old }
 {
     if lefts.len() != codes.len() || rights.len() != codes.len() || DEEPEST < depth {
         return Found {
@@ -303,5 +259,5 @@ pub fn write_differing(
             opened: 0,
         };
     }
-    write_cells(kids, facts, a, b, depth, codes, lefts, rights)
+    write_cells(&seen, a, b, depth, codes, lefts, rights)
 }

@@ -6,3 +6,4 @@ pub mod Codes
 pub mod Exact
 pub mod Work
 pub mod Sizes
+pub mod Places

@@ -34,7 +34,8 @@ use Rattle.arena.proofs.Ids.{node_branch}
 use Rattle.arena.proofs.Inv.{sized_within}
 use Rattle.arena.proofs.Places.{more_few}
 use Rattle.edit_way.specs.Models.{eight_parts, hash_over}
-use Rattle.edit_way.proofs.Words.{end_flat, end_branch, parts_at, parts_flat, parts_branch}
+use Rattle.tree.proofs.Ends.{end_flat, end_branch}
+use Rattle.edit_way.proofs.Words.{parts_at, parts_flat, parts_branch}
 use Rattle.edit_make.specs.Models.{sum_over, height_over, resum, placed_where, other_bits, with_bit, types_over, mask_over, seven_placed, placed_over}
 use Rattle.edit.proofs.Growing.{grown_live, grown_extends}
 use Rattle.edit.proofs.Placing.{with_bits, where_placed, seven_placed_lem, none_placed}

@@ -46,7 +46,8 @@ use Rattle.ids.specs.Ids.{is_end}
 use Rattle.edit_way.specs.Models.{eight_parts, hash_over}
 use Rattle.edit_plan.specs.Models.{planned, leaf_found, whole_of, hash_with, kids_found, slot_plan, cell_plan, need_plan, up_plan, plan_by}
 use Rattle.edit_plan.specs.declared.Plan as planning
-use Rattle.edit_way.proofs.Words.{end_flat, end_leaf, tab_get}
+use Rattle.tree.proofs.Ends.{end_flat}
+use Rattle.edit_way.proofs.Words.{end_leaf, tab_get}
 use Rattle.edit_make.specs.Models.{owed_by, sum_over, height_over, resum, with_bit, types_over, mask_over, place_for, placed_over, leaf_anew_by, branch_anew_by, up_by, make_by}
 use Rattle.edit_make.proofs.Steps.{make_zero, make_more, make_leaf}
 use Rattle.edit.proofs.Growing.{each_nil, each_cons, grown_trans, grown_extends}

@@ -7,10 +7,11 @@ ghost use Rattle.basics.specs.Limits.{deepest, cube_kids};
 ghost use Rattle.basics.specs.Refusals.{no_of};
 ghost use Rattle.arena.specs.Calls.{Fair};
 ghost use Rattle.arena.specs.Lent.{before, made};
+ghost use Rattle.arena.specs.Seen.{seen_in};
 ghost use Rattle.edit.specs.Edit.{edit_of};
 ghost use Rattle.edit.specs.Models.{grant_by, edit_no_at, answer_by, edit_past, edit_by};
 
-use arena::{Arena, Made, bump, slot_of};
+use arena::{Arena, Made, Seen, bump, slot_of};
 use basics::{MOST_HOLDS, Refusal};
 use edit_make::make;
 use edit_plan::{Plan, plan_edit};
@@ -23,40 +24,38 @@ use paths::{Cell, IVec3, to_cell};
 use read_cell::may_look;
 
 // Refusals 10 and 11.
-fn may_grant(a: Arena, kids: &[u64], facts: &[u32], find: &[u16], p: Plan) -> Result<(), Refusal>
-    ensures { no_of result ≡ grant_by (before a kids.now facts.now find.now) p }
+fn may_grant(seen: Seen<'_>, p: Plan) -> Result<(), Refusal>
+    ensures { no_of result ≡ grant_by (seen_in seen.entry) p }
 {
     if p.new != 0 {
-        if free_slots(a) < p.new as u64 {
+        let arena = Arena {
+            capacity: seen.capacity,
+            slots: seen.slots,
+        };
+        if free_slots(arena) < p.new as u64 {
             return Err(Refusal::Full);
         }
         return Ok(());
     }
-    if p.id != BlockId::EMPTY.0 && MOST_HOLDS <= fact(facts, slot_of(p.id), HOLDS) {
+    if p.id != BlockId::EMPTY.0 && MOST_HOLDS <= fact(seen.facts, slot_of(p.id), HOLDS) {
         return Err(Refusal::ManyHolds);
     }
     Ok(())
 }
 
 // Refusals 1, 2, 3, 4 and 8, which are told before the dry run.
-fn may_edit(
-    a: Arena,
-    kids: &[u64],
-    facts: &[u32],
-    find: &[u16],
-    root: u64,
-    cell: Cell,
-) -> Result<(), Refusal>
-    ensures { no_of result ≡ edit_no_at (before a kids.now facts.now find.now) root cell }
+fn may_edit(seen: Seen<'_>, root: u64, cell: Cell) -> Result<(), Refusal>
+    ensures { no_of result ≡ edit_no_at (seen_in seen.entry) root cell }
 {
-    may_look(a, kids, facts, find, root, cell)?;
-    if height_at(facts, root) <= cell.depth {
+    may_look(seen, root, cell)?;
+    if height_at(seen.facts, root) <= cell.depth {
         return Ok(());
     }
     Err(Refusal::Tall)
 }
 
 // The answer: a result that is there gets a hold; else it is made.
+#[tactic(auto, unfolding(crate::specs::Models::answer_by))]
 fn hold_or_make(
     a: Arena,
     kids: &mut [u64],
@@ -93,7 +92,7 @@ fn edit_planned(
 ) -> Made
     ensures { made a result kids.new facts.new find.new ≡ edit_past (before a kids.old facts.old find.old) v w depth p }
 {
-    match may_grant(a, kids, facts, find, p) {
+    match may_grant(a.seen(kids, facts, find), p) {
         Ok(()) => hold_or_make(a, kids, facts, find, w, depth, v, p),
         Err(refusal) => Made {
             no: u32::from(refusal),
@@ -115,7 +114,7 @@ fn edit_cell(
 ) -> Made
     ensures { made a result kids.new facts.new find.new ≡ edit_by (before a kids.old facts.old find.old) root cell v }
 {
-    match may_edit(a, kids, facts, find, root, cell) {
+    match may_edit(a.seen(kids, facts, find), root, cell) {
         Err(refusal) => Made {
             no: u32::from(refusal),
             id: BlockId::INVALID,
@@ -123,7 +122,7 @@ fn edit_cell(
         },
         Ok(()) => {
             let w = way_down(kids, root, cell);
-            let p = plan_edit(a, kids, facts, find, root, cell, v, w);
+            let p = plan_edit(a.seen(kids, facts, find), root, cell, v, w);
             edit_planned(a, kids, facts, find, w, cell.depth, v as u32, p)
         }
     }
@@ -131,6 +130,7 @@ fn edit_cell(
 
 // The root with the cell at the position set to the value, or a refusal: 1, 2, 3, 4, 8, 10 or 11. The root is not used up; the answer has one new
 // hold, none for EMPTY.
+#[tactic(auto, using(crate::proofs::Law::voxel_law))]
 pub fn set_voxel(
     arena: Arena,
     kids: &mut [u64],

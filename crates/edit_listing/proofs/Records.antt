@@ -1,12 +1,9 @@
 -- The records of edits: what one comes to, and that each grants its answer and nothing else.
-use mathlib.Core.Path.{◌≡◌, sym, ap, ap₂, ◌∙◌}
+use mathlib.Core.Path.{◌≡◌, ap, ap₂, ◌∙◌}
 use mathlib.Core.List.{List}
-use Prim.Native.Nat.{ℕ, ◌+◌, ◌-◌, ◌*◌, ◌≤◌, ◌<◌}
+use Prim.Native.Nat.{ℕ, ◌≤◌, ◌<◌}
 use native.Mathlib.Omega.{arith}
 use lib.IntN.{ℤ, pos}
-use lib.ListN.{length, get_or, take, drop, length-drop, drop_of_length-le, get_or-eq_default}
-use lib.Seq.{take_all}
-use borrow.Author.Rules.{part_to_end}
 use mir.Syntax.{w32}
 use mir.Val.{to_z, of_z}
 use mir.ValLaws.{to_z-of_z}
@@ -19,10 +16,9 @@ use Rattle.edit.proofs.Edits.{edit_unfit}
 use Rattle.edit.proofs.Does.{edit_does}
 use Rattle.basics.specs.Bytes.{Bytes, word16}
 use Rattle.calls.proofs.Follows.{spared_kept}
-use Rattle.listing.specs.Listing.{record_in}
 use Rattle.listing.specs.Holding.{Enters}
 use Rattle.listing.proofs.Puts.{line_short}
-use Rattle.edit_listing.specs.Listing.{record_width, whole_in, cell_in, value_in, record_depth, edit_in, edits}
+use Rattle.edit_listing.specs.Listing.{cell_in, value_in, record_depth, edit_in, edits}
 
 -- ---- a record's numbers
 

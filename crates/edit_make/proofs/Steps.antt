@@ -12,17 +12,18 @@ use mir.Val.{bool_byte}
 use borrow.Author.Tests.{eq-eqb, ne_eqb, lt-ltb, le-ltb, le-leb}
 use Rattle.basics.specs.Limits.{deepest}
 use Rattle.basics.specs.Pick.{pick}
-use Rattle.nodes.specs.Words.{Words, fact_of, word_of, nodes}
+use Rattle.nodes.specs.Words.{Nodes, Words, fact_of, fact_put, places, put_of, slot, word_of, nodes}
 use Rattle.nodes.specs.Tally.{one_if}
 use Rattle.nodes.specs.Values.{value_at, height_at}
-use Rattle.nodes.proofs.Sums.{cases}
-use Rattle.find_hash.specs.Hash.{home_in}
+use Rattle.nodes.proofs.Access.{put_word, word_fact}
+use Rattle.nodes.proofs.Sums.{cases, split}
+use Rattle.find_hash.specs.Hash.{leaf_hash, home_in}
 use Rattle.find.specs.Cells.{probe}
 use Rattle.paths.specs.declared.Cell.{Cell}
 use Rattle.tree.specs.Cells.{path_by, path_to}
 use Rattle.tree.specs.Anew.{part}
 use Rattle.arena.specs.Calls.{Out, said, fresh_slot}
-use Rattle.arena.specs.Models.{top_for}
+use Rattle.arena.specs.Models.{branch_with, leaf_fresh, more_of, top_for}
 use Rattle.arena.specs.Tables.{State, Tables, tables, W}
 use Rattle.arena.proofs.Eight.{drop_at, drop_none}
 use Rattle.edit_way.specs.Models.{octants, way_of}
@@ -30,7 +31,7 @@ use Rattle.edit_way.specs.declared.Way.{Way}
 use Rattle.edit_way.proofs.Ways.{Rises, top, step}
 use Rattle.edit_plan.specs.Models.{planned}
 use Rattle.edit_plan.proofs.Plans.{way_rises}
-use Rattle.edit_make.specs.Models.{owed_by, place_for, sum_over, height_over, placed_if, placed_where, leaf_anew_by, up_by, hold_at, make_up, passed, from_of, low_of, make_on, make_by}
+use Rattle.edit_make.specs.Models.{owed_by, place_for, sum_over, height_over, placed_if, placed_where, leaf_anew_by, branch_anew_by, up_by, hold_at, make_up, passed, from_of, low_of, make_on, make_by}
 
 -- ---- by the facts and by the words
 
@@ -44,10 +45,6 @@ module _ (k f : List ℕ) where
   unfolding height_over height_at top_for word_of
   height_facts ks y g = refl
 
-  pub value_facts : (y : ℕ) → value_at (fact_of f) y ≡ value_at (word_of (nodes k f)) y
-  unfolding value_at word_of
-  value_facts y = refl
-
   pub tall_facts : (y : ℕ) → height_at (fact_of f) y ≡ height_at (word_of (nodes k f)) y
   unfolding height_at word_of
   tall_facts y = refl
@@ -55,6 +52,32 @@ module _ (k f : List ℕ) where
   pub sum_facts : (y : ℕ) → sum_over (fact_of f) y ≡ sum_over (word_of (nodes k f)) y
   unfolding sum_over value_at word_of
   sum_facts y = refl
+
+-- ---- nodes made anew
+
+pub leaf_done : (a : State) (k f e : List ℕ) (v h q y at : ℕ) (r : Out) → y ≡ leaf_hash v → at ≡ probe (eqb (fresh_slot a (fact_of f))) e (home_in a.capacity y)
+    → r ≡ leaf_fresh (tables a k f e) v y h q at → r ≡ leaf_anew_by (tables a k f e) v h q
+unfolding leaf_anew_by
+leaf_done a k f e v h q y at r ey ea er =
+    er ∙ ap₂ (λ (i p : ℕ). leaf_fresh (tables a k f e) v i h q p) ey
+    (ea ∙ ap (λ (i : ℕ). probe (eqb (fresh_slot a (fact_of f))) e (home_in a.capacity i)) ey ∙ place_facts a k f e (leaf_hash v))
+
+pub branch_done : (a : State) (k f e ks : List ℕ) (ty ma up sum y h q at : ℕ) (r : Out) → at ≡ probe (eqb (fresh_slot a (fact_of f))) e (home_in a.capacity y)
+    → r ≡ branch_with (tables a k f e) ks ty ma (sum / 8) up sum y h q at → r ≡ branch_anew_by (tables a k f e) ks ty ma up sum y h q
+unfolding branch_anew_by
+branch_done a k f e ks ty ma up sum y h q at r ea er = er ∙ ap (branch_with (tables a k f e) ks ty ma (sum / 8) up sum y h q) (ea ∙ place_facts a k f e y)
+
+-- ---- one place more
+
+-- what was there written again
+again : (l : List ℕ) (s : ℕ) → fact_put l s places (fact_of l s places) ≡ l
+unfolding put_of
+again l s = ap (λ (x : Nodes). x.facts) (put_word (nodes [] l) s places (fact_of l s places) (sym (word_fact (nodes [] l) s places (omega arith))))
+
+pub place_done : (l l' : List ℕ) (k s p q : ℕ) (on : Bool) → s ≡ slot k → p ≡ fact_of l s places → q ≡ pick on (more_of p) p → l' ≡ fact_put l s places q → l' ≡ placed_if l k on
+unfolding placed_if
+place_done l l' k s p q on es ep eq el =
+    el ∙ rw (es, eq, ep, es) (split on (λ h. rw h) (λ h. rw h (again l (slot k))))
 
 -- ---- the loop over the places
 

@@ -18,7 +18,7 @@ ghost use Rattle.arena.specs.Tables.{state_of};
 use arena::{Arena, Made, bump, more, slot_of};
 use basics::{DEEPEST, Kids, Refusal};
 use edit_plan::Plan;
-use edit_way::{LEVELS, Way, hash_over, part, parts, with_part};
+use edit_way::{LEVELS, Way, hash_over, parts, with_part};
 use find::number_from;
 use find_hash::{home_in, leaf_hash, rehash};
 use ids::BlockId;
@@ -26,6 +26,7 @@ use new_node::{fresh_branch, fresh_leaf, fresh_slot};
 use new_value::{height_at, sums_of, value_at};
 use nodes::{PLACES, SUM, fact};
 use nodes_write::put_fact;
+use tree::part_of;
 
 // Where a fresh node of the hash k is named. Its slot is not named yet, so the search for it ends at the first empty cell from its home on.
 fn place_for(a: Arena, facts: &[u32], find: &[u16], k: u32) -> usize
@@ -68,6 +69,7 @@ fn resum(sum: u32, x: u32, y: u32) -> u32
 }
 
 // The height of the branch of the children ks, one of them the part y, new in a node of height g. Only if the part is too low for g are the others looked at.
+#[tactic(auto, unfolding(crate::specs::Models::height_over))]
 fn height_over(facts: &[u32], ks: Kids, y: u64, g: u32) -> u32
     ensures { result ≡ height_over (fact_of facts.now) ks y g }
 {
@@ -87,6 +89,7 @@ fn more_if(x: u32, on: bool) -> u32
 }
 
 // One place more for the node of k if `on`, else nothing is changed. (Written in any case, so that no jump depends on it.)
+#[tactic(auto, using(crate::proofs::Steps::place_done))]
 fn place_if(facts: &mut [u32], k: u64, on: bool)
     ensures { facts.new ≡ placed_if facts.old k on }
 {
@@ -107,6 +110,7 @@ fn place_where(facts: &mut [u32], ks: Kids, mask: u8)
 }
 
 // The bits of a mask, but for bit c.
+#[tactic(auto, unfolding(crate::specs::Models::other_bits), using(crate::proofs::Steps::bit_fits))]
 fn other_bits(mask: u8, c: usize) -> u8
     requires { c < 8 }
     ensures { result ≡ other_bits mask c }
@@ -157,6 +161,7 @@ fn place_seven(facts: &mut [u32], id: u64)
 }
 
 // One place more for each of the parts ks of `old` but number c. The mask of a branch says which of them are not EMPTY; an end stands for all seven.
+#[tactic(auto, unfolding(crate::specs::Models::placed_over))]
 fn place_others(facts: &mut [u32], ks: Kids, old: u64, c: usize)
     requires { c < 8 }
     ensures { facts.new ≡ placed_over facts.old ks old c }
@@ -168,6 +173,7 @@ fn place_others(facts: &mut [u32], ks: Kids, old: u64, c: usize)
     place_where(facts, ks, other_bits(BlockId(old).mask(), c));
 }
 
+#[tactic(auto, using(crate::proofs::Steps::branch_done))]
 fn branch_anew(
     a: Arena,
     kids: &mut [u64],
@@ -230,7 +236,7 @@ fn branch_over(
         !BlockId(new).is_empty(),
     );
     let ks = parts(kids, old);
-    let was = part(kids, old, c);
+    let was = part_of(kids, old, c);
     let hash = rehash(hash_over(facts, old), c, was, new);
     let sum = sum_over(facts, old);
     let x = value_at(facts, was);
@@ -256,6 +262,7 @@ fn hold_at(l: u32, depth: u32) -> u32
 }
 
 // What the new branches stand over: the leaf, made anew where it is missing too, else the plan's part, which gets its place.
+#[tactic(auto, unfolding(crate::specs::Models::low_of, arena::specs::Calls::each))]
 fn make_lowest(
     a: Arena,
     kids: &mut [u64],
@@ -280,6 +287,7 @@ fn make_lowest(
 }
 
 // How many levels the lowest branch that is to be made stands above the cell, less one: its number on the way.
+#[tactic(auto, unfolding(crate::specs::Models::from_of))]
 fn lowest_level(depth: u32, plan: Plan) -> u32
     ensures { (result ≡ from_of depth plan) × (result ≤ depth) }
 {

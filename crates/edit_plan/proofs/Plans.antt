@@ -1,16 +1,21 @@
 -- The steps of the dry run, and that along the way to the cell it is the dry run by the cell's path.
 use mathlib.Core.Path.{◌≡◌, refl, sym, ap, ap₂, ◌∙◌}
 use mathlib.Core.Logic.{inl, inr}
+use mathlib.Core.Bool.{Bool, true, false}
 use mathlib.Core.List.{List, ◌∷◌}
-use Prim.Native.Nat.{ℕ, zero, suc, ◌+◌, ◌-◌, ◌/◌, ◌%◌, ◌≤◌, ◌<◌}
+use Prim.Native.Nat.{ℕ, zero, suc, ◌+◌, ◌-◌, ◌/◌, ◌%◌, ◌^◌, ◌≤◌, ◌<◌}
 use native.Mathlib.Omega.{arith}
 use lib.Dec.{eqb, leb}
 use lib.ListN.{get_or, set, length-replicate}
-use borrow.Author.Tests.{eq-eqb, ne_eqb, le-leb, leb-true}
+use borrow.Author.Tests.{eq-eqb, ne_eqb, le-leb, lt-leb, leb-true}
 use Rattle.basics.specs.Limits.{deepest}
-use Rattle.nodes.specs.Words.{Words, fact_of, word_of, nodes}
+use Rattle.ids.specs.Ids.{invalid}
+use Rattle.nodes.specs.Words.{Words, fact_of, word_of, nodes, kid_of}
 use Rattle.nodes.specs.Values.{value_at}
 use Rattle.nodes.proofs.Sums.{split}
+use Rattle.find_hash.specs.Hash.{leaf_hash, rekids_hash}
+use Rattle.find.specs.Cells.{leaf_cell, kids_cell}
+use Rattle.find.proofs.Contents.{leaf_facts}
 use Rattle.paths.specs.declared.Cell.{Cell}
 use Rattle.tree.specs.Tree.{look, Flat, Kind, empty, leaf, branch, kind}
 use Rattle.tree.specs.Cells.{path_by, path_to}
@@ -19,12 +24,13 @@ use Rattle.tree.proofs.Canon.{look_branch, look_end, look_flat}
 use Rattle.tree.proofs.CellLaws.{octant_lt}
 use Rattle.tree.proofs.Making.{part_flat, part_branch}
 use Rattle.arena.specs.Models.{more_of}
-use Rattle.arena.specs.Tables.{Tables, W}
+use Rattle.arena.specs.Tables.{State, Tables, tables, W}
 use Rattle.arena.proofs.Places.{more_few}
-use Rattle.edit_way.specs.Models.{end_down, octants, way_of, eight_parts}
+use Rattle.edit_way.specs.Models.{end_down, octants, way_of, eight_parts, hash_over}
+use Rattle.edit_way.proofs.Words.{hash_facts, part_kids, parts_kids}
 use Rattle.edit_way.specs.declared.Way.{Way}
 use Rattle.edit_way.proofs.Ways.{Rises, top, step, down_rises}
-use Rattle.edit_plan.specs.Models.{planned, slot_plan, cell_plan, whole_of, need_plan, up_plan, plan_up, plan_on, plan_by, root_plan, result_by}
+use Rattle.edit_plan.specs.Models.{planned, slot_plan, leaf_found, cell_plan, whole_of, hash_with, kids_found, need_plan, up_plan, plan_up, plan_on, plan_by, root_plan, result_by}
 use Rattle.edit_plan.specs.declared.Plan.{Plan}
 
 module _ (k f : List ℕ) where
@@ -35,6 +41,61 @@ module _ (k f : List ℕ) where
   pub value_facts : (id : ℕ) → value_at (fact_of f) id ≡ value_at (word_of (nodes k f)) id
   unfolding value_at word_of
   value_facts id = refl
+
+-- ---- the cell, a node, and the call
+
+module _ (a : State) (k f e : List ℕ) (v : ℕ) where
+  pub cell_nothing : v ≡ 0 → planned 0 0 ≡ cell_plan (tables a k f e) v
+  unfolding cell_plan
+  cell_nothing z = rw (eq-eqb v 0 z)
+
+  pub cell_found : (h s p : ℕ) (r : Plan) → (v ≡ 0 → ⊥) → h ≡ leaf_hash v → p ≡ leaf_cell e a.capacity (fact_of f) h v → s ≡ get_or e p 0
+      → r ≡ slot_plan (fact_of f) s 0 → r ≡ cell_plan (tables a k f e) v
+  unfolding cell_plan leaf_found
+  cell_found h s p r d eh ep es er =
+      let q : p ≡ leaf_cell e a.capacity (word_of (nodes k f)) (leaf_hash v) v =
+      ep ∙ ap (λ (y : ℕ). leaf_cell e a.capacity (fact_of f) y v) eh ∙ leaf_facts e a.capacity k f (leaf_hash v) v in
+      rw (ne_eqb v 0 d)
+      (er ∙ slot_facts k f s 0 ∙ ap (λ (x : ℕ). slot_plan (word_of (nodes k f)) x 0) (es ∙ ap (λ (x : ℕ). get_or e x 0) q))
+
+module _ (a : State) (k f e ks all : List ℕ) (old c s : ℕ) (ek : ks ≡ eight_parts (kid_of k) old) (ea : all ≡ set ks c s) (b : Bool) (eb : b ≡ whole_of all s) where
+  kids_are : all ≡ set (eight_parts (word_of (nodes k f)) old) c s
+  kids_are = ea ∙ ap (λ (l : List ℕ). set l c s) (ek ∙ parts_kids k f old)
+
+  test : b ≡ whole_of (set (eight_parts (word_of (nodes k f)) old) c s) s
+  test = eb ∙ ap (λ (l : List ℕ). whole_of l s) kids_are
+
+  pub node_whole : b ≡ true → planned 0 s ≡ need_plan (tables a k f e) old c s
+  unfolding need_plan
+  node_whole h = rw (sym test ∙ h)
+
+  pub node_found : (y x v p i : ℕ) (r : Plan) → c < 8 → b ≡ false → y ≡ hash_over (fact_of f) old → x ≡ part (kid_of k) old c → v ≡ rekids_hash y c x s
+      → p ≡ kids_cell e a.capacity (word_of (nodes k f)) v all → i ≡ get_or e p 0 → r ≡ slot_plan (fact_of f) i s → r ≡ need_plan (tables a k f e) old c s
+  unfolding need_plan kids_found hash_with
+  node_found y x v p i r l h ey ex ev ep ei er =
+      let q : v ≡ hash_with (word_of (nodes k f)) old c s =
+      ev ∙ ap (λ (z : ℕ). rekids_hash z c x s) (ey ∙ hash_facts k f old) ∙ ap (λ (z : ℕ). rekids_hash (hash_over (word_of (nodes k f)) old) c z s) (ex ∙ part_kids k f old c l) in
+      rw (sym test ∙ h) (er ∙ slot_facts k f i s ∙ ap (λ (z : ℕ). slot_plan (word_of (nodes k f)) z s)
+      (ei ∙ ap (λ (z : ℕ). get_or e z 0) (ep ∙ ap (λ (z : ℕ). kids_cell e a.capacity (word_of (nodes k f)) z all) q
+      ∙ ap (kids_cell e a.capacity (word_of (nodes k f)) (hash_with (word_of (nodes k f)) old c s)) kids_are)))
+
+module _ (a : State) (k f e : List ℕ) (root v : ℕ) (c : Cell) (w : Way) where
+  pub edit_deep : deepest < c.depth → planned 0 invalid ≡ plan_on (tables a k f e) v c root w
+  unfolding plan_on
+  edit_deep l = rw (lt-leb c.depth deepest l)
+
+  module _ (x : ℕ) (l : c.depth ≤ deepest) (ex : x ≡ value_at (fact_of f) w.end) where
+    value_is : x ≡ value_at (word_of (nodes k f)) w.end
+    value_is = ex ∙ value_facts k f w.end
+
+    pub edit_same : x % 2 ^ 16 ≡ v → planned 0 root ≡ plan_on (tables a k f e) v c root w
+    unfolding plan_on
+    edit_same h = rw (le-leb c.depth deepest l, eq-eqb (value_at (word_of (nodes k f)) w.end % 2 ^ 16) v (ap (λ (i : ℕ). i % 2 ^ 16) (sym value_is) ∙ h))
+
+    pub edit_other : (r : Plan) → (x % 2 ^ 16 ≡ v → ⊥) → r ≡ plan_up (tables a k f e) w.ids c.depth 0 w.path (cell_plan (tables a k f e) v) → r ≡ plan_on (tables a k f e) v c root w
+    unfolding plan_on
+    edit_other r h er =
+        rw (le-leb c.depth deepest l, ne_eqb (value_at (word_of (nodes k f)) w.end % 2 ^ 16) v (λ q. h (ap (λ (i : ℕ). i % 2 ^ 16) value_is ∙ q))) er
 
 -- ---- at most one node is to be made at a level
 

@@ -4,18 +4,19 @@
 ghost use Rattle.std.specs.Prelude.{◌≡◌, ◌≤◌, ◌<◌};
 ghost use Rattle.basics.specs.Limits.{deepest};
 ghost use Rattle.nodes.specs.Words.{fact_of};
-ghost use Rattle.arena.specs.Lent.{before};
+ghost use Rattle.arena.specs.Seen.{seen_in};
 ghost use Rattle.edit_plan.specs.Models.{slot_plan, cell_plan, whole_of, need_plan, plan_up, plan_on};
 
-use arena::Arena;
+use arena::Seen;
 use basics::{DEEPEST, Kids};
-use edit_way::{LEVELS, Way, hash_over, part, parts, with_part};
+use edit_way::{LEVELS, Way, hash_over, parts, with_part};
 use find::{search, search_leaf};
 use find_hash::{leaf_hash, rehash};
 use ids::BlockId;
 use new_value::value_at;
 use nodes::own;
 use paths::Cell;
+use tree::part_of;
 
 // What a dry run found: how many nodes are to be made, and the part below them that is there.
 #[derive(Clone, Copy)]
@@ -32,6 +33,7 @@ fn is_whole(ks: Kids, s: u64) -> bool
 }
 
 // The node in the slot that a search found; none found: one is to be made over the part s.
+#[tactic(auto, unfolding(crate::specs::Models::slot_plan))]
 fn plan_slot(facts: &[u32], found: usize, s: u64) -> Plan
     ensures { result ≡ slot_plan (fact_of facts.now) found s }
 {
@@ -45,8 +47,8 @@ fn plan_slot(facts: &[u32], found: usize, s: u64) -> Plan
 }
 
 // The cell itself: EMPTY for 0, the leaf of the value if it lives.
-fn plan_cell(a: Arena, kids: &[u64], facts: &[u32], find: &[u16], v: u32) -> Plan
-    ensures { result ≡ cell_plan (before a kids.now facts.now find.now) v }
+fn plan_cell(seen: Seen<'_>, v: u32) -> Plan
+    ensures { result ≡ cell_plan (seen_in seen.entry) v }
 {
     if v == 0 {
         return Plan {
@@ -54,47 +56,30 @@ fn plan_cell(a: Arena, kids: &[u64], facts: &[u32], find: &[u16], v: u32) -> Pla
             id: BlockId::EMPTY.0,
         };
     }
-    let f = search_leaf(find, facts, a.capacity, leaf_hash(v), v);
-    plan_slot(facts, f.slot, BlockId::EMPTY.0)
+    let f = search_leaf(seen.find, seen.facts, seen.capacity, leaf_hash(v), v);
+    plan_slot(seen.facts, f.slot, BlockId::EMPTY.0)
 }
 
 // What the parts of `old` come to with number c replaced by s.
-fn plan_node(
-    a: Arena,
-    kids: &[u64],
-    facts: &[u32],
-    find: &[u16],
-    old: u64,
-    c: usize,
-    s: u64,
-) -> Plan
+fn plan_node(seen: Seen<'_>, old: u64, c: usize, s: u64) -> Plan
     requires { c < 8 }
-    ensures { result ≡ need_plan (before a kids.now facts.now find.now) old c s }
+    ensures { result ≡ need_plan (seen_in seen.entry) old c s }
 {
-    let all = with_part(parts(kids, old), c, s);
+    let all = with_part(parts(seen.kids, old), c, s);
     if is_whole(all, s) {
         return Plan { new: 0, id: s };
     }
-    let h = rehash(hash_over(facts, old), c, part(kids, old, c), s);
-    let f = search(find, kids, facts, a.capacity, h, all);
-    plan_slot(facts, f.slot, s)
+    let h = rehash(hash_over(seen.facts, old), c, part_of(seen.kids, old, c), s);
+    let f = search(seen.find, seen.kids, seen.facts, seen.capacity, h, all);
+    plan_slot(seen.facts, f.slot, s)
 }
 
 // From the cell upward, as long as what is needed is there: over a part that is to be made, each node is to be made.
-fn plan_up(
-    a: Arena,
-    kids: &[u64],
-    facts: &[u32],
-    find: &[u16],
-    ids: [u64; LEVELS],
-    path: u32,
-    depth: u32,
-    v: u32,
-) -> Plan
+fn plan_up(seen: Seen<'_>, ids: [u64; LEVELS], path: u32, depth: u32, v: u32) -> Plan
     requires { depth ≤ deepest }
-    ensures { result ≡ plan_up (before a kids.now facts.now find.now) ids depth 0 path (cell_plan (before a kids.now facts.now find.now) v) }
+    ensures { result ≡ plan_up (seen_in seen.entry) ids depth 0 path (cell_plan (seen_in seen.entry) v) }
 {
-    let mut below = plan_cell(a, kids, facts, find, v);
+    let mut below = plan_cell(seen, v);
     let mut digits = path;
     for l in 0..depth {
         if below.new != 0 {
@@ -105,23 +90,14 @@ fn plan_up(
         }
         let c = (digits % 8) as usize;
         digits /= 8;
-        below = plan_node(a, kids, facts, find, ids[l as usize], c, below.id);
+        below = plan_node(seen, ids[l as usize], c, below.id);
     }
     below
 }
 
 // The plan of an edit along a way: the root where the cell already has the value, else the dry run's. INVALID of a depth above 6.
-pub fn plan_edit(
-    a: Arena,
-    kids: &[u64],
-    facts: &[u32],
-    find: &[u16],
-    root: u64,
-    cell: Cell,
-    v: u16,
-    way: Way,
-) -> Plan
-    ensures { result ≡ plan_on (before a kids.now facts.now find.now) v cell root way }
+pub fn plan_edit(seen: Seen<'_>, root: u64, cell: Cell, v: u16, way: Way) -> Plan
+    ensures { result ≡ plan_on (seen_in seen.entry) v cell root way }
 {
     if DEEPEST < cell.depth {
         return Plan {
@@ -129,10 +105,8 @@ pub fn plan_edit(
             id: BlockId::INVALID.0,
         };
     }
-    if value_at(facts, way.end) % 65536 == v as u32 {
+    if value_at(seen.facts, way.end) % 65536 == v as u32 {
         return Plan { new: 0, id: root };
     }
-    plan_up(
-        a, kids, facts, find, way.ids, way.path, cell.depth, v as u32,
-    )
+    plan_up(seen, way.ids, way.path, cell.depth, v as u32)
 }

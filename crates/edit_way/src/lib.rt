@@ -4,15 +4,15 @@
 ghost use Rattle.std.specs.Prelude.{◌≡◌, ◌<◌, eqb, set};
 ghost use Rattle.basics.specs.Pick.{pick};
 ghost use Rattle.nodes.specs.Words.{kid_of, fact_of};
-ghost use Rattle.tree.specs.Anew.{part as part_of};
 ghost use Rattle.edit_way.specs.Models.{eight_parts, hash_over, way_of};
 
 use arena::slot_of;
 use basics::{DEEPEST, KID_WORDS, Kids};
 use find_hash::even_hash;
-use ids::{BlockId, LOWEST_LEAF};
-use nodes::{HASH, children, fact, kid};
+use ids::BlockId;
+use nodes::{HASH, children, fact};
 use paths::{Cell, octant};
+use tree::part_of;
 
 // As many levels as a cube has below its root.
 pub const LEVELS: usize = 6;
@@ -26,17 +26,8 @@ pub struct Way {
     pub path: u32,
 }
 
-// Part number c of an id: a child of a branch; a leaf, and EMPTY, is each of its own parts.
-pub fn part(kids: &[u64], id: u64, c: usize) -> u64
-    ensures { result ≡ part_of (kid_of kids.now) id c }
-{
-    if BlockId(id).is_end() {
-        return id;
-    }
-    kid(kids, slot_of(id), c)
-}
-
-// The eight parts of an id.
+// The eight parts of an id: the children of a branch; a leaf, and EMPTY, is each of its own parts.
+#[tactic(auto, using(crate::proofs::Words::parts_end, crate::proofs::Words::parts_else))]
 pub fn parts(kids: &[u64], id: u64) -> Kids
     ensures { result ≡ eight_parts (kid_of kids.now) id }
 {
@@ -55,6 +46,7 @@ fn at_place(c: usize, i: usize, new: u64, old: u64) -> u64
 
 // The parts with number c replaced.
 // Kept: a row written at a variable place goes through memory, which misses the bar of speed of an edit; this one does not.
+#[tactic(auto, using(crate::proofs::Words::parts_set))]
 pub fn with_part(ks: Kids, c: usize, new: u64) -> Kids
     ensures { result ≡ set ks c new }
 {
@@ -71,6 +63,7 @@ pub fn with_part(ks: Kids, c: usize, new: u64) -> Kids
 }
 
 // The hash of the parts of id: a branch keeps it.
+#[tactic(auto, unfolding(crate::specs::Models::hash_over))]
 pub fn hash_over(facts: &[u32], id: u64) -> u32
     ensures { result ≡ hash_over (fact_of facts.now) id }
 {
@@ -95,7 +88,7 @@ pub fn way_down(kids: &[u64], root: u64, cell: Cell) -> Way
     for left in (0..cell.depth).rev() {
         let c = octant(left, cell.x, cell.y, cell.z);
         way.ids[left as usize] = way.end;
-        way.end = part(kids, way.end, c);
+        way.end = part_of(kids, way.end, c);
         way.path = 8 * way.path + c as u32;
     }
     way

@@ -2,7 +2,7 @@
 #![tactic(auto)]
 
 ghost use Rattle.std.specs.Prelude.{◌≡◌, ℕ, Bool, ◌%◌, eqb, get_or, set};
-ghost use Rattle.nodes.specs.Words.{kid_of, fact_of};
+ghost use Rattle.nodes.specs.Words.{fact_of};
 ghost use Rattle.nodes.specs.Lent.{words_in};
 ghost use Rattle.find.specs.Content.{leaf_is, kids_are};
 ghost use Rattle.find.specs.Cells.{leaf_cell, kids_cell, probe};

@@ -119,10 +119,6 @@ pub leaf_code : (v : ℕ) → v * 0x9E3779B1 % 2 ^ 32 ≡ leaf_hash v
 unfolding leaf_hash
 leaf_code v = refl
 
-pub even_code : (k : ℕ) → k % 2 ^ 32 * 0x1D0C23D8 % 2 ^ 32 ≡ even_hash k
-unfolding even_hash
-even_code k = refl
-
 pub factor_past : (i : ℕ) → 8 ≤ i → 0 ≡ factor i
 unfolding factor
 factor_past i h = sym (get_or-eq_default (0x9E3779B1 ∷ 0x85EBCA77 ∷ 0xC2B2AE3D ∷ 0x27D4EB2F ∷ 0x165667B1 ∷ 0xD6E8FEB9 ∷ 0xA136AAAD ∷ 0x7FEB352D ∷ []) 0 {n = i} h)

@@ -8,6 +8,7 @@ use basics::{Kids, MOST_SLOTS, SLOT_HOMES};
 
 // The factor of child i.
 // Kept: a table indexed by a variable would be written anew at each call; this one is not.
+#[tactic(auto, unfolding(crate::specs::Hash::factor), using(crate::proofs::Hashes::none_of_lem))]
 fn factor(i: usize) -> u64
     ensures { result ≡ factor_of i }
 {
@@ -25,6 +26,7 @@ fn factor(i: usize) -> u64
 }
 
 // What child i brings, the id k.
+#[tactic(auto, using(crate::proofs::Hashes::product_code, crate::proofs::Hashes::product_fits))]
 fn term(i: usize, k: u64) -> u64
     ensures { result ≡ term_of i k }
 {
@@ -59,6 +61,7 @@ pub fn leaf_hash(v: u32) -> u32
 }
 
 // The hash of a branch with eight times one child: the factors' sum.
+#[tactic(auto, unfolding(crate::specs::Hash::even_hash))]
 pub fn even_hash(k: u64) -> u32
     ensures { result ≡ even_hash k }
 {
@@ -66,6 +69,7 @@ pub fn even_hash(k: u64) -> u32
 }
 
 // A hash's home, below four times the capacity.
+#[tactic(auto, using(crate::proofs::Hashes::home_fits, crate::proofs::Hashes::home_small, crate::proofs::Hashes::home_large))]
 pub fn home_in(capacity: usize, h: u32) -> usize
     ensures { result ≡ home_in capacity h }
 {

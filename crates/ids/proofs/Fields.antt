@@ -5,7 +5,9 @@ use Prim.Native.Nat.{ℕ, ◌+◌, ◌*◌, ◌/◌, ◌%◌, ◌^◌, ◌≤◌
 use native.Mathlib.Omega.{arith}
 use lib.Dec.{eqb}
 use borrow.Author.Tests.{le-leb, lt-leb, lt-ltb, le-ltb, eq-eqb, ne_eqb}
-use Rattle.ids.specs.Ids.{leaf_flag, types_field, mask_field, is_leaf, is_branch, types_of, mask_of, has_child, pack, packing_no, new_leaf, new_branch, invalid}
+use Rattle.basics.specs.Bits.{field}
+use Rattle.basics.specs.Pick.{pick}
+use Rattle.ids.specs.Ids.{leaf_flag, is_leaf, is_branch, mask_of, has_child, pack, packing_no, new_leaf, new_branch, invalid}
 
 -- ---- the leaf flag: a 64-bit number's highest bit is what is left above bit 62
 
@@ -21,24 +23,14 @@ pub branch_test : (raw : ℕ) → raw < 2 ^ 64 → eqb (raw / 2 ^ 63) 0 ≡ is_b
 unfolding is_branch
 branch_test raw h = ap (λ (f : ℕ). eqb f 0) (flag_whole raw h)
 
--- ---- types and mask: 0 of a leaf
+-- ---- a byte: 0 of a leaf
 
-module _ (raw : ℕ) (leaf : Bool) (e : leaf ≡ is_leaf raw) where
-  pub types_leaf : leaf ≡ true → 0 ≡ types_of raw
-  unfolding types_of
-  types_leaf h = rw (sym e ∙ h)
+module _ (raw at : ℕ) (leaf : Bool) (e : leaf ≡ is_leaf raw) where
+  pub byte_leaf : leaf ≡ true → 0 ≡ pick (is_leaf raw) 0 (field at 8 raw)
+  byte_leaf h = rw (sym e ∙ h)
 
-  pub types_branch : leaf ≡ false → raw / 2 ^ 55 % 2 ^ 8 ≡ types_of raw
-  unfolding types_of types_field
-  types_branch h = rw (sym e ∙ h)
-
-  pub mask_leaf : leaf ≡ true → 0 ≡ mask_of raw
-  unfolding mask_of
-  mask_leaf h = rw (sym e ∙ h)
-
-  pub mask_branch : leaf ≡ false → raw / 2 ^ 47 % 2 ^ 8 ≡ mask_of raw
-  unfolding mask_of mask_field
-  mask_branch h = rw (sym e ∙ h)
+  pub byte_branch : leaf ≡ false → raw / 2 ^ at % 2 ^ 8 ≡ pick (is_leaf raw) 0 (field at 8 raw)
+  byte_branch h = rw (sym e ∙ h)
 
 pub child_above : (raw i : ℕ) → 8 ≤ i → false ≡ has_child raw i
 unfolding has_child

@@ -1,7 +1,9 @@
 // Ids of nodes: a compact 64-bit number that carries a node's kind, its children's kinds and presence, its generation and its slot.
 #![tactic(auto)]
 
-ghost use Rattle.std.specs.Prelude.{◌≡◌, not, eqb};
+ghost use Rattle.std.specs.Prelude.{◌≡◌, ◌<◌, not, eqb};
+ghost use Rattle.basics.specs.Bits.{field};
+ghost use Rattle.basics.specs.Pick.{pick};
 ghost use Rattle.ids.specs.Ids.{empty, invalid, index_of, generation_of, types_of, mask_of, has_child, is_leaf, is_branch, is_end, packing_no, new_leaf, new_branch};
 
 // The lowest id of a leaf: bit 63 is the leaf flag.
@@ -93,26 +95,32 @@ impl BlockId {
         (self.0 / 0x1_0000_0000 % 0x8000) as u16
     }
 
+    // The byte that begins at this bit; 0 of a leaf.
+    #[tactic(auto, using(crate::proofs::Fields::byte_leaf, crate::proofs::Fields::byte_branch))]
+    fn byte_from(self, at: u32) -> u8
+        requires { at < 64 }
+        ensures { result ≡ pick (is_leaf self.0) 0 (field at 8 self.0) }
+    {
+        if self.is_leaf() {
+            return 0;
+        }
+        ((self.0 >> at) % 0x100) as u8
+    }
+
     // Which children are leaves, a bit each; 0 of a leaf.
-    #[tactic(auto, using(crate::proofs::Fields::types_leaf, crate::proofs::Fields::types_branch))]
+    #[tactic(auto, unfolding(crate::specs::Ids::types_of, crate::specs::Ids::types_field))]
     pub fn types(self) -> u8
         ensures { result ≡ types_of self.0 }
     {
-        if self.is_leaf() {
-            return 0;
-        }
-        (self.0 / 0x80_0000_0000_0000 % 0x100) as u8
+        self.byte_from(55)
     }
 
     // Which children there are, a bit each; 0 of a leaf.
-    #[tactic(auto, using(crate::proofs::Fields::mask_leaf, crate::proofs::Fields::mask_branch))]
+    #[tactic(auto, unfolding(crate::specs::Ids::mask_of, crate::specs::Ids::mask_field))]
     pub fn mask(self) -> u8
         ensures { result ≡ mask_of self.0 }
     {
-        if self.is_leaf() {
-            return 0;
-        }
-        (self.0 / 0x8000_0000_0000 % 0x100) as u8
+        self.byte_from(47)
     }
 
     // Is there a child of this number? No of a leaf, and no above 7.

@@ -39,6 +39,7 @@ pub struct Ran {
 }
 
 // What the start came to, and what a record did: the run, and the refusal, 0 if there is none.
+// Kept: `start` is a call that users have, and after a refusal, too, the run goes on: the number stands beside it.
 #[derive(Clone, Copy)]
 pub struct Step {
     pub run: Run,

@@ -7,7 +7,7 @@ ghost use Rattle.std.specs.Prelude.{◌≡◌, Ok, false, ◌+◌, ◌≤◌, le
 ghost use Rattle.std.specs.Float.{binary64, fin};
 ghost use Rattle.std.specs.Float.Ieee.{to_bits};
 ghost use Rattle.basics.specs.Limits.{finest_edge};
-ghost use Rattle.metres.specs.Bits.{finite, nan, negative, units, placed, cell_of, below_bits};
+ghost use Rattle.metres.specs.Bits.{finite, negative, units, placed, cell_of, below_bits};
 ghost use Rattle.basics.specs.Bytes.{word16, word32, word64};
 ghost use Rattle.metres.specs.Record.{all_finite, wrong, point_at, said, reading_of, struct_at, zero64, struct_of, aim_of};
 ghost use Rattle.metres.specs.Models.{code, Known, judged, cells_of};
@@ -35,6 +35,7 @@ pub enum Reading {
 }
 
 // A reading as numbers: the refusal, or 0 and what the record says, with zeros for what it has not.
+// Kept: C reads the number beside the rest.
 #[repr(C)]
 #[derive(Clone, Copy)]
 pub struct ReadingFields {

@@ -11,7 +11,7 @@
 
 ghost use Rattle.std.specs.Prelude.{◌≤◌};
 
-use compare::compare;
+use compare::{Compared, compare};
 use edit_listing::{DEPTH, RECORD};
 use ids::BlockId;
 use listing::Run;
@@ -90,18 +90,15 @@ fn say_outcome(
     let mut codes = [0u32; LISTED];
     let mut lefts = [0u16; LISTED];
     let mut rights = [0u16; LISTED];
-    let compared = compare(
-        run.arena,
-        kids,
-        facts,
-        find,
+    let compared = Compared::from(compare(
+        run.arena.seen(kids, facts, find),
         left,
         run.root,
         DEPTH,
         &mut codes,
         &mut lefts,
         &mut rights,
-    );
+    ));
     say_cells(rt, &codes, &lefts, &rights, compared.count as usize)?;
     let mut lines = [0u8; LINES];
     let len = closing(compared, run, &mut lines);

@@ -2,7 +2,7 @@
 // table reads 0, and a slot for whose words it has no room lies outside.
 #![tactic(auto)]
 
-ghost use Rattle.std.specs.Prelude.{◌≡◌, ◌<◌, ◌^◌, ltb};
+ghost use Rattle.std.specs.Prelude.{◌≡◌, ◌<◌, ltb};
 ghost use Rattle.basics.specs.Limits.{kid_words};
 ghost use Rattle.basics.specs.Pick.{pick};
 ghost use Rattle.nodes.specs.Words.{own as own_word, value as value_word, kid_of, fact_of};

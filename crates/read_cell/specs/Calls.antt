@@ -1,7 +1,10 @@
 -- What lookup and expansion answer.
-use Rattle.std.specs.Prelude.{ℕ, ◌^◌, List, leb, eqb, length}
+use Rattle.std.specs.Prelude.{ℕ, ◌^◌, List, Result, leb, eqb, length}
+use Rattle.std.specs.declared.result.Result.TheVariants.{Ok, Err}
 use Rattle.basics.specs.Limits.{deepest, deepest_cube}
 use Rattle.basics.specs.Pick.{pick}
+use Rattle.basics.specs.Refusals.{number}
+use Rattle.basics.specs.declared.Refusal.{Refusal}
 use Rattle.paths.specs.declared.IVec3.{IVec3}
 use Rattle.paths.specs.Paths.{inside, whole}
 use Rattle.arena.specs.Tables.{Tables, cap, W}
@@ -20,6 +23,11 @@ look_no t id d p =
 
 abbrev pub looked : ℕ → ℕ → Looked
 looked k u = record { no = k; value = u }
+
+-- what the code answers, so written
+abbrev pub looked_as : Result ℕ Refusal → Looked
+looked_as (Ok u) = looked 0 u
+looked_as (Err refusal) = looked (number refusal) 0
 
 -- the value at the cell p of depth d, or the refusal with value 0
 unfoldable pub look_of : Tables → ℕ → ℕ → IVec3 → Looked

@@ -6,12 +6,12 @@ ghost use Rattle.basics.specs.Limits.{deepest};
 ghost use Rattle.basics.specs.Pick.{pick};
 ghost use Rattle.basics.specs.Refusals.{no_of};
 ghost use Rattle.nodes.specs.Words.{kid_of, fact_of};
-ghost use Rattle.arena.specs.Lent.{before};
+ghost use Rattle.arena.specs.Seen.{seen_in};
 ghost use Rattle.read_cell.specs.Reading.{end_of};
-ghost use Rattle.read_cell.specs.Calls.{look_of};
+ghost use Rattle.read_cell.specs.Calls.{looked_as, look_of};
 ghost use Rattle.read_cell.specs.Models.{val, look_no_at, look_at};
 
-use arena::{Arena, fit, is_live_or_empty, slot_of};
+use arena::{Seen, fit, is_live_or_empty, slot_of};
 use basics::{DEEPEST, Refusal};
 use ids::{BlockId, LOWEST_LEAF};
 use nodes::{VALUE, fact, kid, stored};
@@ -24,8 +24,8 @@ pub struct End {
     pub level: u32,
 }
 
-// The answer of lookup.
-// Kept: the refusal and the value side by side, as C takes them.
+// The answer of lookup for C.
+// Kept: C reads the number beside the value.
 #[repr(C)]
 #[derive(Clone, Copy)]
 pub struct Looked {
@@ -100,17 +100,15 @@ fn is_inside(d: u32, x: u32) -> bool
 // ---- lookup
 
 // Refuses a lookup by the lowest refusal that applies.
-pub fn may_look(
-    arena: Arena,
-    kids: &[u64],
-    facts: &[u32],
-    find: &[u16],
-    id: u64,
-    cell: Cell,
-) -> Result<(), Refusal>
-    ensures { no_of result ≡ look_no_at (before arena kids.now facts.now find.now) id cell }
+pub fn may_look(seen: Seen<'_>, id: u64, cell: Cell) -> Result<(), Refusal>
+    ensures { no_of result ≡ look_no_at (seen_in seen.entry) id cell }
 {
-    if !fit(arena.capacity, kids.len(), facts.len(), find.len()) {
+    if !fit(
+        seen.capacity,
+        seen.kids.len(),
+        seen.facts.len(),
+        seen.find.len(),
+    ) {
         return Err(Refusal::Size);
     }
     if cell.depth > DEEPEST {
@@ -119,49 +117,29 @@ pub fn may_look(
     if !is_inside(cell.depth, cell.x | cell.y | cell.z) {
         return Err(Refusal::Position);
     }
-    if !is_live_or_empty(arena.capacity, facts, id) {
+    if !is_live_or_empty(seen.capacity, seen.facts, id) {
         return Err(Refusal::NotLive);
     }
     Ok(())
 }
 
 // Lookup of a cell.
-fn look_at(
-    arena: Arena,
-    kids: &[u64],
-    facts: &[u32],
-    find: &[u16],
-    id: BlockId,
-    cell: Cell,
-) -> Looked
-    ensures { result ≡ look_at (before arena kids.now facts.now find.now) id.0 cell }
+fn look_at(seen: Seen<'_>, id: BlockId, cell: Cell) -> Result<u16, Refusal>
+    ensures { looked_as result ≡ look_at (seen_in seen.entry) id.0 cell }
 {
-    match may_look(arena, kids, facts, find, id.0, cell) {
-        Err(refusal) => Looked {
-            no: u32::from(refusal),
-            value: 0,
-        },
-        Ok(()) => {
-            let end = descend(kids, id, cell);
-            Looked {
-                no: 0,
-                value: value_once(facts, end.id.0),
-            }
-        }
-    }
+    may_look(seen, id.0, cell)?;
+    let end = descend(seen.kids, id, cell);
+    Ok(value_once(seen.facts, end.id.0))
 }
 
 // The value at a cell of a cube of the depth under id, or a refusal: 1, 2, 3 or 4.
 pub fn get_at_depth(
-    arena: Arena,
-    kids: &[u64],
-    facts: &[u32],
-    find: &[u16],
+    seen: Seen<'_>,
     id: BlockId,
     depth: u32,
     position: IVec3,
-) -> Looked
-    ensures { result ≡ look_of (before arena kids.now facts.now find.now) id.0 depth position }
+) -> Result<u16, Refusal>
+    ensures { looked_as result ≡ look_of (seen_in seen.entry) id.0 depth position }
 {
-    look_at(arena, kids, facts, find, id, to_cell(position, depth))
+    look_at(seen, id, to_cell(position, depth))
 }

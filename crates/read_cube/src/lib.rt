@@ -6,11 +6,11 @@ ghost use Rattle.basics.specs.Limits.{deepest_cube, cube_kids};
 ghost use Rattle.basics.specs.Refusals.{no_of};
 ghost use Rattle.nodes.specs.Lent.{words_in};
 ghost use Rattle.nodes.specs.Words.{fact_of};
-ghost use Rattle.arena.specs.Lent.{before};
+ghost use Rattle.arena.specs.Seen.{seen_in};
 ghost use Rattle.read_cell.specs.Calls.{expanded, expand_no, expand_of};
 ghost use Rattle.read_cube.specs.Models.{fill_row, fill_plane, fill_block, offset as offset_of, grow, parts_to, pair_of, eight_of, cube_from};
 
-use arena::{Arena, fit, is_live_or_empty, slot_of};
+use arena::{Seen, fit, is_live_or_empty, slot_of};
 use basics::{DEEPEST_CUBE, Kids, Refusal};
 use ids::{BlockId, LOWEST_LEAF};
 use nodes::{children, kid};
@@ -100,6 +100,7 @@ fn fill_eight(facts: &[u32], cube: &mut [u16], ids: Kids, at: usize, row: usize,
 }
 
 // The eight octants of a branch that are single cells, in turn.
+// Kept: here and in the next two, the inner loop, the two tables apart: through a `Seen` behind a reference expansion takes a quarter longer.
 fn fill_cells(
     kids: &[u64],
     facts: &[u32],
@@ -163,8 +164,7 @@ fn fill_smalls(
 // One octant of the lent cube, all 0 before: its corner at `at`, `left` levels above the cells.
 #[cycle(fill_octant_fill_octants)]
 fn fill_octant(
-    kids: &[u64],
-    facts: &[u32],
+    seen: &Seen<'_>,
     cube: &mut [u16],
     id: u64,
     at: usize,
@@ -175,35 +175,34 @@ fn fill_octant(
 )
     requires side_value { (side ≡ 2 ^ left) × (side ≤ 64) × (row ≤ 64) × (plane ≤ 4096) }
     requires side_bound { at + side * plane + side * row + side ≤ length cube.old + plane + row }
-    ensures { cube.new ≡ grow (words_in kids.now facts.now) cube_kids row plane left side id at cube.old }
+    ensures { cube.new ≡ grow (words_in seen.now.kids.now seen.now.facts.now) cube_kids row plane left side id at cube.old }
 {
     if left == 0 {
-        cube[at] = value(facts, id);
+        cube[at] = value(seen.facts, id);
         return;
     }
     if id == BlockId::EMPTY.0 {
         return;
     }
     if LOWEST_LEAF <= id {
-        fill_leaf(cube, at, side, row, plane, value(facts, id));
+        fill_leaf(cube, at, side, row, plane, value(seen.facts, id));
         return;
     }
     if left == 1 {
-        fill_cells(kids, facts, cube, id, at, row, plane);
+        fill_cells(seen.kids, seen.facts, cube, id, at, row, plane);
         return;
     }
     if left == 2 {
-        fill_smalls(kids, facts, cube, id, at, row, plane);
+        fill_smalls(seen.kids, seen.facts, cube, id, at, row, plane);
         return;
     }
-    fill_octants(kids, facts, cube, id, at, left - 1, side / 2, row, plane);
+    fill_octants(seen, cube, id, at, left - 1, side / 2, row, plane);
 }
 
 // The eight octants of a branch, each of side h, in turn.
 #[cycle(fill_octant_fill_octants)]
 fn fill_octants(
-    kids: &[u64],
-    facts: &[u32],
+    seen: &Seen<'_>,
     cube: &mut [u16],
     id: u64,
     at: usize,
@@ -214,28 +213,28 @@ fn fill_octants(
 )
     requires h_value { (h ≡ 2 ^ left) × (h ≤ 32) × (row ≤ 64) × (plane ≤ 4096) }
     requires h_bound { at + 2 * h * plane + 2 * h * row + 2 * h ≤ length cube.old + plane + row }
-    ensures { cube.new ≡ parts_to (words_in kids.now facts.now) cube_kids row plane left h id at 8 cube.old }
+    ensures { cube.new ≡ parts_to (words_in seen.now.kids.now seen.now.facts.now) cube_kids row plane left h id at 8 cube.old }
 {
     let s = slot_of(id);
     for c in 0..8 {
         let e = at + offset(c, h, row, plane);
-        fill_octant(kids, facts, cube, kid(kids, s, c), e, left, h, row, plane);
+        fill_octant(seen, cube, kid(seen.kids, s, c), e, left, h, row, plane);
     }
 }
 
 // The whole cube of side s: one value where the root is a leaf, else 0 and then the root's octants.
-fn fill_cube(kids: &[u64], facts: &[u32], cube: &mut [u16], id: u64, depth: u32, s: usize)
+fn fill_cube(seen: &Seen<'_>, cube: &mut [u16], id: u64, depth: u32, s: usize)
     requires s_value { (s ≡ 2 ^ depth) × (s ≤ 64) }
     requires s_bound { 0 + s * (s * s) + s * s + s ≤ length cube.old + s * s + s }
-    ensures { cube.new ≡ cube_from (words_in kids.now facts.now) s depth id cube.old }
+    ensures { cube.new ≡ cube_from (words_in seen.now.kids.now seen.now.facts.now) s depth id cube.old }
 {
     let n = cube.len();
     if LOWEST_LEAF <= id {
-        fill_row(cube, 0, n, value(facts, id));
+        fill_row(cube, 0, n, value(seen.facts, id));
         return;
     }
     fill_row(cube, 0, n, 0);
-    fill_octant(kids, facts, cube, id, 0, depth, s, s, s * s);
+    fill_octant(seen, cube, id, 0, depth, s, s, s * s);
 }
 
 // 2^d
@@ -255,24 +254,21 @@ fn is_cube(d: u32, n: usize) -> bool
 }
 
 // Refuses an expansion into a cube of n values by the lowest refusal that applies.
-fn may_expand(
-    arena: Arena,
-    kids: &[u64],
-    facts: &[u32],
-    find: &[u16],
-    id: u64,
-    depth: u32,
-    n: usize,
-) -> Result<(), Refusal>
-    ensures { no_of result ≡ expand_no (before arena kids.now facts.now find.now) id depth n }
+fn may_expand(seen: Seen<'_>, id: u64, depth: u32, n: usize) -> Result<(), Refusal>
+    ensures { no_of result ≡ expand_no (seen_in seen.entry) id depth n }
 {
-    if !fit(arena.capacity, kids.len(), facts.len(), find.len()) {
+    if !fit(
+        seen.capacity,
+        seen.kids.len(),
+        seen.facts.len(),
+        seen.find.len(),
+    ) {
         return Err(Refusal::Size);
     }
     if depth > DEEPEST_CUBE {
         return Err(Refusal::Depth);
     }
-    if !is_live_or_empty(arena.capacity, facts, id) {
+    if !is_live_or_empty(seen.capacity, seen.facts, id) {
         return Err(Refusal::NotLive);
     }
     if !is_cube(depth, n) {
@@ -282,23 +278,10 @@ fn may_expand(
 }
 
 // Writes the cells of the cube of the depth under id, or refuses: 1, 2, 4 or 9.
-// Kept: the number, 0 or the refusal, which C takes as it is.
-pub fn to_vec(
-    arena: Arena,
-    kids: &[u64],
-    facts: &[u32],
-    find: &[u16],
-    id: BlockId,
-    depth: u32,
-    cube: &mut [u16],
-) -> u32
-    ensures { expanded result cube.new ≡ expand_of (before arena kids.now facts.now find.now) id.0 depth cube.old }
+pub fn to_vec(seen: Seen<'_>, id: BlockId, depth: u32, cube: &mut [u16]) -> Result<(), Refusal>
+    ensures { expanded (no_of result) cube.new ≡ expand_of (seen_in seen.entry) id.0 depth cube.old }
 {
-    match may_expand(arena, kids, facts, find, id.0, depth, cube.len()) {
-        Err(refusal) => u32::from(refusal),
-        Ok(()) => {
-            fill_cube(kids, facts, cube, id.0, depth, side_of(depth));
-            0
-        }
-    }
+    may_expand(seen, id.0, depth, cube.len())?;
+    fill_cube(&seen, cube, id.0, depth, side_of(depth));
+    Ok(())
 }

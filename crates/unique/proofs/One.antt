@@ -14,13 +14,15 @@ use Rattle.ids.specs.declared.BlockId.{BlockId}
 use Rattle.paths.specs.declared.IVec3.{IVec3}
 use Rattle.paths.specs.Paths.{Decoded, decoded, ChildIndex, child_index}
 use Rattle.arena.specs.declared.Answer.{Answer}
-use Rattle.arena.specs.declared.Counted.{Counted}
+use Rattle.arena.specs.declared.Counts.{Counts}
 use Rattle.arena.specs.declared.Made.{Made}
-use Rattle.arena.specs.Calls.{Out, Numbers, made_of, answered_of, counted}
+use Rattle.arena.specs.Calls.{Out, Numbers, made_of, answered_of, counted_as}
 use Rattle.arena.specs.Tables.{State, next_in, freed_in, state_in, cap}
-use Rattle.read_cell.specs.Calls.{Expanded, expanded}
+use Rattle.read_cell.specs.declared.Looked.{Looked}
+use Rattle.read_cell.specs.Calls.{Expanded, expanded, looked_as}
 use Rattle.compare.specs.declared.Compared.{Compared}
-use Rattle.compare.specs.Compare.{Outcome, compared}
+use Rattle.compare_list.specs.declared.Found.{Found}
+use Rattle.compare.specs.Compare.{Outcome, answered, compared}
 use Rattle.unique.specs.Asked.{Plain, PlainSaid, PlainMeets, Asked, from_raw, raw, packing_no, new_leaf, new_branch, index, generation, types, mask, has_child, is_leaf, is_branch, is_invalid, is_valid, is_empty, text, path, position, child, parse, fresh, hold, counts, leaf, branch, release, look, expand, edit, enter, compare, check, Left, Said, Meets, Speaks}
 
 -- what a contract equates can be undone: so two that it equates with one are one
@@ -52,16 +54,6 @@ held_one c k e = one (λ (a : Answer × List ℕ). answered_of c a.0 k a.1 e) (�
 id_one : {o : ℕ} (a b : BlockId) → a.0 ≡ o → b.0 ≡ o → a ≡ b
 id_one = one (λ (a : BlockId). a.0) (λ o. record { 0 = o }) (λ a. refl)
 
-counted_one : {o : Numbers} (a b : Counted) → counted a ≡ o → counted b ≡ o → a ≡ b
-counted_one = one counted (λ o. record { no = o.no; holds = o.holds; places = o.places }) (λ a. refl)
-
-expanded_one : {o : Expanded} (a b : ℕ × List ℕ) → expanded a.0 a.1 ≡ o → expanded b.0 b.1 ≡ o → a ≡ b
-expanded_one = one (λ (a : ℕ × List ℕ). expanded a.0 a.1) (λ o. (o.no, o.cube)) (λ a. refl)
-
-compared_one : {o : Outcome} (a b : Compared × List ℕ × List ℕ × List ℕ) → compared a.0 a.1 a.2 a.3 ≡ o → compared b.0 b.1 b.2 b.3 ≡ o → a ≡ b
-compared_one = one (λ (a : Compared × List ℕ × List ℕ × List ℕ). compared a.0 a.1 a.2 a.3)
-    (λ o. (record { no = o.no; count = o.count; opened = o.opened }, o.codes, o.lefts, o.rights)) (λ a. refl)
-
 -- Accepted or refused, an answer is one: no refusal has the number 0, and no two have one.
 result_one : {A O : Type 0} (of : Result A Refusal → O) (number_in : O → ℕ) (value : O → A) → ((r : Result A Refusal) → number_in (of r) ≡ no_of r) → ((x : A) → value (of (Ok x)) ≡ x)
     → {o : O} (a b : Result A Refusal) → of a ≡ o → of b ≡ o → a ≡ b
@@ -83,6 +75,42 @@ child_no (Err r) = refl
 
 child_one : {o : ChildIndex} (a b : Result ℕ Refusal) → child_index a ≡ o → child_index b ≡ o → a ≡ b
 child_one = result_one child_index (λ o. o.no) (λ o. o.index) child_no (λ x. refl)
+
+counted_no : (r : Result Counts Refusal) → (counted_as r).no ≡ no_of r
+counted_no (Ok x) = refl
+counted_no (Err r) = refl
+
+counted_one : {o : Numbers} (a b : Result Counts Refusal) → counted_as a ≡ o → counted_as b ≡ o → a ≡ b
+counted_one = result_one counted_as (λ o. o.no) (λ o. record { holds = o.holds; places = o.places }) counted_no (λ x. refl)
+
+looked_no : (r : Result ℕ Refusal) → (looked_as r).no ≡ no_of r
+looked_no (Ok x) = refl
+looked_no (Err r) = refl
+
+looked_one : {o : Looked} (a b : Result ℕ Refusal) → looked_as a ≡ o → looked_as b ≡ o → a ≡ b
+looked_one = result_one looked_as (λ o. o.no) (λ o. o.value) looked_no (λ x. refl)
+
+done_one : {o : ℕ} (a b : Result (Unit {0}) Refusal) → no_of a ≡ o → no_of b ≡ o → a ≡ b
+done_one = result_one no_of (λ o. o) (λ o. tt) (λ r. refl) (λ x. refl)
+
+expanded_one : {o : Expanded} (a b : Result (Unit {0}) Refusal × List ℕ) → expanded (no_of a.0) a.1 ≡ o → expanded (no_of b.0) b.1 ≡ o → a ≡ b
+expanded_one a b p q =
+    let e = p ∙ sym q in
+    ap₂ (λ (x : Result (Unit {0}) Refusal) (y : List ℕ). (x, y)) (done_one a.0 b.0 (ap (λ (o : Expanded). o.no) e) refl) (ap (λ (o : Expanded). o.cube) e)
+
+answered_no : (r : Result Found Refusal) → (answered r).no ≡ no_of r
+answered_no (Ok x) = refl
+answered_no (Err r) = refl
+
+found_one : {o : Compared} (a b : Result Found Refusal) → answered a ≡ o → answered b ≡ o → a ≡ b
+found_one = result_one answered (λ o. o.no) (λ o. record { cells = o.count; opened = o.opened }) answered_no (λ x. refl)
+
+-- the answer, and the list's parts
+compared_one : {o : Outcome} (a b : Result Found Refusal × List ℕ × List ℕ × List ℕ) → compared (answered a.0) a.1 a.2 a.3 ≡ o → compared (answered b.0) b.1 b.2 b.3 ≡ o → a ≡ b
+compared_one {o} a b p q =
+    let back : Outcome → Compared = λ o. record { no = o.no; count = o.count; opened = o.opened } in
+    let parts : Outcome → List ℕ × List ℕ × List ℕ = λ o. (o.codes, o.lefts, o.rights) in
+    ap₂ (λ (x : Result Found Refusal) (y : List ℕ × List ℕ × List ℕ). (x, y.0, y.1, y.2)) (found_one {o = back o} a.0 b.0 (ap back p) (ap back q)) (ap parts (p ∙ sym q))
 
 same : {A : Type 0} {o : A} (a b : A) → a ≡ o → b ≡ o → a ≡ b
 same a b p q = p ∙ sym q
@@ -123,7 +151,7 @@ determined (counts t c) s = counted_one
 determined (leaf t v) s = λ a b p q. made_one (cap t) a b (p cube_kids deepest (omega arith) s) (q cube_kids deepest (omega arith) s)
 determined (branch t ks) s = λ a b p q. made_one (cap t) a b (p s) (q s)
 determined (release t c) s = λ a b p q. answered_one (cap t) a b (p cube_kids deepest (omega arith) (omega arith) s) (q cube_kids deepest (omega arith) (omega arith) s)
-determined (look t c d p) s = same
+determined (look t c d p) s = looked_one
 determined (expand t c d l) s = expanded_one
 determined (enter t c d k l) s = λ a b p q. made_one (cap t) a b (p s) (q s)
 determined (edit t c d p v) s = λ a b p q. made_one (cap t) a b (p s) (q s)

@@ -1,6 +1,7 @@
 -- The public calls with what they are handed, what each answers and leaves, and its contract as the source has it.
 use Rattle.std.specs.Prelude.{◌≡◌, ◌↔◌, Bool, true, not, Result, List, ℕ, ◌≤◌, eqb}
 use Rattle.basics.specs.Limits.{deepest, cube_kids, kid_words}
+use Rattle.basics.specs.Refusals.{no_of}
 use Rattle.basics.specs.declared.Refusal.{Refusal}
 use Rattle.ids.specs.declared.BlockId.{BlockId}
 use Rattle.ids.specs.Ids as ids
@@ -9,18 +10,17 @@ use Rattle.ids_text.specs.Text.{id_text_of}
 use Rattle.paths.specs.declared.IVec3.{IVec3}
 use Rattle.paths.specs.Paths.{path_of, decoded, decoded_of, child_index, child_index_of}
 use Rattle.arena.specs.declared.Answer.{Answer}
-use Rattle.arena.specs.declared.Counted.{Counted}
+use Rattle.arena.specs.declared.Counts.{Counts}
 use Rattle.arena.specs.declared.Made.{Made}
 use Rattle.arena.specs.Tables.{Tables, cap, WellFormed}
-use Rattle.arena.specs.Calls.{Fair, raw_ids, made_of, answered_of, counted, fresh_of, hold_of, counts_of, intern_leaf_of, intern_branch_of, release_of}
-use Rattle.read_cell.specs.declared.Looked.{Looked}
-use Rattle.read_cell.specs.Calls.{look_of, expanded, expand_of}
+use Rattle.arena.specs.Calls.{Fair, raw_ids, made_of, answered_of, counted_as, fresh_of, hold_of, counts_of, intern_leaf_of, intern_branch_of, release_of}
+use Rattle.read_cell.specs.Calls.{looked_as, look_of, expanded, expand_of}
 use Rattle.edit.specs.Edit.{edit_of}
 use Rattle.metres.specs.declared.Reading.{Reading}
 use Rattle.metres.specs.Record.{reading_of}
 use Rattle.readings.specs.Enter.{enter_of}
-use Rattle.compare.specs.declared.Compared.{Compared}
-use Rattle.compare.specs.Compare.{compared, compare_of}
+use Rattle.compare_list.specs.declared.Found.{Found}
+use Rattle.compare.specs.Compare.{answered, compared, compare_of}
 
 -- ## Calls that are lent no tables
 
@@ -119,30 +119,30 @@ Left R = R × List ℕ × List ℕ × List ℕ
 abbrev pub Said : Asked → Type 0
 Said (fresh c k f e) = Left Answer
 Said (hold t b) = Answer × List ℕ
-Said (counts t b) = Counted
+Said (counts t b) = Result Counts Refusal
 Said (leaf t v) = Left Made
 Said (branch t ks) = Left Made
 Said (release t b) = Left Answer
-Said (look t b d p) = Looked
-Said (expand t b d l) = ℕ × List ℕ
+Said (look t b d p) = Result ℕ Refusal
+Said (expand t b d l) = Result (Unit {0}) Refusal × List ℕ
 Said (edit t b d p v) = Left Made
 Said (enter t b d k l) = Left Made
-Said (compare t x y d c l r) = Compared × List ℕ × List ℕ × List ℕ
+Said (compare t x y d c l r) = Result Found Refusal × List ℕ × List ℕ × List ℕ
 Said (check t) = Bool × List ℕ
 
 -- its contract
 abbrev pub Meets : (q : Asked) → Said q → Type 0
 Meets (fresh c k f e) a = answered_of c a.0 a.1 a.2 a.3 ≡ fresh_of c k f e
 Meets (hold t b) a = answered_of (cap t) a.0 t.nodes.kids a.1 t.find ≡ hold_of t b.0
-Meets (counts t b) a = counted a ≡ counts_of t b.0
+Meets (counts t b) a = counted_as a ≡ counts_of t b.0
 Meets (leaf t v) a = (n tallest : ℕ) → n ≤ kid_words → Fair n tallest t → made_of (cap t) a.0 a.1 a.2 a.3 ≡ intern_leaf_of t v
 Meets (branch t ks) a = Fair cube_kids deepest t → made_of (cap t) a.0 a.1 a.2 a.3 ≡ intern_branch_of cube_kids deepest t (raw_ids ks)
 Meets (release t b) a = (n tallest : ℕ) → n ≤ kid_words → tallest ≤ deepest → Fair n tallest t → answered_of (cap t) a.0 a.1 a.2 a.3 ≡ release_of tallest t b.0
-Meets (look t b d p) a = a ≡ look_of t b.0 d p
-Meets (expand t b d l) a = expanded a.0 a.1 ≡ expand_of t b.0 d l
+Meets (look t b d p) a = looked_as a ≡ look_of t b.0 d p
+Meets (expand t b d l) a = expanded (no_of a.0) a.1 ≡ expand_of t b.0 d l
 Meets (edit t b d p v) a = Fair cube_kids deepest t → made_of (cap t) a.0 a.1 a.2 a.3 ≡ edit_of t b.0 d p v
 Meets (enter t b d k l) a = Fair cube_kids deepest t → made_of (cap t) a.0 a.1 a.2 a.3 ≡ enter_of t b.0 d k l
-Meets (compare t x y d c l r) a = compared a.0 a.1 a.2 a.3 ≡ compare_of t x.0 y.0 d c l r
+Meets (compare t x y d c l r) a = compared (answered a.0) a.1 a.2 a.3 ≡ compare_of t x.0 y.0 d c l r
 Meets (check t) a = ((a.0 ≡ true) ↔ WellFormed cube_kids deepest t) × (a.1 ≡ t.nodes.facts)
 
 -- on which tables it speaks: interning, release, edit and reading on those that are not sized or well formed, all others on any

@@ -8,19 +8,20 @@ ghost use Rattle.unique.specs.Listing.{ListingMeets, start, records, reading_rec
 ghost use Rattle.unique.specs.Exports as exports;
 ghost use Rattle.unique.specs.Exports.{ExportMeets};
 ghost use Rattle.arena.specs.Lent.{before};
+ghost use Rattle.arena.specs.Seen.{seen_in};
 
-use arena::{Answer, Arena, Counted, Made};
+use arena::{Answer, Arena, Counts, Made, Seen};
 use basics::{KID_WORDS, Refusal};
 use capi_ids::Packed;
 use capi_paths::{Cell, Child, Text};
 use compare::Compared;
+use compare_list::Found;
 use ids::BlockId;
 use ids_text::IdText;
 use listing::{Ran, Run, Step};
 use metres::{Reading, ReadingFields};
 use month_listing::{Cells, Side};
 use paths::IVec3;
-use read_cell::Looked;
 
 // ---- calls that are lent no tables
 
@@ -158,10 +159,10 @@ fn hold_meets(arena: Arena, kids: &[u64], facts: &mut [u32], find: &[u16], id: B
     arena_hold::hold(arena, kids, facts, find, id)
 }
 
-fn counts_meets(arena: Arena, kids: &[u64], facts: &[u32], find: &[u16], id: BlockId) -> Counted
-    ensures { Meets (counts (before arena kids.now facts.now find.now) id) result }
+fn counts_meets(seen: Seen<'_>, id: BlockId) -> Result<Counts, Refusal>
+    ensures { Meets (counts (seen_in seen.entry) id) result }
 {
-    arena_hold::counts(arena, kids, facts, find, id)
+    arena_hold::counts(seen, id)
 }
 
 fn leaf_meets(
@@ -200,32 +201,16 @@ fn release_meets(
     arena_release::release(arena, kids, facts, find, id)
 }
 
-fn look_meets(
-    arena: Arena,
-    kids: &[u64],
-    facts: &[u32],
-    find: &[u16],
-    id: BlockId,
-    depth: u32,
-    position: IVec3,
-) -> Looked
-    ensures { Meets (look (before arena kids.now facts.now find.now) id depth position) result }
+fn look_meets(seen: Seen<'_>, id: BlockId, depth: u32, position: IVec3) -> Result<u16, Refusal>
+    ensures { Meets (look (seen_in seen.entry) id depth position) result }
 {
-    read_cell::get_at_depth(arena, kids, facts, find, id, depth, position)
+    read_cell::get_at_depth(seen, id, depth, position)
 }
 
-fn expand_meets(
-    arena: Arena,
-    kids: &[u64],
-    facts: &[u32],
-    find: &[u16],
-    id: BlockId,
-    depth: u32,
-    cube: &mut [u16],
-) -> u32
-    ensures { Meets (expand (before arena kids.now facts.now find.now) id depth cube.old) (result, cube.new) }
+fn expand_meets(seen: Seen<'_>, id: BlockId, depth: u32, cube: &mut [u16]) -> Result<(), Refusal>
+    ensures { Meets (expand (seen_in seen.entry) id depth cube.old) (result, cube.new) }
 {
-    read_cube::to_vec(arena, kids, facts, find, id, depth, cube)
+    read_cube::to_vec(seen, id, depth, cube)
 }
 
 fn edit_meets(
@@ -259,22 +244,17 @@ fn enter_meets(
 }
 
 fn compare_meets(
-    arena: Arena,
-    kids: &[u64],
-    facts: &[u32],
-    find: &[u16],
+    seen: Seen<'_>,
     left: BlockId,
     right: BlockId,
     depth: u32,
     codes: &mut [u32],
     lefts: &mut [u16],
     rights: &mut [u16],
-) -> Compared
-    ensures { Meets (compare (before arena kids.now facts.now find.now) left right depth codes.old lefts.old rights.old) (result, codes.new, lefts.new, rights.new) }
+) -> Result<Found, Refusal>
+    ensures { Meets (compare (seen_in seen.entry) left right depth codes.old lefts.old rights.old) (result, codes.new, lefts.new, rights.new) }
 {
-    compare::compare(
-        arena, kids, facts, find, left, right, depth, codes, lefts, rights,
-    )
+    compare::compare(seen, left, right, depth, codes, lefts, rights)
 }
 
 fn check_meets(arena: Arena, kids: &[u64], facts: &mut [u32], find: &[u16]) -> bool

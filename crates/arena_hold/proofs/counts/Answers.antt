@@ -1,4 +1,5 @@
 use Rattle.std.proofs.Common.{◌≡◌, refl, List, ℕ, sym, ap, ap₂, ◌∙◌, eqb, arith}
+use Rattle.std.proofs.lemmas.Result.{err_from_is_err_and}
 use borrow.Author.Tests.{eq-eqb, ne_eqb, eqb-true, eqb-false}
 use Rattle.basics.specs.Pick.{pick}
 use Rattle.basics.proofs.Refusals.{number_some}
@@ -30,11 +31,14 @@ module _ (a : State) (k f e : List ℕ) (id x : ℕ) (ex : x ≡ there_no (table
   alive s h p z d es eh ep =
       rw (all, eq-eqb x 0 z, ne_eqb id 0 d) (ap₂ (numbers 0) (eh ∙ ap (λ (y : ℕ). fact_of f y holds) es) (ep ∙ ap (λ (y : ℕ). fact_of f y places) es))
 
-pub returns-in-Err : goal.returns-in-Err
-returns-in-Err c = let p = number_some c.in-Err.refusal in let e = c.from.ensures in rw e (refusal _ _ _ _ _ _ c.in-Err.ensures (λ z. omega arith))
+pub returns-in_err-may_name : goal.returns-in_err-may_name
+returns-in_err-may_name c =
+    let p = err_from_is_err_and c.from_residual.result c.from_residual.ensures.1 in
+    let q = number_some c.in_err-may_name.field-0.0 in
+    rw (p.1, p.2) (refusal _ _ _ _ _ _ c.in_err-may_name.ensures (λ z. omega arith))
 
 pub returns-then-is_empty : goal.returns-then-is_empty
-returns-then-is_empty c = nothing _ _ _ _ _ _ c.in_default.ensures refl (eqb-true c.args.id.0 0 (sym c.is_empty.ensures ∙ c.if-is_empty.true))
+returns-then-is_empty c = nothing _ _ _ _ _ _ c.in_ok-may_name.ensures refl (eqb-true c.args.id.0 0 (sym c.is_empty.ensures ∙ c.if-is_empty.true))
 
 pub returns : goal.returns
-returns c = alive _ _ _ _ _ _ c.in_default.ensures _ _ _ refl (eqb-false c.args.id.0 0 (sym c.is_empty.ensures ∙ c.if-is_empty.false)) c.slot_of-s.ensures c.fact.ensures c.fact-2.ensures
+returns c = alive _ _ _ _ _ _ c.in_ok-may_name.ensures _ _ _ refl (eqb-false c.args.id.0 0 (sym c.is_empty.ensures ∙ c.if-is_empty.false)) c.slot_of-s.ensures c.fact.ensures c.fact-2.ensures

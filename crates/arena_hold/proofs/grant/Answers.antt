@@ -8,6 +8,7 @@ use Rattle.arena.specs.Calls.{did, full_of, held_at, hold_no, hold_of, there_no}
 use Rattle.arena.specs.Models.{bumped}
 use Rattle.arena.specs.Tables.{State, Tables, W, tables, tables_of}
 use Rattle.arena.proofs.Fits.{there_law}
+use Rattle.arena.proofs.Seeing.{named_before}
 use Rattle.arena.proofs.Places.{bumped_is}
 use Rattle.arena_hold.proofs.grant.Goals as goal
 
@@ -51,13 +52,13 @@ pub returns-in_err-may_name : goal.returns-in_err-may_name
 returns-in_err-may_name c =
     let p = err_from_is_err_and c.from_residual.result c.from_residual.ensures.1 in
     let q = number_some c.in_err-may_name.field-0.0 in
-    rw (p.1, p.2) (refusal _ _ _ _ _ _ c.in_err-may_name.ensures (λ z. omega arith))
+    rw (p.1, p.2) (refusal _ _ _ _ _ _ (named_before c.seen.result _ _ _ _ c.seen.ensures _ _ c.in_err-may_name.ensures) (λ z. omega arith))
 
 pub returns-then-id : goal.returns-then-id
-returns-then-id c = nothing _ _ _ _ _ 0 c.in_ok-may_name.ensures refl c.if-id.true
+returns-then-id c = nothing _ _ _ _ _ 0 (named_before c.seen.result _ _ _ _ c.seen.ensures _ _ c.in_ok-may_name.ensures) refl c.if-id.true
 
 pub returns-then-fact-ge-MOST_HOLDS : goal.returns-then-fact-ge-MOST_HOLDS
-returns-then-fact-ge-MOST_HOLDS c = full _ _ _ _ _ 0 c.in_ok-may_name.ensures refl _ _ c.if-id.false c.slot_of-s.ensures c.fact.ensures c.if-fact-ge-MOST_HOLDS.true
+returns-then-fact-ge-MOST_HOLDS c = full _ _ _ _ _ 0 (named_before c.seen.result _ _ _ _ c.seen.ensures _ _ c.in_ok-may_name.ensures) refl _ _ c.if-id.false c.slot_of-s.ensures c.fact.ensures c.if-fact-ge-MOST_HOLDS.true
 
 pub returns : goal.returns
-returns c = held _ _ _ _ _ 0 c.in_ok-may_name.ensures refl _ _ c.if-id.false c.slot_of-s.ensures c.fact.ensures _ (omega arith) c.bump.ensures
+returns c = held _ _ _ _ _ 0 (named_before c.seen.result _ _ _ _ c.seen.ensures _ _ c.in_ok-may_name.ensures) refl _ _ c.if-id.false c.slot_of-s.ensures c.fact.ensures _ (omega arith) c.bump.ensures

@@ -14,6 +14,7 @@ use Rattle.arena.specs.Calls.{did, less_of, release_no, there_no}
 use Rattle.arena.specs.Models.{release_any, release_by}
 use Rattle.arena.specs.Tables.{state_in, Tables, W, tables}
 use Rattle.arena.proofs.Fits.{there_law}
+use Rattle.arena.proofs.Seeing.{named_before}
 use Rattle.arena_release.proofs.release_any.Goals as goal
 
 module _ (c slots : ℕ) (k f e : List ℕ) (id x : ℕ) (ex : x ≡ there_no (tables (state_in c slots) k f e) id) where
@@ -63,20 +64,20 @@ pub returns-in_err-may_name : goal.returns-in_err-may_name
 returns-in_err-may_name c =
     let p = err_from_is_err_and c.from_residual.result c.from_residual.ensures.1 in
     let q = number_some c.in_err-may_name.field-0.0 in
-    rw (p.1, p.2) (refusal _ _ _ _ _ _ _ c.in_err-may_name.ensures (λ z. omega arith))
+    rw (p.1, p.2) (refusal _ _ _ _ _ _ _ (named_before c.seen.result _ _ _ _ c.seen.ensures _ _ c.in_err-may_name.ensures) (λ z. omega arith))
 
 pub returns-then-id : goal.returns-then-id
-returns-then-id c = nothing _ _ _ _ _ _ 0 c.in_ok-may_name.ensures refl c.if-id.true
+returns-then-id c = nothing _ _ _ _ _ _ 0 (named_before c.seen.result _ _ _ _ c.seen.ensures _ _ c.in_ok-may_name.ensures) refl c.if-id.true
 
 pub returns-then-h-eq0 : goal.returns-then-h-eq0
-returns-then-h-eq0 c = unheld _ _ _ _ _ _ 0 c.in_ok-may_name.ensures refl _ _ c.if-id.false c.slot_of-s.ensures c.fact-h.ensures _ _ _ refl refl refl c.if-h-eq0.true
+returns-then-h-eq0 c = unheld _ _ _ _ _ _ 0 (named_before c.seen.result _ _ _ _ c.seen.ensures _ _ c.in_ok-may_name.ensures) refl _ _ c.if-id.false c.slot_of-s.ensures c.fact-h.ensures _ _ _ refl refl refl c.if-h-eq0.true
 
 pub returns-then-h-gt1 : goal.returns-then-h-gt1
 returns-then-h-gt1 c =
-    left _ _ _ _ _ _ 0 c.in_ok-may_name.ensures refl _ _ c.if-id.false c.slot_of-s.ensures c.fact-h.ensures c.if-h-eq0.false _ _ _ _ refl refl refl c.if-h-gt1.true
+    left _ _ _ _ _ _ 0 (named_before c.seen.result _ _ _ _ c.seen.ensures _ _ c.in_ok-may_name.ensures) refl _ _ c.if-id.false c.slot_of-s.ensures c.fact-h.ensures c.if-h-eq0.false _ _ _ _ refl refl refl c.if-h-gt1.true
     c.put_fact.ensures
 
 pub returns : goal.returns
 returns c =
-    freed _ _ _ _ _ _ 0 c.in_ok-may_name.ensures refl _ _ c.if-id.false c.slot_of-s.ensures c.fact-h.ensures c.if-h-eq0.false _ _ _ _ (omega arith)
+    freed _ _ _ _ _ _ 0 (named_before c.seen.result _ _ _ _ c.seen.ensures _ _ c.in_ok-may_name.ensures) refl _ _ c.if-id.false c.slot_of-s.ensures c.fact-h.ensures c.if-h-eq0.false _ _ _ _ (omega arith)
     c.take_hold.ensures

@@ -7,7 +7,7 @@ use Rattle.nodes.specs.Words.{own, value, mark, fact_of}
 use Rattle.arena.specs.Calls.{all_of}
 use Rattle.check_freed.specs.Models.{all_in}
 use Rattle.check_arena.specs.Models.{fact_zero, blank_at}
-use Rattle.check_arena.proofs.Ranges.{all_in_range}
+use Rattle.check_freed.proofs.Passes.{all_range}
 use Rattle.check_arena.proofs.blank.Goals as goal
 
 -- as `fact` reads it, which answers 0 of an own word
@@ -23,4 +23,4 @@ pub returns : goal.returns
 unfolding read_zero
 returns c =
     let p = read_zero c.args.facts.now c.args.s in
-    all_from_yields_List p _ _ c.all.result c.all.ensures.ran (YieldsList-from_range value mark _ (cc) refl) (λ x b q k. search rules) ∙ all_in_range p value mark ∙ same c.args.facts.now c.args.s
+    all_from_yields_List p _ _ c.all.result c.all.ensures.ran (YieldsList-from_range value mark _ (cc) refl) (λ x b q k. search rules) ∙ all_range p value mark ∙ same c.args.facts.now c.args.s

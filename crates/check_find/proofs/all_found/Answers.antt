@@ -7,6 +7,6 @@ use Rattle.check_find.proofs.all_found.Goals as goal
 
 pub returns : goal.returns
 returns c =
-    let n = c.args.capacity in
-    all_from_yields_List (found_at c.args.kids.now c.args.facts.now c.args.find.now n) _ _ c.all.result c.all.ensures.ran (YieldsList-from_range 0 n (n - 0) refl refl) (λ x b q k. search (rules, tests))
+    let n = c.args.seen.now.capacity in
+    all_from_yields_List (found_at c.args.seen.now.kids.now c.args.seen.now.facts.now c.args.seen.now.find.now n) _ _ c.all.result c.all.ensures.ran (YieldsList-from_range 0 n (n - 0) refl refl) (λ x b q k. search (rules, tests))
     ∙ all_range _ 0 n

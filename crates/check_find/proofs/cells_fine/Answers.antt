@@ -7,6 +7,6 @@ use Rattle.check_find.proofs.cells_fine.Goals as goal
 
 pub returns : goal.returns
 returns c =
-    let n = length c.args.find.now in
-    all_from_yields_List (cell_fine c.args.kids.now c.args.facts.now c.args.find.now c.args.capacity) _ _ c.all.result c.all.ensures.ran (YieldsList-from_range 0 n (n - 0) refl refl) (λ x b q k. search (rules, tests))
+    let n = length c.args.seen.now.find.now in
+    all_from_yields_List (cell_fine c.args.seen.now.kids.now c.args.seen.now.facts.now c.args.seen.now.find.now c.args.seen.now.capacity) _ _ c.all.result c.all.ensures.ran (YieldsList-from_range 0 n (n - 0) refl refl) (λ x b q k. search (rules, tests))
     ∙ all_range _ 0 n

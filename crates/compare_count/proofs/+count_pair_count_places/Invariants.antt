@@ -1,7 +1,8 @@
 -- so far the first c places, each with at most 8^left cells
 use Prim.Native.Nat.{◌+◌, ◌*◌, ◌^◌, ◌≤◌}
 use mathlib.Core.Path.{◌≡◌}
-use Rattle.nodes.specs.Words.{nodes, word_of}
+use Rattle.arena.specs.Seen.{seen_in}
+use Rattle.arena.specs.Tables.{W}
 use Rattle.compare_count.specs.Models.{places_count}
 use Rattle.compare_count.proofs.+count_pair_count_places.Given as goal
 
@@ -13,4 +14,4 @@ abbrev pub decreases-count_places : goal.decreases-count_places
 decreases-count_places l = 2 * l.left + 1
 
 abbrev pub invariant-count_places-loop-c : goal.invariant-count_places-loop-c
-invariant-count_places-loop-c l = (l.cells ≤ l.c * 8 ^ l.left) × (l.cells ≡ places_count (word_of (nodes l.kids l.facts)) l.left l.a l.b l.c)
+invariant-count_places-loop-c l = (l.cells ≤ l.c * 8 ^ l.left) × (l.cells ≡ places_count (W (seen_in l.seen)) l.left l.a l.b l.c)

@@ -11,7 +11,7 @@ pair-returns-then-left-eq1-clause-laid t c = search pair_cells
 
 pub pair-returns-then-left-eq1-clause-at_bound : goal.pair-returns-then-left-eq1-clause-at_bound
 pair-returns-then-left-eq1-clause-at_bound t c =
-    few c.args.kids.now c.args.facts.now c.args.left c.args.base c.args.a c.args.b _ _ _ _ c.args.list.now.codes.now c.args.list.now.lefts.now c.args.list.now.rights.now c.eight_cells.new.list.codes.now
+    few c.args.seen.now.kids.now c.args.seen.now.facts.now c.args.left c.args.base c.args.a c.args.b _ _ _ _ c.args.list.now.codes.now c.args.list.now.lefts.now c.args.list.now.rights.now c.eight_cells.new.list.codes.now
     c.eight_cells.new.list.lefts.now c.eight_cells.new.list.rights.now c.requires.size_value.0 (search pair_cells)
 
 pub pair-returns-then-goes_on-clause-laid : goal.pair-returns-then-goes_on-clause-laid
@@ -19,7 +19,7 @@ pair-returns-then-goes_on-clause-laid t c = search pair_places
 
 pub pair-returns-then-goes_on-clause-at_bound : goal.pair-returns-then-goes_on-clause-at_bound
 pair-returns-then-goes_on-clause-at_bound t c =
-    few c.args.kids.now c.args.facts.now c.args.left c.args.base c.args.a c.args.b _ _ _ _ c.args.list.now.codes.now c.args.list.now.lefts.now c.args.list.now.rights.now c.places.new.list.codes.now
+    few c.args.seen.now.kids.now c.args.seen.now.facts.now c.args.left c.args.base c.args.a c.args.b _ _ _ _ c.args.list.now.codes.now c.args.list.now.lefts.now c.args.list.now.rights.now c.places.new.list.codes.now
     c.places.new.list.lefts.now c.places.new.list.rights.now c.requires.size_value.0 (search pair_places)
 
 pub pair-returns-clause-laid : goal.pair-returns-clause-laid
@@ -27,7 +27,7 @@ pair-returns-clause-laid t c = search pair_block
 
 pub pair-returns-clause-at_bound : goal.pair-returns-clause-at_bound
 pair-returns-clause-at_bound t c =
-    few c.args.kids.now c.args.facts.now c.args.left c.args.base c.args.a c.args.b _ _ _ _ c.args.list.now.codes.now c.args.list.now.lefts.now c.args.list.now.rights.now c.block.new.list.codes.now
+    few c.args.seen.now.kids.now c.args.seen.now.facts.now c.args.left c.args.base c.args.a c.args.b _ _ _ _ c.args.list.now.codes.now c.args.list.now.lefts.now c.args.list.now.rights.now c.block.new.list.codes.now
     c.block.new.list.lefts.now c.block.new.list.rights.now c.requires.size_value.0 (search pair_block)
 
 pub pair-overflow_sub-left : goal.pair-overflow_sub-left

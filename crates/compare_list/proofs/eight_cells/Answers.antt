@@ -1,12 +1,32 @@
-use borrow.Author.Rules.{rules}
-use Rattle.compare_list.proofs.Steps.{branch_known, end_known, right_branch}
+use Rattle.std.proofs.Common.{rules, false, refl, ◌∙◌}
+use Rattle.compare_pairs.proofs.Places.{branch_place, end_place, other_branch}
+use Rattle.compare_list.proofs.Steps.{eight_places}
 use Rattle.compare_list.proofs.eight_cells.Goals as goal
 
-pub right_cells-requires : goal.right_cells-requires
-right_cells-requires c = record { a_value = (search end_known, search right_branch, search rules, search rules) }
+pub returns-then-is_end-clause-laid : goal.returns-then-is_end-clause-laid
+returns-then-is_end-clause-laid c =
+    let k = c.args.seen.now.kids.now in
+    let f = c.args.seen.now.facts.now in
+    let z = c.if-is_end.true in
+    eight_places _ _ _ _ _ _ _ _ _ _ _ _
+    (c.put_eight.ensures.laid _ _
+    (λ i y l q. search rules ∙ end_place k f _ _ c.is_end.ensures i _ z c.value-u.ensures)
+    (λ i y l q. branch_place k f _ false (other_branch k f _ _ c.is_end.ensures _ z c.requires.b_value.0) _ _ i y refl c.children-row.ensures c.slot_of.ensures l (search rules)))
 
-pub left_cells-requires : goal.left_cells-requires
-left_cells-requires c = record { a_value = (branch_known _ _ c.is_end.ensures c.if-is_end.false, end_known _ _ c.is_end-2.ensures c.if-is_end-2.true, search rules, search rules) }
+pub returns-then-is_end-2-clause-laid : goal.returns-then-is_end-2-clause-laid
+returns-then-is_end-2-clause-laid c =
+    let k = c.args.seen.now.kids.now in
+    let f = c.args.seen.now.facts.now in
+    eight_places _ _ _ _ _ _ _ _ _ _ _ _
+    (c.put_eight-then-is_end-2.ensures.laid _ _
+    (λ i y l q. branch_place k f _ _ c.is_end.ensures _ _ i y c.if-is_end.false c.children-row-then-is_end-2.ensures c.slot_of-then-is_end-2.ensures l (search rules))
+    (λ i y l q. search rules ∙ end_place k f _ _ c.is_end-2.ensures i _ c.if-is_end-2.true c.value-v.ensures))
 
-pub both_cells-requires : goal.both_cells-requires
-both_cells-requires c = record { a_value = (branch_known _ _ c.is_end.ensures c.if-is_end.false, branch_known _ _ c.is_end-2.ensures c.if-is_end-2.false, search rules, search rules) }
+pub returns-clause-laid : goal.returns-clause-laid
+returns-clause-laid c =
+    let k = c.args.seen.now.kids.now in
+    let f = c.args.seen.now.facts.now in
+    eight_places _ _ _ _ _ _ _ _ _ _ _ _
+    (c.put_eight-2.ensures.laid _ _
+    (λ i y l q. branch_place k f _ _ c.is_end.ensures _ _ i y c.if-is_end.false c.children-us.ensures c.slot_of-2.ensures l (search rules))
+    (λ i y l q. branch_place k f _ _ c.is_end-2.ensures _ _ i y c.if-is_end-2.false c.children-vs.ensures c.slot_of-3.ensures l (search rules)))

@@ -16,7 +16,8 @@ use Rattle.arena.specs.declared.Made.{Made}
 use Rattle.edit_way.specs.Models.{eight_parts, hash_over}
 use Rattle.edit_way.proofs.Words.{part_kids, parts_kids, hash_facts}
 use Rattle.edit_make.specs.Models.{sum_over, height_over, resum, with_bit, types_over, mask_over, placed_over, branch_anew_by, up_by}
-use Rattle.edit_make.proofs.Steps.{height_facts, value_facts, tall_facts, sum_facts}
+use Rattle.edit_plan.proofs.Plans.{value_facts}
+use Rattle.edit_make.proofs.Steps.{height_facts, tall_facts, sum_facts}
 use Rattle.edit_make.proofs.branch_over.Goals as goal
 
 done : (n : ℕ) (low : Made) (k f e : List ℕ) (a c h q : ℕ) (ks m all : List ℕ) (was y w s x g up v z kt to km mo ty ma : ℕ) (lf em : Bool) (r : Out) → c < 8
@@ -32,7 +33,7 @@ done n low k f e a c h q ks m all was y w s x g up v z kt to km mo ty ma lf em r
 
 pub returns : goal.returns
 returns c =
-    done _ _ _ _ _ _ _ _ _ _ _ _ _ _ _ _ _ _ _ _ _ _ _ _ _ _ _ _ _ _ c.requires c.parts-ks.ensures c.part-was.ensures c.hash_over.ensures c.rehash-hash.ensures c.sum_over-sum.ensures
+    done _ _ _ _ _ _ _ _ _ _ _ _ _ _ _ _ _ _ _ _ _ _ _ _ _ _ _ _ _ _ c.requires c.parts-ks.ensures c.part_of-was.ensures c.hash_over.ensures c.rehash-hash.ensures c.sum_over-sum.ensures
     c.value_at-x.ensures c.height_at-g.ensures c.place_others.ensures c.with_part-all.ensures c.height_over-up.ensures c.value_at.ensures
     c.resum-total.ensures c.types.ensures c.byte_over.ensures c.is_leaf.ensures c.with_bit-types.ensures c.mask.ensures c.byte_over-2.ensures c.is_empty.ensures
     c.with_bit-mask.ensures c.branch_anew.ensures

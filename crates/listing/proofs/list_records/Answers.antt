@@ -1,5 +1,5 @@
 -- Each record is entered and listed after the ones before it, by the lemmas of proofs/Blocks.antt.
-use Rattle.std.proofs.Common.{rules, arith, ap, ◌∙◌, ◌<◌, ◌≤◌, ◌^◌, length, ℕ}
+use Rattle.std.proofs.Common.{rules, arith, ap, ◌∙◌, ◌<◌, ◌^◌, length, ℕ}
 use Rattle.listing.specs.Listing.{record_in}
 use Rattle.listing.proofs.Blocks.{loop_begun, next_room, again, loop_told}
 use Rattle.listing.proofs.list_records.Goals as goal

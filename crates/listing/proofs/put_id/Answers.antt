@@ -1,4 +1,4 @@
-use Rattle.std.proofs.Common.{◌≤◌, length, ap, ◌∙◌, arith}
+use Rattle.std.proofs.Common.{length, ap, ◌∙◌, arith}
 use Rattle.lines.proofs.Pieces.{wrote_text}
 use Rattle.listing.proofs.Puts.{id_is}
 use Rattle.listing.proofs.put_id.Goals as goal

@@ -15,4 +15,4 @@ decreases-fill_octants l = 2 * l.left + 1
 
 abbrev pub invariant-fill_octants-loop-c : goal.invariant-fill_octants-loop-c
 invariant-fill_octants-loop-c l =
-    (l.cube ≡ parts_to (word_of (nodes l.kids l.facts)) 8 l.row l.plane l.left l.h l.fn.id l.at l.c l.initial.cube) × (length l.cube ≡ length l.initial.cube) × (l.s ≡ slot l.fn.id)
+    (l.cube ≡ parts_to (word_of (nodes l.seen.kids.now l.seen.facts.now)) 8 l.row l.plane l.left l.h l.fn.id l.at l.c l.initial.cube) × (length l.cube ≡ length l.initial.cube) × (l.s ≡ slot l.fn.id)
