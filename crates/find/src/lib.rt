@@ -49,16 +49,18 @@ fn probe<F: Fn(usize) -> bool>(find: &[u16], from: usize, is: F) -> Found
     ensures cell { (same : ℕ → Bool) → ((x : ℕ) (b : Bool) → F.post is x b → b ≡ same x) → result.cell ≡ probe same find.now from }
     ensures slot { result.slot ≡ get_or find.now result.cell 0 }
 {
-    for i in from..find.len() {
+    let mut i = from;
+    let slot = loop {
+        if find.len() <= i {
+            break 0;
+        }
         let slot = usize::from(find[i]);
         if slot == 0 || is(slot) {
-            return Found { slot, cell: i };
+            break slot;
         }
-    }
-    Found {
-        slot: 0,
-        cell: find.len().max(from),
-    }
+        i += 1;
+    };
+    Found { slot, cell: i }
 }
 
 // The first cell from `from` on that is empty or names s, or the table's end.

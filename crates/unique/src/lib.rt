@@ -10,7 +10,7 @@ ghost use Rattle.unique.specs.Exports.{ExportMeets};
 ghost use Rattle.arena.specs.Lent.{before};
 ghost use Rattle.arena.specs.Seen.{seen_in};
 
-use arena::{Answer, Arena, Counts, Made, Seen};
+use arena::{Answer, Arena, Counted, Counts, Made, Seen};
 use basics::{KID_WORDS, Refusal};
 use capi_ids::Packed;
 use capi_paths::{Cell, Child, Text};
@@ -22,6 +22,7 @@ use listing::{Ran, Run, Step};
 use metres::{Reading, ReadingFields};
 use month_listing::{Cells, Side};
 use paths::IVec3;
+use read_cell::Looked;
 
 // ---- calls that are lent no tables
 
@@ -263,7 +264,7 @@ fn check_meets(arena: Arena, kids: &[u64], facts: &mut [u32], find: &[u16]) -> b
     check_arena::check_arena(arena, kids, facts, find)
 }
 
-// ---- exports that answer in a record of their own
+// ---- exports that answer otherwise than the calls of the same names
 
 fn exported_leaf_meets(place: u32, turn: u16) -> Packed
     ensures { ExportMeets (exports.new_leaf place turn) result }
@@ -299,6 +300,65 @@ fn exported_parse_meets(bytes: &[u8]) -> ReadingFields
     ensures { ExportMeets (exports.parse bytes.now) result }
 {
     capi_readings::fenpiling_parse_reading(bytes)
+}
+
+fn exported_counts_meets(
+    arena: Arena,
+    kids: &[u64],
+    facts: &[u32],
+    find: &[u16],
+    id: u64,
+) -> Counted
+    ensures { ExportMeets (exports.counts (before arena kids.now facts.now find.now) id) result }
+{
+    capi_arena::fenpiling_counts(arena, kids, facts, find, id)
+}
+
+fn exported_look_meets(
+    arena: Arena,
+    kids: &[u64],
+    facts: &[u32],
+    find: &[u16],
+    id: u64,
+    depth: u32,
+    position: IVec3,
+) -> Looked
+    ensures { ExportMeets (exports.look (before arena kids.now facts.now find.now) id depth position) result }
+{
+    capi_model::fenpiling_get_at_depth(arena, kids, facts, find, id, depth, position)
+}
+
+fn exported_expand_meets(
+    arena: Arena,
+    kids: &[u64],
+    facts: &[u32],
+    find: &[u16],
+    id: u64,
+    depth: u32,
+    cube: &mut [u16],
+) -> u32
+    ensures { ExportMeets (exports.expand (before arena kids.now facts.now find.now) id depth cube.old) (result, cube.new) }
+{
+    capi_model::fenpiling_to_vec(arena, kids, facts, find, id, depth, cube)
+}
+
+fn exported_compare_meets(
+    arena: Arena,
+    kids: &[u64],
+    facts: &[u32],
+    find: &[u16],
+    left: u64,
+    right: u64,
+    depth: u32,
+    codes: &mut [u32],
+    lefts: &mut [u16],
+    rights: &mut [u16],
+) -> Compared
+    ensures { ExportMeets (exports.compare (before arena kids.now facts.now find.now) left right depth codes.old lefts.old rights.old) (result, codes.new, lefts.new, rights.new) }
+{
+    capi_compare::fenpiling_compare(
+        arena, kids, facts, find, left, right, depth, codes, lefts, rights,
+    )
 }
 
 // ---- the listings of edit records, of readings and of two months
