@@ -95,7 +95,8 @@ fn has_room(seen: Seen<'_>, a: u64, b: u64, depth: u32, room: usize) -> bool
     requires { depth ≤ deepest }
     ensures { result ≡ leb (length (differing cube_kids (W (seen_in seen.entry)) depth a b)) room }
 {
-    1usize << (3 * depth) <= room || count_differing(seen, a, b, depth) as usize <= room
+    1usize << (3 * depth) <= room
+        || count_differing(seen.kids, seen.facts, a, b, depth) as usize <= room
 }
 
 // Lists the cells of a cube of the depth in which two roots differ, in rising path code with both values, and says how many they are and how many pairs of ids were opened; or refuses: 1, 2, 4, 8 or 15.
@@ -122,5 +123,7 @@ pub fn compare(
     if !has_room(seen, left.0, right.0, depth, codes.len()) {
         return Err(Refusal::ShortList);
     }
-    Ok(write_differing(seen, left.0, right.0, depth, codes, lefts, rights))
+    Ok(write_differing(
+        seen.kids, seen.facts, left.0, right.0, depth, codes, lefts, rights,
+    ))
 }

@@ -3,6 +3,7 @@
 
 ghost use Rattle.std.specs.Prelude.{◌≡◌, true, ℕ, ◌<◌, ◌≤◌};
 ghost use Rattle.basics.specs.Limits.{deepest, cube_kids};
+ghost use Rattle.nodes.specs.Lent.{words_in};
 ghost use Rattle.arena.specs.Seen.{seen_in};
 ghost use Rattle.arena.specs.Tables.{W};
 ghost use Rattle.compare_pairs.specs.Models.{goes_on};
@@ -100,11 +101,19 @@ fn count_places(seen: &Seen<'_>, a: u64, b: u64, left: u32) -> u32
 }
 
 // In how many cells of a cube of the depth two ids differ; of a depth above 6 in none.
-pub fn count_differing(seen: Seen<'_>, a: u64, b: u64, depth: u32) -> u32
-    ensures { result ≡ count_of (W (seen_in seen.entry)) a b depth }
+pub fn count_differing(kids: &[u64], facts: &[u32], a: u64, b: u64, depth: u32) -> u32
+    ensures { result ≡ count_of (words_in kids.now facts.now) a b depth }
 {
     if DEEPEST < depth {
         return 0;
     }
+    // The walk reads the nodes alone: it asks for no state and no finding table.
+    let seen = Seen {
+        capacity: 0,
+        slots: 0,
+        kids,
+        facts,
+        find: &[],
+    };
     count_pair(&seen, a, b, depth)
 }

@@ -3,6 +3,7 @@
 
 ghost use Rattle.std.specs.Prelude.{◌≡◌, true, ℕ, ◌+◌, ◌*◌, ◌^◌, ◌<◌, ◌≤◌, length, set};
 ghost use Rattle.basics.specs.Limits.{deepest, cube_kids};
+ghost use Rattle.nodes.specs.Lent.{words_in};
 ghost use Rattle.arena.specs.Seen.{seen_in};
 ghost use Rattle.arena.specs.Tables.{W};
 ghost use Rattle.compare_pairs.specs.Differing.{if_differs, differing, opened as opened_in};
@@ -243,7 +244,8 @@ fn write_cells(
 // Writes the cells of a cube of the depth in which two ids differ, in rising path code with both values, as far as the list has room; answers how many they are, and how many pairs were
 // opened. Writes nothing, and answers none, where the parts of the list differ in length or the depth is above 6.
 pub fn write_differing(
-    seen: Seen<'_>,
+    kids: &[u64],
+    facts: &[u32],
     a: u64,
     b: u64,
     depth: u32,
@@ -251,7 +253,7 @@ pub fn write_differing(
     lefts: &mut [u16],
     rights: &mut [u16],
 ) -> Found
-    ensures { wrote result codes.new lefts.new rights.new ≡ written_of (W (seen_in seen.entry)) a b depth codes.old lefts.old rights.old }
+    ensures { wrote result codes.new lefts.new rights.new ≡ written_of (words_in kids.now facts.now) a b depth codes.old lefts.old rights.old }
 {
     if lefts.len() != codes.len() || rights.len() != codes.len() || DEEPEST < depth {
         return Found {
@@ -259,5 +261,13 @@ pub fn write_differing(
             opened: 0,
         };
     }
+    // The walk reads the nodes alone: it asks for no state and no finding table.
+    let seen = Seen {
+        capacity: 0,
+        slots: 0,
+        kids,
+        facts,
+        find: &[],
+    };
     write_cells(&seen, a, b, depth, codes, lefts, rights)
 }

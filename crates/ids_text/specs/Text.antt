@@ -1,5 +1,6 @@
 -- The text form of an id: any 64-bit number has one.
-use Rattle.std.specs.Prelude.{List, [], ◌∷◌, ◌++◌, ℕ, zero, suc, ◌+◌, ◌-◌, ◌/◌, ◌%◌, ◌^◌, eqb, ltb, length, replicate}
+use Rattle.std.specs.Prelude.{List, [], ◌∷◌, ◌++◌, ℕ, zero, suc, ◌+◌, ◌-◌, ◌/◌, ◌%◌, ◌^◌, eqb, ltb, length, replicate, take}
+use Rattle.std.specs.Str.{is_utf8}
 use Rattle.basics.specs.Pick.{pick}
 use Rattle.basics.specs.Codes.{codes}
 use Rattle.ids_text.specs.declared.IdText.{IdText}
@@ -36,3 +37,7 @@ padded s = record { bytes = s ++ replicate (41 - length s) 0; len = length s }
 
 abbrev pub id_text_of : ℕ → IdText
 id_text_of raw = padded (text_of raw)
+
+-- What printing writes of such an answer: its bytes up to its length, if they are UTF-8, else nothing.
+unfoldable pub shown : IdText → List ℕ
+shown text = let bytes = take text.len text.bytes in pick (is_utf8 bytes) bytes []

@@ -1,13 +1,13 @@
 // The text of an id.
 #![tactic(auto)]
 
-ghost use Rattle.std.specs.Prelude.{◌≡◌, ◌+◌, ◌<◌, ◌≤◌, take};
+ghost use Rattle.std.specs.Prelude.{◌≡◌, Some, ◌+◌, ◌<◌, ◌≤◌, take};
 ghost use Rattle.basics.specs.Codes.{codes};
 ghost use Rattle.basics.specs.Puts.{puts_from};
-ghost use Rattle.ids_text.specs.Text.{digit as digit_of, hex, leaf_text, branch_text, padded, id_text_of};
+ghost use Rattle.ids_text.specs.Text.{digit as digit_of, hex, leaf_text, branch_text, padded, id_text_of, shown};
 
 use ids::BlockId;
-use std::fmt;
+use std::{fmt, str};
 
 // A text of at most 41 bytes; those from `len` on are 0.
 // Kept: `len` stands in no invariant, since the definition `padded` is such a value for every list, however long.
@@ -26,12 +26,15 @@ impl IdText {
     }
 }
 
+// As the text is; nothing of bytes that are not UTF-8, which no id's text has.
 impl fmt::Display for IdText {
+    ghost output = { λ text. Some (shown text) };
+
     fn fmt<W: fmt::Write>(&self, f: &mut fmt::Formatter<W>) -> fmt::Result {
-        for byte in self.as_bytes() {
-            write!(f, "{}", char::from(*byte))?;
+        match str::from_utf8(self.as_bytes()) {
+            Ok(text) => f.write_str(text),
+            Err(_) => f.write_str(""),
         }
-        Ok(())
     }
 }
 
