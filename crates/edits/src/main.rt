@@ -9,7 +9,8 @@
 
 use edit_listing::{RECORD, edit_records};
 use std::io::Read;
-use streams::{CELLS, FACTS, KIDS, SLOTS, Streams};
+use std::rt::Env;
+use streams::{ARGUMENT, After, CELLS, FACTS, KIDS, SLOTS, is_given, open, read_block, say};
 
 const NAME: &str = "edits";
 
@@ -19,7 +20,7 @@ const BLOCK: usize = 64;
 const LINES: usize = 672;
 
 // Edits by the records of the input; None where something failed.
-fn list(rt: &impl Streams, input: &mut impl Read) -> Option<()> {
+fn list(rt: &(impl Print + Eprint + Alloc), input: &mut impl Read) -> Option<()> {
     let mut kids = [0u64; KIDS];
     let mut facts = [0u32; FACTS];
     let mut find = [0u16; CELLS];
@@ -31,32 +32,43 @@ fn list(rt: &impl Streams, input: &mut impl Read) -> Option<()> {
     let mut run = start.run;
     let mut block = [0u8; BLOCK];
     let mut lines = [0u8; LINES];
-    let last = rt.each_block(
-        NAME,
-        input,
-        RECORD,
-        &mut block,
-        &mut lines,
-        |records, out| {
-            let ran = edit_records(run, &mut kids, &mut facts, &mut find, records, out);
-            run = ran.run;
-            ran.len
-        },
-    )?;
-    let len = listing::ending(run, last % RECORD, &mut lines);
-    rt.say(NAME, &lines, len)
+    // A proved loop has to end, and nothing says that the input does: so the blocks are counted, up to a number that no input uses up.
+    for _ in 0..u64::MAX {
+        let (read, after) = read_block(rt, NAME, input, RECORD, &mut block);
+        let ran = edit_records(
+            run,
+            &mut kids,
+            &mut facts,
+            &mut find,
+            &block[..read],
+            &mut lines,
+        );
+        run = ran.run;
+        say(rt, NAME, &lines, ran.len)?;
+        match after {
+            After::More => {}
+            After::End => {
+                let len = listing::ending(run, read % RECORD, &mut lines);
+                return say(rt, NAME, &lines, len);
+            }
+            After::Failure => return None,
+        }
+    }
+    None
 }
 
 fn main(rt: HostRuntime) {
-    if !rt.is_given(1) {
+    if !is_given(rt.arg(1, &mut [])) {
         list(&rt, &mut rt.stdin());
         return;
     }
-    if rt.is_given(2) {
+    if is_given(rt.arg(2, &mut [])) {
         let _ = eprintln!(rt; "{NAME}: one file at most");
         return;
     }
-    if let Some(mut file) = rt.open(NAME, 1) {
+    let mut name = [0u8; ARGUMENT];
+    let argument = rt.arg(1, &mut name);
+    if let Some(mut file) = open(&rt, NAME, argument, &name) {
         list(&rt, &mut file);
     }
 }

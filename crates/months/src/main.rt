@@ -17,7 +17,8 @@ use ids::BlockId;
 use listing::Run;
 use month_listing::{Side, cell_lines, closing, second_side, side_records, side_short};
 use std::io::Read;
-use streams::{CELLS, FACTS, KIDS, SLOTS, Streams};
+use std::rt::Env;
+use streams::{ARGUMENT, After, CELLS, FACTS, KIDS, SLOTS, is_given, open, read_block, say};
 
 const NAME: &str = "months";
 
@@ -31,7 +32,7 @@ const LINES: usize = 1008;
 
 // Edits by the records of a file, from a run on, and writes the lines of the refused ones; answers the run at its end, or None where something failed.
 fn enter_file(
-    rt: &impl Streams,
+    rt: &(impl Print + Eprint + Alloc),
     side: Side,
     input: &mut impl Read,
     first: Run,
@@ -42,26 +43,28 @@ fn enter_file(
     let mut run = first;
     let mut block = [0u8; BLOCK];
     let mut lines = [0u8; LINES];
-    let last = rt.each_block(
-        NAME,
-        input,
-        RECORD,
-        &mut block,
-        &mut lines,
-        |records, out| {
-            let ran = side_records(side, run, kids, facts, find, records, out);
-            run = ran.run;
-            ran.len
-        },
-    )?;
-    let len = side_short(side, last % RECORD, &mut lines);
-    rt.say(NAME, &lines, len)?;
-    Some(run)
+    // A proved loop has to end, and nothing says that the input does: so the blocks are counted, up to a number that no input uses up.
+    for _ in 0..u64::MAX {
+        let (read, after) = read_block(rt, NAME, input, RECORD, &mut block);
+        let ran = side_records(side, run, kids, facts, find, &block[..read], &mut lines);
+        run = ran.run;
+        say(rt, NAME, &lines, ran.len)?;
+        match after {
+            After::More => {}
+            After::End => {
+                let len = side_short(side, read % RECORD, &mut lines);
+                say(rt, NAME, &lines, len)?;
+                return Some(run);
+            }
+            After::Failure => return None,
+        }
+    }
+    None
 }
 
 // Writes the lines of the first cells of the list; None where that failed.
 fn say_cells(
-    rt: &impl Streams,
+    rt: &(impl Print + Eprint + Alloc),
     codes: &[u32],
     lefts: &[u16],
     rights: &[u16],
@@ -72,7 +75,7 @@ fn say_cells(
     while from < count {
         let mut lines = [0u8; LINES];
         let block = cell_lines(codes, lefts, rights, from, count, &mut lines);
-        rt.say(NAME, &lines, block.len)?;
+        say(rt, NAME, &lines, block.len)?;
         from += block.cells;
     }
     Some(())
@@ -80,7 +83,7 @@ fn say_cells(
 
 // Compares the two roots and writes what came of it.
 fn say_outcome(
-    rt: &impl Streams,
+    rt: &(impl Print + Eprint + Alloc),
     run: Run,
     kids: &[u64],
     facts: &[u32],
@@ -102,11 +105,15 @@ fn say_outcome(
     say_cells(rt, &codes, &lefts, &rights, compared.count as usize)?;
     let mut lines = [0u8; LINES];
     let len = closing(compared, run, &mut lines);
-    rt.say(NAME, &lines, len)
+    say(rt, NAME, &lines, len)
 }
 
 // Enters both files and compares them; None where something failed.
-fn list(rt: &impl Streams, left: &mut impl Read, right: &mut impl Read) -> Option<()> {
+fn list(
+    rt: &(impl Print + Eprint + Alloc),
+    left: &mut impl Read,
+    right: &mut impl Read,
+) -> Option<()> {
     let mut kids = [0u64; KIDS];
     let mut facts = [0u32; FACTS];
     let mut find = [0u16; CELLS];
@@ -138,16 +145,19 @@ fn list(rt: &impl Streams, left: &mut impl Read, right: &mut impl Read) -> Optio
 }
 
 fn main(rt: HostRuntime) {
-    if !rt.is_given(2) || rt.is_given(3) {
+    if !is_given(rt.arg(2, &mut [])) || is_given(rt.arg(3, &mut [])) {
         let _ = eprintln!(rt;
             "usage: months A B, two files of edit records: their differing cells"
         );
         return;
     }
-    let Some(mut left) = rt.open(NAME, 1) else {
+    let mut name = [0u8; ARGUMENT];
+    let argument = rt.arg(1, &mut name);
+    let Some(mut left) = open(&rt, NAME, argument, &name) else {
         return;
     };
-    let Some(mut right) = rt.open(NAME, 2) else {
+    let argument = rt.arg(2, &mut name);
+    let Some(mut right) = open(&rt, NAME, argument, &name) else {
         return;
     };
     list(&rt, &mut left, &mut right);

@@ -1,11 +1,12 @@
 // What the programs over files of records share: how they read and write in blocks, open the file that an argument names, and say what fails.
 #![tactic(auto)]
 
-ghost use Rattle.std.specs.Prelude.{◌+◌, ◌<◌, ◌≤◌, length, IfOk, IfErr, IfSome};
+ghost use Rattle.std.specs.Prelude.{◌≡◌, ◌+◌, ◌<◌, ◌≤◌, length, take, IfOk, IfErr, IsOkAnd, IsSome, IsUtf8};
+ghost use Rattle.streams.specs.Streams.{is_given, Holds};
 
 use std::env::FillError;
 use std::io::Read;
-use std::rt::{Env, Files};
+use std::rt::Files;
 use std::{fs, io, str};
 
 // The slots of a program's arena. Its tables have 8 and 11 words and 5 cells a slot, 60,416 bytes.
@@ -24,6 +25,14 @@ pub const ARGUMENT: usize = 4096;
 struct Broken {
     len: usize,
     error: io::Error,
+}
+
+// What comes after a block: maybe more, or the end of the input, or nothing, since a read failed.
+#[derive(Clone, Copy)]
+pub enum After {
+    More,
+    End,
+    Failure,
 }
 
 // Reads until the block is full or the input ends: a record may come in two reads. Answers how many bytes that is.
@@ -51,87 +60,82 @@ fn reason(text: &str) -> &str {
     }
 }
 
-// What a program does with its arguments and its streams. Where something fails, it says so on standard error and answers None.
-pub trait Streams: Env + Files + Print + Eprint + Alloc {
-    // Says who failed, at what, and for what reason.
-    fn fail(&self, who: &str, at: &str, error: io::Error) {
-        let _ = match format!(in self.alloc(); "{error}") {
-            Ok(text) => eprintln!(self; "{who}{at}: {}", reason(text.as_str())),
-            Err(_) => eprintln!(self; "{who}{at}: {error}"),
-        };
-    }
+// Says on standard error who failed, at what, and for what reason.
+fn fail(rt: &(impl Eprint + Alloc), who: &str, at: &str, error: io::Error) {
+    let _ = match format!(in rt.alloc(); "{error}") {
+        Ok(text) => eprintln!(rt; "{who}{at}: {}", reason(text.as_str())),
+        Err(_) => eprintln!(rt; "{who}{at}: {error}"),
+    };
+}
 
-    // Whether an argument of this number was given; the program's name is number 0.
-    fn is_given(&self, number: usize) -> bool {
-        !matches!(self.arg(number, &mut []), Err(FillError::NotPresent))
-    }
+// Whether an argument was given, by what came of reading it.
+pub fn is_given(argument: Result<usize, FillError>) -> bool
+    ensures { result ≡ is_given argument }
+{
+    !matches!(argument, Err(FillError::NotPresent))
+}
 
-    // Opens the file that an argument names, by a name in UTF-8.
-    fn open(&self, program: &str, number: usize) -> Option<Self::File> {
-        let mut name = [0u8; ARGUMENT];
-        let Ok(length) = self.arg(number, &mut name) else {
-            let _ = eprintln!(self; "{program}: the file's name: File name too long");
-            return None;
-        };
-        let Ok(path) = str::from_utf8(&name[..length]) else {
-            let _ = eprintln!(self; "{program}: the file's name: not UTF-8");
-            return None;
-        };
-        match fs::open(self, path) {
-            Ok(file) => Some(file),
-            Err(error) => {
-                self.fail(path, "", error);
-                None
-            }
+// Opens the file that an argument names: the argument's bytes are the first ones of `name`, and have to be UTF-8. Says what fails on standard error.
+pub fn open<R: Files + Eprint + Alloc>(
+    rt: &R,
+    program: &str,
+    argument: Result<usize, FillError>,
+    name: &[u8],
+) -> Option<R::File>
+    ensures { IsSome result → IsOkAnd argument (λ n. (n ≤ length name.now) × IsUtf8 (take n name.now)) }
+{
+    let given = match argument {
+        Ok(len) => name.get(..len),
+        Err(_) => None,
+    };
+    let Some(bytes) = given else {
+        let _ = eprintln!(rt; "{program}: the file's name: File name too long");
+        return None;
+    };
+    let Ok(path) = str::from_utf8(bytes) else {
+        let _ = eprintln!(rt; "{program}: the file's name: not UTF-8");
+        return None;
+    };
+    match fs::open(rt, path) {
+        Ok(file) => Some(file),
+        Err(error) => {
+            fail(rt, path, "", error);
+            None
         }
-    }
-
-    // Writes the first bytes of a text.
-    fn say(&self, program: &str, text: &[u8], len: usize) -> Option<()> {
-        match self.write_all(text.get(..len)?) {
-            Ok(()) => Some(()),
-            Err(error) => {
-                self.fail(program, ": can't write", error);
-                None
-            }
-        }
-    }
-
-    // Reads the input in blocks, hands each to `list`, which writes lines and answers how many bytes they have, and writes these. Of a block in which a read
-    // failed it hands over what is whole in records of `width` bytes. Answers how many bytes the last block has, which is not full.
-    fn each_block<F: FnMut(&[u8], &mut [u8]) -> usize>(
-        &self,
-        program: &str,
-        input: &mut impl Read,
-        width: usize,
-        block: &mut [u8],
-        lines: &mut [u8],
-        mut list: F,
-    ) -> Option<usize>
-        requires { F.IsAlwaysCallable list }
-        ensures { IfSome result (λ n. n < length block.old) }
-    {
-        // A proved loop has to end, and nothing says that the input does: so the blocks are counted, up to a number that no input uses up.
-        for _ in 0..u64::MAX {
-            match fill(input, block) {
-                Ok(len) => {
-                    let written = list(&block[..len], lines);
-                    self.say(program, lines, written)?;
-                    if len < block.len() {
-                        return Some(len);
-                    }
-                }
-                Err(Broken { len, error }) => {
-                    self.fail(program, ": can't read", error);
-                    let whole = len - len.checked_rem(width).unwrap_or(0);
-                    let written = list(&block[..whole], lines);
-                    self.say(program, lines, written)?;
-                    return None;
-                }
-            }
-        }
-        None
     }
 }
 
-impl<R: Env + Files + Print + Eprint + Alloc> Streams for R {}
+// Writes the first bytes of a text. Says what fails on standard error.
+pub fn say(rt: &(impl Print + Eprint + Alloc), program: &str, text: &[u8], len: usize) -> Option<()>
+    ensures { IsSome result → len ≤ length text.now }
+{
+    match rt.write_all(text.get(..len)?) {
+        Ok(()) => Some(()),
+        Err(error) => {
+            fail(rt, program, ": can't write", error);
+            None
+        }
+    }
+}
+
+// Reads a block of the input; answers how many bytes were read and what comes after them. Where a read fails it says so on standard error, and what is whole in
+// records of `width` bytes counts.
+pub fn read_block(
+    rt: &(impl Eprint + Alloc),
+    program: &str,
+    input: &mut impl Read,
+    width: usize,
+    block: &mut [u8],
+) -> (usize, After)
+    ensures within { result.0 ≤ length block.old }
+    ensures holds { Holds result.1 width (length block.old) result.0 }
+{
+    match fill(input, block) {
+        Ok(len) if len < block.len() => (len, After::End),
+        Ok(len) => (len, After::More),
+        Err(Broken { len, error }) => {
+            fail(rt, program, ": can't read", error);
+            (len - len.checked_rem(width).unwrap_or(0), After::Failure)
+        }
+    }
+}

@@ -15,7 +15,7 @@ use metres::RECORD_BYTES;
 use reading_listing::enter_records;
 use std::io::Read;
 use std::rt::Env;
-use streams::{ARGUMENT, CELLS, FACTS, KIDS, SLOTS, Streams};
+use streams::{ARGUMENT, After, CELLS, FACTS, KIDS, SLOTS, is_given, open, read_block, say};
 
 const NAME: &str = "survey";
 
@@ -28,7 +28,7 @@ const LINES: usize = 672;
 const TOO_FINE: u32 = FINEST_EDGE + 1;
 
 // Enters the records of the input; None where something failed.
-fn list(rt: &impl Streams, input: &mut impl Read, k: u32) -> Option<()> {
+fn list(rt: &(impl Print + Eprint + Alloc), input: &mut impl Read, k: u32) -> Option<()> {
     let mut kids = [0u64; KIDS];
     let mut facts = [0u32; FACTS];
     let mut find = [0u16; CELLS];
@@ -40,20 +40,30 @@ fn list(rt: &impl Streams, input: &mut impl Read, k: u32) -> Option<()> {
     let mut run = start.run;
     let mut block = [0u8; BLOCK];
     let mut lines = [0u8; LINES];
-    rt.each_block(
-        NAME,
-        input,
-        RECORD_BYTES,
-        &mut block,
-        &mut lines,
-        |records, out| {
-            let ran = enter_records(run, &mut kids, &mut facts, &mut find, k, records, out);
-            run = ran.run;
-            ran.len
-        },
-    )?;
-    let len = listing::ending(run, 0, &mut lines);
-    rt.say(NAME, &lines, len)
+    // A proved loop has to end, and nothing says that the input does: so the blocks are counted, up to a number that no input uses up.
+    for _ in 0..u64::MAX {
+        let (read, after) = read_block(rt, NAME, input, RECORD_BYTES, &mut block);
+        let ran = enter_records(
+            run,
+            &mut kids,
+            &mut facts,
+            &mut find,
+            k,
+            &block[..read],
+            &mut lines,
+        );
+        run = ran.run;
+        say(rt, NAME, &lines, ran.len)?;
+        match after {
+            After::More => {}
+            After::End => {
+                let len = listing::ending(run, 0, &mut lines);
+                return say(rt, NAME, &lines, len);
+            }
+            After::Failure => return None,
+        }
+    }
+    None
 }
 
 // The k that a text says in digits, TOO_FINE for every one above 6; none, if it has another byte or is empty.
@@ -81,7 +91,7 @@ fn edge_argument(env: &impl Env) -> Option<u32> {
 }
 
 fn main(rt: HostRuntime) {
-    let edge = if rt.is_given(3) {
+    let edge = if is_given(rt.arg(3, &mut [])) {
         None
     } else {
         edge_argument(&rt)
@@ -90,11 +100,13 @@ fn main(rt: HostRuntime) {
         let _ = eprintln!(rt; "usage: survey K [FILE], with K in digits: an edge of 2^-K metres");
         return;
     };
-    if !rt.is_given(2) {
+    if !is_given(rt.arg(2, &mut [])) {
         list(&rt, &mut rt.stdin(), k);
         return;
     }
-    if let Some(mut file) = rt.open(NAME, 2) {
+    let mut name = [0u8; ARGUMENT];
+    let argument = rt.arg(2, &mut name);
+    if let Some(mut file) = open(&rt, NAME, argument, &name) {
         list(&rt, &mut file, k);
     }
 }
