@@ -8,10 +8,6 @@ use Rattle.arena.specs.Calls.{Numbers, counted}
 use Rattle.read_cell.specs.Calls.{Expanded, expanded}
 use Rattle.compare.specs.declared.Compared.{Compared}
 use Rattle.compare.specs.Compare.{Outcome, compared}
-use Rattle.capi_ids.specs.declared.Packed.{Packed}
-use Rattle.capi_paths.specs.declared.Cell.{Cell}
-use Rattle.capi_paths.specs.declared.Child.{Child}
-use Rattle.capi_paths.specs.declared.Text.{Text}
 use Rattle.unique.specs.Exports.{Export, new_leaf, new_branch, decode, child, text, parse, counts, look, expand, compare, ExportSaid, ExportMeets}
 use Rattle.unique.proofs.One.{one}
 
@@ -32,7 +28,7 @@ export_determined (decode c) a b p q = ap₂ (λ (n : ℕ) (v : IVec3). record {
 export_determined (child x y z k d) a b p q = ap₂ (λ n i. record { no = n; index = i }) (p.0 ∙ sym q.0) (p.1 ∙ sym q.1)
 export_determined (text raw) a b p q = ap₂ (λ s n. record { bytes = s; len = n }) (p.0 ∙ sym q.0) (p.1 ∙ sym q.1)
 export_determined (parse l) a b p q = p ∙ sym q
-export_determined (counts t b) c d = counted_one c d
-export_determined (look t b d p) c e p' q = p' ∙ sym q
-export_determined (expand t b d l) c e = expanded_one c e
-export_determined (compare t x y d c l r) e f = compared_one e f
+export_determined (counts t b) c d p q = counted_one c d p q
+export_determined (look t b d v) c e p q = p ∙ sym q
+export_determined (expand t b d l) c e p q = expanded_one c e p q
+export_determined (compare t x y d c l r) e f p q = compared_one e f p q
