@@ -153,3 +153,6 @@ probe_n_as_lem same other t (suc f) i h =
 pub probe_as : (same other : ℕ → Bool) (t : List ℕ) (i : ℕ) → ((q : ℕ) → 0 < cell t q → same (cell t q) ≡ other (cell t q)) → probe same t i ≡ probe other t i
 unfolding probe
 probe_as same other t i h = probe_n_as_lem same other t (length t - i) i h
+
+-- has a slot the leaf looked for?
+pub ruleset leaf_rules = (leaf_other, leaf_none, leaf_test)

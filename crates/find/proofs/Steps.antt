@@ -115,3 +115,6 @@ erase_length home t i = shift_n_length_lem home (length t - suc i) t i (suc i)
 pub remove_length : (home : ℕ → ℕ) (t : List ℕ) (s : ℕ) → length (remove home t s) ≡ length t
 unfolding remove
 remove_length home t s = erase_length home t (probe (eqb s) t (home s))
+
+-- where a probe goes on, and where it ends
+pub ruleset probe_rules = (probe_end, search_on, search_empty, search_hit)

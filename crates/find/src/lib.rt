@@ -44,6 +44,7 @@ pub fn put_cell(find: &mut [u16], at: usize, s: usize)
 // ---- a search, and the search for a number
 
 // Where a search from cell `from` on ends: at the first cell that is empty or names a slot that `is` answers true of, or at the table's end.
+#[tactic(auto, using(crate::proofs::Steps::probe_rules))]
 fn probe<F: Fn(usize) -> bool>(find: &[u16], from: usize, is: F) -> Found
     requires { F.IsAlwaysCallable is }
     ensures cell { (same : ℕ → Bool) → ((x : ℕ) (b : Bool) → F.post is x b → b ≡ same x) → result.cell ≡ probe same find.now from }
@@ -73,6 +74,7 @@ pub fn number_from(find: &[u16], s: usize, from: usize) -> usize
 // ---- the search for a leaf
 
 // Has slot s the hash h and a leaf of the value v? Its children are not read.
+#[tactic(auto, using(crate::proofs::Contents::leaf_rules))]
 fn is_leaf_of(facts: &[u32], h: u32, v: u32, s: usize) -> bool
     ensures { result ≡ leaf_is (fact_of facts.now) h v s }
 {

@@ -15,6 +15,7 @@ fn put(out: &mut [u8], at: usize, i: usize, byte: u8)
 }
 
 // Writes a text from `at` on, as far as there is room; answers how many bytes it has.
+#[tactic(auto, using(basics::proofs::Puts::puts_none, basics::proofs::Puts::puts_more))]
 pub fn put_text(out: &mut [u8], at: usize, text: &[u8]) -> usize
     ensures { (out.new ≡ puts_from out.old at text.now) × (result ≡ length text.now) }
 {

@@ -33,6 +33,12 @@ record_is w i from sat n b short es ef en =
     let d = part_to_end b from ∙ drop_min (w * i) from sat b short es ef in
     take_min w n (take (length b - from) (drop from b)) en ∙ ap (take w) d
 
+pub record_part : (w i from sat n : ℕ) (b : List ℕ) → length b < 2 ^ 64 → sat ≡ min (w * i) 18446744073709551615 → from ≡ min sat (length b)
+    → n ≡ min w (length (take (length b - from) (drop from b))) → take (from + n - from) (drop from b) ≡ record_in w b i
+record_part w i from sat n b short es ef en =
+    let e : from + n - from ≡ n = omega arith in
+    rw (e, sym (part_to_end b from)) (record_is w i from sat n b short es ef en)
+
 -- ---- a line written into the rest of the bytes
 
 set_after : (a b : List ℕ) (j v : ℕ) → set (a ++ b) (length a + j) v ≡ a ++ set b j v

@@ -154,6 +154,7 @@ pub fn start(capacity: usize, kids: &mut [u64], facts: &mut [u32], find: &mut [u
 }
 
 // How many of so many records a block takes: all, as far as there is room for their lines.
+#[tactic(auto, using(crate::proofs::Blocks::taken_is))]
 pub fn taken(records: usize, room: usize) -> usize
     ensures { result ≡ taken_of records room }
 {
@@ -195,6 +196,7 @@ pub fn step_to(run: Run, made: Made, kids: &mut [u64], facts: &mut [u32], find: 
 }
 
 // Record i of records of so many bytes: as many of them as are left.
+#[tactic(auto, using(crate::proofs::Blocks::record_is, crate::proofs::Blocks::record_part))]
 pub fn record_in(bytes: &[u8], width: usize, i: usize) -> &[u8]
     ensures { result.now ≡ record_in width bytes.now i }
 {

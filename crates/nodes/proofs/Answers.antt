@@ -1,5 +1,5 @@
 -- What the accessors answer, as the definitions have it.
-use mathlib.Core.Path.{◌≡◌, sym, ap, ◌∙◌, subst}
+use mathlib.Core.Path.{◌≡◌, refl, sym, ap, ◌∙◌, subst}
 use mathlib.Core.Logic.{◌≢◌}
 use mathlib.Core.Bool.{false}
 use mathlib.Core.List.{List, [], ◌∷◌}
@@ -97,6 +97,22 @@ module _ (l : List ℕ) (s : ℕ) where
       let z : 0 + j ≡ j = omega arith in
       rw z (cell_in_lem 8 (in_rows 8) l s j (record { small = a; room = b }) (omega arith) ∙ sym (get_or-take 8 (drop (8 * s) l) j 0 (omega arith) ∙ get_or-drop (8 * s) l j 0)))))
 
+  kid_at : (row : List ℕ) (i : ℕ) → s < 2 ^ 32 → 8 * s + 7 < length l → row ≡ take 8 (drop (8 * s) l) → i < 8 → get_or row i 0 ≡ kid_of l s i
+  kid_at row i a b e h = ap (λ (x : List ℕ). get_or x i 0) e ∙ get_or-take 8 (drop (8 * s) l) i 0 h ∙ get_or-drop (8 * s) l i 0 ∙ kid_read i a (omega arith) h
+
+  pub kids_whole : (row : List ℕ) → s < 2 ^ 32 → 8 * s + 7 < length l → row ≡ take (8 * s + 8 - 8 * s) (drop (8 * s) l) → row ≡ kids_of 8 (kid_of l) s
+  kids_whole row a b e =
+      let n : 8 * s + 8 - 8 * s ≡ 8 = omega arith in
+      rw n at e ∙ kids_read a b
+
+  -- the words of the row, one by one
+  pub kids_each : (row : List ℕ) → s < 2 ^ 32 → 8 * s + 7 < length l → row ≡ take (8 * s + 8 - 8 * s) (drop (8 * s) l) → ◌≡◌ {A = List ℕ} (get_or row 0 0 ∷ get_or row 1 0 ∷ get_or row 2 0 ∷ get_or row 3 0 ∷ get_or row 4 0 ∷ get_or row 5 0 ∷ get_or row 6 0 ∷ get_or row 7 0 ∷ []) (kids_of 8 (kid_of l) s)
+  unfolding kids_of tab_from
+  kids_each row a b d =
+      let n : 8 * s + 8 - 8 * s ≡ 8 = omega arith in
+      let e : row ≡ take 8 (drop (8 * s) l) = rw n at d in
+      rw (kid_at row 0 a b e (omega arith), kid_at row 1 a b e (omega arith), kid_at row 2 a b e (omega arith), kid_at row 3 a b e (omega arith), kid_at row 4 a b e (omega arith), kid_at row 5 a b e (omega arith), kid_at row 6 a b e (omega arith), kid_at row 7 a b e (omega arith)) refl
+
   pub kids_none : row_in 8 l s ≡ false → ◌≡◌ {A = List ℕ} (0 ∷ 0 ∷ 0 ∷ 0 ∷ 0 ∷ 0 ∷ 0 ∷ 0 ∷ []) (kids_of 8 (kid_of l) s)
   unfolding kids_of tab_from kid_of
   kids_none e =
@@ -104,3 +120,11 @@ module _ (l : List ℕ) (s : ℕ) where
 
 -- a row that does not lie in the table
 pub ruleset outside = (in_short, in_small, own_none, kid_past, kid_short, kid_none, kids_none)
+
+-- the children of a row, as it stands or one by one
+pub ruleset children_rules = (kids_whole, kids_each, outside)
+
+-- child i, and a fact, of a row that lies in the table or not
+pub ruleset kid_rules = (kid_read, kid_short, kid_past, kid_none, in_small)
+
+pub ruleset fact_rules = (fact_hash, fact_before, fact_after, fact_short, fact_large, fact_past, fact_low)

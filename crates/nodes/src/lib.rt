@@ -37,6 +37,7 @@ pub const FLOOR: u64 = 0x8000_0000_0000;
 pub const ROWS: usize = 0x1_0000_0000;
 
 // Child i of slot s; 0 above 7. The test is by how many rows there are, which a walk from slot to slot works out once.
+#[tactic(auto, using(crate::proofs::Answers::kid_rules))]
 pub fn kid(kids: &[u64], s: usize, i: usize) -> u64
     ensures { result ≡ kid_of kids.now s i }
 {
@@ -47,6 +48,7 @@ pub fn kid(kids: &[u64], s: usize, i: usize) -> u64
 }
 
 // The eight children of slot s.
+#[tactic(auto, using(crate::proofs::Answers::children_rules))]
 pub fn children(kids: &[u64], s: usize) -> Kids
     ensures { result ≡ kids_of kid_words (kid_of kids.now) s }
 {
@@ -72,6 +74,7 @@ pub fn own(facts: &[u32], s: usize) -> u64
 
 // The fact f of slot s; 0 of its own word, which has a function of its own, and where f is no fact. The hashes stand at the end of the table,
 // the other facts in rows.
+#[tactic(auto, using(crate::proofs::Answers::fact_rules))]
 pub fn fact(facts: &[u32], s: usize, f: usize) -> u32
     ensures { result ≡ pick (ltb own_word f) (fact_of facts.now s f) 0 }
 {
