@@ -20,6 +20,9 @@ use ids::BlockId;
 use nodes::{ENTRY, HEIGHT, HOLDS, PLACES, children, fact, own};
 use nodes_write::{put_children, put_fact, put_facts};
 
+// A node with so many holds loses its last one.
+const LAST_HOLD: u32 = 1;
+
 // The own word of a recycled slot: the generation one higher, or 0 where that would reach 0x7FFE.
 #[tactic(auto, unfolding(arena::specs::Node::next_generation))]
 fn next_own(o: u64) -> u64
@@ -160,7 +163,7 @@ fn release_any(
     if h == 0 {
         return Err(Refusal::FewHolds);
     }
-    if 1 < h {
+    if LAST_HOLD < h {
         put_fact(facts, s, HOLDS, h - 1);
         return Ok(a.slots);
     }

@@ -41,10 +41,10 @@ roots_facts m ks fs a b d k e = e
 -- ---- room
 
 module _ (ks fs : List ℕ) (a b d room : ℕ) (h : d ≤ deepest) where
-  pub room_whole : 1 * 2 ^ (3 * d) % 2 ^ 64 ≤ room → true ≡ leb (length (differing cube_kids (word_of (nodes ks fs)) d a b)) room
+  pub room_whole : 1 * 2 ^ (3 * d) % 2 ^ 64 ≤ room → leb (1 * 2 ^ (3 * d) % 2 ^ 64) room ≡ leb (length (differing cube_kids (word_of (nodes ks fs)) d a b)) room
   room_whole g =
       let few : length (differing cube_kids (word_of (nodes ks fs)) d a b) ≤ room = omega (arith, count_le cube_kids (word_of (nodes ks fs)) d a b, cells_shift 64 d (omega arith)) in
-      sym (le-leb (length (differing cube_kids (word_of (nodes ks fs)) d a b)) room few)
+      le-leb (1 * 2 ^ (3 * d) % 2 ^ 64) room g ∙ sym (le-leb (length (differing cube_kids (word_of (nodes ks fs)) d a b)) room few)
 
   pub room_counted : (m : ℕ) → m ≡ count_of (word_of (nodes ks fs)) a b d → leb m room ≡ leb (length (differing cube_kids (word_of (nodes ks fs)) d a b)) room
   unfolding count_of

@@ -91,6 +91,7 @@ fn may_compare(
 }
 
 // Is there room for every cell that differs? Where there is room for the whole cube they need not be counted.
+#[tactic(auto, using(crate::proofs::Calls::room_whole, crate::proofs::Calls::room_counted))]
 fn has_room(seen: Seen<'_>, a: u64, b: u64, depth: u32, room: usize) -> bool
     requires { depth ≤ deepest }
     ensures { result ≡ leb (length (differing cube_kids (W (seen_in seen.entry)) depth a b)) room }

@@ -66,19 +66,6 @@ branches_is a = go (kind a)
     go (leaf e) = branches_no a (inr e) ∙ sym (ap not (end_flat a (inr e)))
     go (branch e) = branches_yes a e ∙ sym (ap not (end_branch a e))
 
-module _ (k a b : ℕ) where
-  pub goes_none : k ≡ 0 → not (eqb k 0) ≡ goes_on k a b
-  unfolding goes_on
-  goes_none e = rw e refl
-
-  pub goes_left : (t : Bool) → (k ≡ 0 → ⊥) → t ≡ is_end a → t ≡ false → not t ≡ goes_on k a b
-  unfolding goes_on
-  goes_left t n e h = rw (ne_eqb k 0 n, branches_is a, sym e ∙ h, h) refl
-
-  pub goes_right : (t u : Bool) → (k ≡ 0 → ⊥) → t ≡ is_end a → t ≡ true → u ≡ is_end b → not u ≡ goes_on k a b
-  unfolding goes_on
-  goes_right t u n e h f = rw (ne_eqb k 0 n, branches_is a, sym e ∙ h, branches_is b, f) refl
-
 -- the table of children alone tells
 pub part_kids : (ks fs : List ℕ) (a c : ℕ) → c < 8 → part (kid_of ks) a c ≡ part (word_of (nodes ks fs)) a c
 part_kids ks fs a c h = go (kind a)

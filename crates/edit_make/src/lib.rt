@@ -255,6 +255,7 @@ fn branch_over(
 }
 
 // The holds of a node that is made with l levels below it: the topmost, which has all of the depth, has the caller's; any other has a place instead.
+#[tactic(auto, using(crate::proofs::Steps::flag_hold))]
 fn hold_at(l: u32, depth: u32) -> u32
     ensures { (result ≡ hold_at l depth) × (result ≤ 1) }
 {

@@ -72,9 +72,9 @@ returns-then-id c = nothing _ _ _ _ _ _ 0 (named_before c.seen.result _ _ _ _ c.
 pub returns-then-h-eq0 : goal.returns-then-h-eq0
 returns-then-h-eq0 c = unheld _ _ _ _ _ _ 0 (named_before c.seen.result _ _ _ _ c.seen.ensures _ _ c.in_ok-may_name.ensures) refl _ _ c.if-id.false c.slot_of-s.ensures c.fact-h.ensures _ _ _ refl refl refl c.if-h-eq0.true
 
-pub returns-then-h-gt1 : goal.returns-then-h-gt1
-returns-then-h-gt1 c =
-    left _ _ _ _ _ _ 0 (named_before c.seen.result _ _ _ _ c.seen.ensures _ _ c.in_ok-may_name.ensures) refl _ _ c.if-id.false c.slot_of-s.ensures c.fact-h.ensures c.if-h-eq0.false _ _ _ _ refl refl refl c.if-h-gt1.true
+pub returns-then-h-gt-LAST_HOLD : goal.returns-then-h-gt-LAST_HOLD
+returns-then-h-gt-LAST_HOLD c =
+    left _ _ _ _ _ _ 0 (named_before c.seen.result _ _ _ _ c.seen.ensures _ _ c.in_ok-may_name.ensures) refl _ _ c.if-id.false c.slot_of-s.ensures c.fact-h.ensures c.if-h-eq0.false _ _ _ _ refl refl refl c.if-h-gt-LAST_HOLD.true
     c.put_fact.ensures
 
 pub returns : goal.returns
