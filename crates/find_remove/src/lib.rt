@@ -18,6 +18,7 @@ fn home_at(facts: &[u32], capacity: usize, s: usize) -> usize
 }
 
 // Cell `at` taken out: what stands above it and can be nearer to its home moves down, so that no search ends too early.
+#[tactic(auto, using(crate::proofs::Shifts::shifts))]
 fn erase_at(find: &mut [u16], facts: &[u32], capacity: usize, at: usize)
     ensures { find.new ≡ erase (home_at capacity (fact_of facts.now)) find.old at }
 {
