@@ -331,6 +331,7 @@ impl From<Reading> for ReadingFields {
 impl From<Result<Reading, Refusal>> for ReadingFields {
     ghost from_gives = { λ reading fields. fields ≡ struct_of reading };
 
+    #[tactic(auto, unfolding(crate::specs::Record::struct_of))]
     fn from(reading: Result<Reading, Refusal>) -> ReadingFields {
         match reading {
             Ok(reading) => ReadingFields::from(reading),

@@ -64,7 +64,7 @@ fn value_once(facts: &[u32], id: u64) -> u16
 // ---- down a path
 
 // Down from id, as level 0, to the cell: until EMPTY, a leaf, or the level of its depth. INVALID of a depth above 6.
-#[tactic(auto, using(crate::proofs::Walk::walk_none, crate::proofs::Walk::walk_stop, crate::proofs::Walk::walk_on), unfolding(ids::specs::Ids::is_end, ids::specs::Ids::is_leaf))]
+#[tactic(auto, using(crate::proofs::Walk::walk_none, crate::proofs::Walk::walk_stop, crate::proofs::Walk::walk_on), unfolding(ids::specs::Ids::is_end))]
 pub fn descend(kids: &[u64], id: BlockId, cell: Cell) -> End
     ensures { result ≡ end_of (kid_of kids.now) id.0 cell }
 {
