@@ -44,6 +44,7 @@ pub fn put_cell(find: &mut [u16], at: usize, s: usize)
 // ---- a search, and the search for a number
 
 // Where a search from cell `from` on ends: at the first cell that is empty or names a slot that `is` answers true of, or at the table's end.
+// Kept: a loop that breaks with the slot number is the form that 01 names for the search.
 #[tactic(auto, using(crate::proofs::Steps::probe_rules))]
 fn probe<F: Fn(usize) -> bool>(find: &[u16], from: usize, is: F) -> Found
     requires { F.IsAlwaysCallable is }
