@@ -160,6 +160,15 @@ module _ {k : Records} {n : ℕ} {run : Run} {k₀ f₀ e₀ b o₀ : List ℕ} 
             );
       }
 
+  -- the same of the rest of the bytes from a number on that is `len`
+  pub again_from : (from : ℕ) → i < most → (rec : List ℕ) → rec ≡ record_in k.width b i → (r : Lined) (k₂ f₂ e₂ part : List ℕ)
+      → length k₂ ≡ length k₁ → length f₂ ≡ length f₁ → length e₂ ≡ length e₁ → length part ≡ length (mid_of from (length o - from) o) → r.len ≤ widest
+      → (Fair cube_kids deepest (tables (arena_of now.arena) k₁ f₁ e₁)
+      → Fair cube_kids deepest (tables (arena_of r.run.arena) k₂ f₂ e₂)
+      × (◌≡◌ {A = Progress} (record { state = state_of r.run k₂ f₂ e₂; len = r.len; out = part }) (one_of k (state_of now k₁ f₁ e₁) rec (mid_of from (length o - from) o))))
+      → from ≡ len → Loop k n run k₀ f₀ e₀ b o₀ most r.run k₂ f₂ e₂ (put_mid from (length o - from) o part) (i + 1) (len + r.len)
+  again_from from h rec er r k₂ f₂ e₂ part lk lf le lo few one q = rw q (again h rec er r k₂ f₂ e₂ part lk lf le (rw q at lo) few (rw q at one))
+
   pub loop_told : most ≤ i
       → (most ≡ taken_of n (length o₀))
       × (Fair cube_kids deepest (tables (arena_of run.arena) k₀ f₀ e₀) → ◌≡◌ {A = Told} (record { state = state_of now k₁ f₁ e₁; records = most; len = len; out = o }) (told_of k (state_of run k₀ f₀ e₀) b o₀ most))
