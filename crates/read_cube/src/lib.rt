@@ -48,13 +48,15 @@ fn fill_block(cube: &mut [u16], at: usize, n: usize, row: usize, plane: usize, v
     }
 }
 
-// The same, with loops of their own for the sides of small octants.
+// The same, with loops of their own for the sides of octants: `fill` of a slice is slow where the compiler doesn't know how long it is.
 fn fill_leaf(cube: &mut [u16], at: usize, n: usize, row: usize, plane: usize, v: u16)
     requires n_bound { (n ≤ 64) × (row ≤ 64) × (plane ≤ 4096) }
     requires n_bound_2 { at + n * plane + n * row + n ≤ length cube.old + plane + row }
     ensures { cube.new ≡ fill_block row plane at n n v cube.old }
 {
     match n {
+        32 => fill_block(cube, at, 32, row, plane, v),
+        16 => fill_block(cube, at, 16, row, plane, v),
         8 => fill_block(cube, at, 8, row, plane, v),
         4 => fill_block(cube, at, 4, row, plane, v),
         _ => fill_block(cube, at, n, row, plane, v),
